@@ -1,0 +1,119 @@
+-- Laws of the counts of a map's set bits.
+use mathlib.Core.Path.{_≡_, refl, sym, ap, ap₂, _∙_}
+use mathlib.Core.Logic.{_⊎_, inl, inr, ⊎-elim}
+use mathlib.Core.List.{List, [], _∷_}
+use Prim.Native.Nat.{ℕ, zero, suc, _+_, _-_, _*_, _/_, _%_, _^_, _≤_, _<_}
+use native.Mathlib.Nat.{zero-add, add-zero, add-suc, pow-suc}
+use native.Mathlib.Omega.{arith}
+use lib.Arith.{lt-one}
+use lib.Count.{ones-step, ones as digitSum}
+use lib.ListN.{length, getD}
+use Rattle.bits.specs.Map.{digit, bit, putBit, ones}
+use Rattle.bits.proofs.Words.{digit-step, digit-shr, shl-low, shl-high}
+use Rattle.bits.proofs.Bits.{Same, bit-le, bit-word, whole-same, put-same, put-other}
+
+-- no key
+pub ones-none : (words : List ℕ) (a : ℕ) → ones words a 0 ≡ 0
+unfolding ones
+ones-none words a = refl
+
+-- one key more
+pub ones-more : (words : List ℕ) (a n : ℕ) → ones words a (suc n) ≡ ones words a n + bit words (a + n)
+unfolding ones
+ones-more words a n = refl
+
+-- no more than the keys
+pub ones-le : (words : List ℕ) (a n : ℕ) → ones words a n ≤ n
+ones-le words a zero = omega (arith, ones-none words a)
+ones-le words a (suc n) = omega (arith, ones-more words a n, ones-le words a n, bit-le words (a + n))
+
+-- the first m keys and the n after them
+pub ones-add : (words : List ℕ) (a m n : ℕ) → ones words a (m + n) ≡ ones words a m + ones words (a + m) n
+ones-add words a m zero = rw add-zero (omega (arith, ones-none words (a + m)))
+ones-add words a m (suc n) =
+    let e : a + (m + n) ≡ a + m + n = omega arith in
+    rw (add-suc m n, ones-more words a (m + n), ones-more words (a + m) n, e) (omega (arith, ones-add words a m n))
+
+-- equal bits are counted alike
+pub ones-same : (xs : List ℕ) (a : ℕ) (ys : List ℕ) (b n : ℕ) → Same xs a ys b n → ones xs a n ≡ ones ys b n
+ones-same xs a ys b zero s = ones-none xs a ∙ sym (ones-none ys b)
+ones-same xs a ys b (suc n) s = rw (ones-more xs a n, ones-more ys b n) (ap₂ (λ (x y : ℕ). x + y) (ones-same xs a ys b n (λ j h. s j (omega arith))) (s n (omega arith)))
+
+-- no bit is set
+pub ones-clear : (words : List ℕ) (a n : ℕ) → ((j : ℕ) → j < n → bit words (a + j) ≡ 0) → ones words a n ≡ 0
+ones-clear words a zero z = ones-none words a
+ones-clear words a (suc n) z = omega (arith, ones-more words a n, ones-clear words a n (λ j h. z j (omega arith)), z n (omega arith))
+
+-- a bit put outside the keys that are counted changes nothing
+pub ones-put-out : (words : List ℕ) (k v a n : ℕ) → v ≤ 1 → (k < a) ⊎ (a + n ≤ k) → ones (putBit words k v) a n ≡ ones words a n
+ones-put-out words k v a n p o = ones-same (putBit words k v) a words a n (λ j h. put-other words k v (a + j) p (λ e. ⊎-elim (λ q. omega arith) (λ q. omega arith) o))
+
+-- the first of the keys
+pub ones-first : (words : List ℕ) (a n : ℕ) → ones words a (suc n) ≡ bit words a + ones words (a + 1) n
+ones-first words a zero = rw (ones-more words a 0, add-zero a, ones-none words a, ones-none words (a + 1)) (omega arith)
+ones-first words a (suc n) =
+    let e : a + suc n ≡ a + 1 + n = omega arith in
+    rw (ones-more words a (suc n), ones-more words (a + 1) n, e) (omega (arith, ones-first words a n))
+
+-- the keys before k, k, and those after it
+pub ones-split : (words : List ℕ) (k a n : ℕ) → a ≤ k → k < a + n → ones words a n ≡ ones words a (k - a) + bit words k + ones words (k + 1) (a + n - (k + 1))
+ones-split words k a n l u =
+    let m : ℕ = a + n - (k + 1) in
+    let e : n ≡ (k - a) + suc m = omega arith in
+    let f : a + (k - a) ≡ k = omega arith in
+    ap (ones words a) e ∙ ones-add words a (k - a) (suc m) ∙ rw (f, ones-first words k m) (omega arith)
+
+-- a bit put within takes the place of the old one
+pub ones-put : (words : List ℕ) (k v a n : ℕ) → v ≤ 1 → k / 64 < length words → a ≤ k → k < a + n
+    → ones (putBit words k v) a n + bit words k ≡ ones words a n + v
+ones-put words k v a n p h l u =
+    let m : ℕ = a + n - (k + 1) in
+    let b : ones (putBit words k v) a (k - a) ≡ ones words a (k - a) = ones-put-out words k v a (k - a) p (inr (omega arith)) in
+    let c : ones (putBit words k v) (k + 1) m ≡ ones words (k + 1) m = ones-put-out words k v (k + 1) m p (inl (omega arith)) in
+    rw (ones-split (putBit words k v) k a n l u, ones-split words k a n l u, put-same words k v p h, b, c) (omega arith)
+
+-- ---- the ones of a word
+
+-- the set digits of w, where they are n bits of a map
+pub ones-digits : (words : List ℕ) (a n w : ℕ) → w < 2 ^ n → ((j : ℕ) → j < n → bit words (a + j) ≡ digit w j) → digitSum w ≡ ones words a n
+ones-digits words a zero w h s = rw (lt-one h) (unfold digitSum in sym (ones-none words a))
+ones-digits words a (suc n) w h s =
+    let b : bit words a ≡ w % 2 = rw add-zero at (s 0 (omega arith)) ∙ omega arith in
+    rw (ones-step w, ones-first words a n, b)
+    (ap (λ (x : ℕ). w % 2 + x) (ones-digits words (a + 1) n (w / 2) (omega (arith, pow-suc 2 n)) (λ j p.
+    let e : a + 1 + j ≡ a + suc j = omega arith in
+    rw e (s (suc j) (omega arith) ∙ digit-step w j))))
+
+-- the set digits of a word
+pub ones-word : (w : ℕ) → w < 2 ^ 64 → digitSum w ≡ ones (w ∷ []) 0 64
+ones-word w h = ones-digits (w ∷ []) 0 64 w h (λ j p. rw zero-add (bit-word w j p))
+
+-- n digits from s on are those of the word with all others shifted out
+pub ones-shl : (w s n : ℕ) → s + n ≤ 64 → ones ((w / 2 ^ s * 2 ^ (64 - n) % 2 ^ 64) ∷ []) 0 64 ≡ ones (w ∷ []) s n
+ones-shl w s n h =
+    let x : ℕ = w / 2 ^ s * 2 ^ (64 - n) % 2 ^ 64 in
+    let e : 64 ≡ 64 - n + n = omega arith in
+    let z : ones (x ∷ []) 0 (64 - n) ≡ 0 = ones-clear (x ∷ []) 0 (64 - n) (λ j p. rw zero-add (bit-word x j (omega arith) ∙ shl-low (w / 2 ^ s) (64 - n) 64 j (omega arith) p)) in
+    let t : ones (x ∷ []) (64 - n) n ≡ ones (w ∷ []) s n = ones-same (x ∷ []) (64 - n) (w ∷ []) s n (λ j p.
+    bit-word x (64 - n + j) (omega arith) ∙ shl-high (w / 2 ^ s) (64 - n) 64 j (omega arith) ∙ digit-shr w s j ∙ sym (bit-word w (s + j) (omega arith))) in
+    ap (ones (x ∷ []) 0) e ∙ ones-add (x ∷ []) 0 (64 - n) n ∙ rw (z, zero-add (64 - n), t) (omega arith)
+
+-- one word more
+pub ones-words : (words : List ℕ) (first i : ℕ) → first ≤ i → ones words (first * 64) ((i + 1 - first) * 64) ≡ ones words (first * 64) ((i - first) * 64) + ones (getD words i 0 ∷ []) 0 64
+ones-words words first i h =
+    let e : (i + 1 - first) * 64 ≡ (i - first) * 64 + 64 = omega arith in
+    let f : first * 64 + (i - first) * 64 ≡ i * 64 = omega arith in
+    rw (e, ones-add words (first * 64) ((i - first) * 64) 64, f, ones-same words (i * 64) (getD words i 0 ∷ []) 0 64 (whole-same words i 64 (omega arith)))
+
+-- a part of the first word, whole words, a part of the last
+pub ones-parts : (words : List ℕ) (a n : ℕ) → 64 - a % 64 < n
+    → ones words a n ≡ ones words a (64 - a % 64) + ones words ((a / 64 + 1) * 64) (((a + n) / 64 - (a / 64 + 1)) * 64) + ones words (a + n - (a + n) % 64) ((a + n) % 64)
+ones-parts words a n h =
+    let x : ℕ = 64 - a % 64 in
+    let y : ℕ = ((a + n) / 64 - (a / 64 + 1)) * 64 in
+    let z : ℕ = (a + n) % 64 in
+    let e : n ≡ x + (y + z) = omega arith in
+    let f : a + x ≡ (a / 64 + 1) * 64 = omega arith in
+    let g : (a / 64 + 1) * 64 + y ≡ a + n - z = omega arith in
+    let p : ones words a n ≡ ones words a x + ones words (a + x) (y + z) = ap (ones words a) e ∙ ones-add words a x (y + z) in
+    p ∙ rw (f, ones-add words ((a / 64 + 1) * 64) y z, g) (omega arith)

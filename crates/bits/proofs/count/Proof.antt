@@ -1,0 +1,68 @@
+use Prim.Native.Nat.{_-_, _<_, _%_}
+use native.Mathlib.Omega.{arith}
+use Rattle.bits.proofs.Counts.{ones-le, ones-parts}
+use borrow.Author.Needs.{needs}
+use Rattle.bits.proofs.count.Statement.{statement}
+use Rattle.bits.proofs.count.Tie as tie
+
+sub-head : tie.Need-sub-head
+sub-head c = search needs
+
+count-part-requires : tie.Need-count-part-requires
+count-part-requires c κs = search needs
+
+returns : tie.Need-returns
+returns c = search needs
+
+add-end : tie.Need-add-end
+add-end c = search needs
+
+count-part-requires-2 : tie.Need-count-part-requires-2
+count-part-requires-2 c κs = search needs
+
+add-count-words : tie.Need-add-count-words
+add-count-words c = search needs
+
+count-words-requires : tie.Need-count-words-requires
+count-words-requires c κs = search needs
+
+add-result : tie.Need-add-result
+add-result c =
+    let a = c .before .before .before .args in
+    let h : 64 - a .from % 64 < a .n = omega arith in
+    omega (arith, ones-parts (a .words .now) (a .from) (a .n) h, ones-le (a .words .now) (a .from) (a .n))
+
+sub-count-part : tie.Need-sub-count-part
+sub-count-part c = search needs
+
+count-part-requires-3 : tie.Need-count-part-requires-3
+count-part-requires-3 c κs = search needs
+
+add-result-2 : tie.Need-add-result-2
+add-result-2 c =
+    let a = c .before .before .before .before .args in
+    let h : 64 - a .from % 64 < a .n = omega arith in
+    omega (arith, ones-parts (a .words .now) (a .from) (a .n) h, ones-le (a .words .now) (a .from) (a .n))
+
+returns-2 : tie.Need-returns-2
+returns-2 c =
+    let a = c .before .before .before .before .args in
+    let h : 64 - a .from % 64 < a .n = omega arith in
+    omega (arith, ones-parts (a .words .now) (a .from) (a .n) h)
+
+pub count-spec : {M : Type 1} → statement M
+count-spec =
+    tie.close
+    (tie.spec
+    sub-head
+    count-part-requires
+    returns
+    add-end
+    count-part-requires-2
+    add-count-words
+    count-words-requires
+    add-result
+    sub-count-part
+    count-part-requires-3
+    add-result-2
+    returns-2)

@@ -1,0 +1,33 @@
+use mathlib.Core.Path.{_∙_, sym}
+use Prim.Native.Nat.{_/_, _%_}
+use mathlib.Core.List.{[], _∷_}
+use lib.ListN.{getD}
+use Rattle.bits.proofs.Bits.{word-same}
+use Rattle.bits.proofs.Counts.{ones-none, ones-same}
+use borrow.Author.Needs.{needs}
+use Rattle.bits.proofs.count_part.Statement.{statement}
+use Rattle.bits.proofs.count_part.Tie as tie
+
+returns : tie.Need-returns
+returns c = rw (c .if1 .taken) (sym (ones-none (c .before .args .words .now) (c .before .args .from)))
+
+mul-part-ones : tie.Need-mul-part-ones
+mul-part-ones c = search needs
+
+element-copy-out-part-ones : tie.Need-element-copy-out-part-ones
+element-copy-out-part-ones c = search needs
+
+part-ones-requires : tie.Need-part-ones-requires
+part-ones-requires c κs = search needs
+
+returns-2 : tie.Need-returns-2
+returns-2 c =
+    let s = c .before .before .before in
+    let a = s .args in
+    let w = getD (a .words .now) (a .from / 64) 0 in
+    c .part-ones .ensures ∙ sym (ones-same (a .words .now) (a .from) (w ∷ []) (a .from % 64) (a .n) (word-same (a .words .now) (a .from) (a .n) (s .pre .0)))
+
+pub count-part-spec : {M : Type 1} → statement M
+count-part-spec =
+    tie.close
+    (tie.spec returns mul-part-ones element-copy-out-part-ones part-ones-requires returns-2)

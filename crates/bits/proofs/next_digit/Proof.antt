@@ -1,0 +1,24 @@
+use mathlib.Core.Path.{_≡_, _∙_}
+use native.Mathlib.Omega.{arith}
+use Rattle.bits.proofs.Finds.{next-not}
+use borrow.Author.Needs.{needs}
+use Rattle.bits.proofs.next_digit.Statement.{statement}
+use Rattle.bits.proofs.next_digit.Tie as tie
+
+next-one-requires : tie.Need-next-one-requires
+next-one-requires c κs = search needs
+
+returns : tie.Need-returns
+returns c = rw (c .before .if1 .taken) (c .next-one .ensures)
+
+next-one-requires-2 : tie.Need-next-one-requires-2
+next-one-requires-2 c κs = search needs
+
+returns-2 : tie.Need-returns-2
+returns-2 c =
+    let s = c .before .before in
+    let e : s .args .v ≡ 0 = omega arith in
+    rw e (c .next-one2 .ensures ∙ next-not (s .args .w) (s .args .s) (s .fits .w .fits))
+
+pub next-digit-spec : {M : Type 1} → statement M
+next-digit-spec = tie.close (tie.spec next-one-requires returns next-one-requires-2 returns-2)

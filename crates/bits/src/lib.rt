@@ -1,0 +1,157 @@
+ghost use mathlib.Core.Path.{_≡_};
+ghost use mathlib.Core.List.{[], _∷_};
+ghost use Prim.Native.Nat.{_+_, _-_, _*_, _<_, _≤_, _%_};
+ghost use lib.Dec.{eqb};
+ghost use Rattle.bits.specs.Map.{bit, putBit, ones, nextBit, lastBit};
+
+// Is the bit of `key` set?
+pub fn has_bit(words: &[u64; 128], key: usize) -> bool
+    requires { ⌜ key < 8192 ⌝ }
+    ensures { λ r. ⌜ r ≡ eqb (bit (now (words .entry)) key) 1 ⌝ }
+{
+    (words[key / 64] >> (key % 64)) & 1 == 1
+}
+
+// Sets the bit of `key`.
+pub fn set_bit(words: &mut [u64; 128], key: usize)
+    requires { ⌜ key < 8192 ⌝ }
+    ensures { λ _. ⌜ now (words .exit) ≡ putBit (now (words .entry)) key 1 ⌝ }
+{
+    let w = words[key / 64];
+    words[key / 64] = w | (1u64 << (key % 64));
+}
+
+// Clears the bit of `key`.
+pub fn clear_bit(words: &mut [u64; 128], key: usize)
+    requires { ⌜ key < 8192 ⌝ }
+    ensures { λ _. ⌜ now (words .exit) ≡ putBit (now (words .entry)) key 0 ⌝ }
+{
+    let w = words[key / 64];
+    words[key / 64] = w ^ (w & (1u64 << (key % 64)));
+}
+
+// How many digits of w are set. In the contracts `w ∷ []` is the map of that one word.
+fn word_ones(w: u64) -> u32
+    ensures { λ r. ⌜ r ≡ ones (w ∷ []) 0 64 ⌝ }
+{
+    u64::count_ones(w)
+}
+
+// How many of the n digits of w from digit s on are set: the others are shifted out.
+fn part_ones(w: u64, s: usize, n: usize) -> u32
+    requires { ⌜ (0 < n) × (s + n ≤ 64) ⌝ }
+    ensures { λ r. ⌜ r ≡ ones (w ∷ []) s n ⌝ }
+{
+    word_ones((w >> s) << (64 - n))
+}
+
+// How many of the n bits from key `from` on are set, where they are of one word.
+fn count_part(words: &[u64; 128], from: usize, n: usize) -> u32
+    requires { ⌜ (from % 64 + n ≤ 64) × (from + n ≤ 8192) ⌝ }
+    ensures { λ r. ⌜ r ≡ ones (now (words .entry)) from n ⌝ }
+{
+    if n == 0 {
+        return 0;
+    }
+    part_ones(words[from / 64], from % 64, n)
+}
+
+// How many bits are set in the words from `first` to before `end`.
+fn count_words(words: &[u64; 128], first: usize, end: usize) -> u32
+    requires { ⌜ (first ≤ end) × (end ≤ 128) ⌝ }
+    ensures { λ r. ⌜ r ≡ ones (now (words .entry)) (first * 64) ((end - first) * 64) ⌝ }
+{
+    let mut n: u32 = 0;
+    let mut i = first;
+    while i < end {
+        n += word_ones(words[i]);
+        i += 1;
+    }
+    n
+}
+
+// How many of the n bits from key `from` on are set: a part of the first word, whole words, a part of the last.
+pub fn count(words: &[u64; 128], from: usize, n: usize) -> u32
+    requires { ⌜ from + n ≤ 8192 ⌝ }
+    ensures { λ r. ⌜ r ≡ ones (now (words .entry)) from n ⌝ }
+{
+    let head = 64 - from % 64;
+    if n <= head {
+        return count_part(words, from, n);
+    }
+    let end = from + n;
+    let tail = end % 64;
+    count_part(words, from, head)
+        + count_words(words, from / 64 + 1, end / 64)
+        + count_part(words, end - tail, tail)
+}
+
+// The first digit of w from digit s on that is 1, or 64.
+fn next_one(w: u64, s: usize) -> usize
+    requires { ⌜ s < 64 ⌝ }
+    ensures { λ r. ⌜ r ≡ nextBit (w ∷ []) 1 s (64 - s) ⌝ }
+{
+    let r = s + u64::trailing_zeros(w >> s) as usize;
+    if r < 64 {
+        return r;
+    }
+    64
+}
+
+// The first digit of w from digit s on that is v, or 64: the first 0 of w is the first 1 of its complement.
+fn next_digit(w: u64, v: u64, s: usize) -> usize
+    requires { ⌜ (v ≤ 1) × (s < 64) ⌝ }
+    ensures { λ r. ⌜ r ≡ nextBit (w ∷ []) v s (64 - s) ⌝ }
+{
+    if v == 1 {
+        return next_one(w, s);
+    }
+    next_one(!w, s)
+}
+
+// Of the n keys from `from` on, the first whose bit is v; from + n where there is none.
+pub fn next_bit(words: &[u64; 128], v: u64, from: usize, n: usize) -> usize
+    requires { ⌜ (v ≤ 1) × (from + n ≤ 8192) ⌝ }
+    ensures { λ r. ⌜ r ≡ nextBit (now (words .entry)) v from n ⌝ }
+{
+    let end = from + n;
+    let mut at = from;
+    while at < end {
+        let i = at / 64;
+        let r = next_digit(words[i], v, at % 64);
+        at = i * 64 + r;
+        if r < 64 && at < end {
+            return at;
+        }
+    }
+    end
+}
+
+// How far the last set one of the m lowest digits of w ends, or 0: the others are shifted out.
+fn last_one(w: u64, m: usize) -> usize
+    requires { ⌜ (0 < m) × (m ≤ 64) ⌝ }
+    ensures { λ r. ⌜ r ≡ lastBit (w ∷ []) 0 m ⌝ }
+{
+    let z = u64::leading_zeros(w << (64 - m)) as usize;
+    if z < m {
+        return m - z;
+    }
+    0
+}
+
+// Of the n keys from `from` on, how far after `from` the last one ends whose bit is set; 0 where there is none.
+pub fn last_set(words: &[u64; 128], from: usize, n: usize) -> usize
+    requires { ⌜ from + n ≤ 8192 ⌝ }
+    ensures { λ r. ⌜ r ≡ lastBit (now (words .entry)) from n ⌝ }
+{
+    let mut end = from + n;
+    while from < end {
+        let i = (end - 1) / 64;
+        let r = last_one(words[i], end - i * 64);
+        end = i * 64 + r;
+        if 0 < r && from < end {
+            return end - from;
+        }
+    }
+    0
+}

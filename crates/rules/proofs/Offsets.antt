@@ -1,0 +1,75 @@
+-- Where each number of an image stands. Assumes nothing.
+use mathlib.Core.Path.{_≡_, ap, ap₂, _∙_}
+use mathlib.Core.Bool.{Bool, _&&_}
+use mathlib.Core.List.{List, [], _∷_}
+use Prim.Native.Nat.{ℕ, _+_, _*_, _/_, _%_, _<_}
+use native.Mathlib.Omega.{arith}
+use lib.ListN.{getD, take, drop}
+use lib.Dec.{T, eqb, eqb→eq}
+use Rattle.rules.specs.Lists.{range, each, every}
+use Rattle.rules.specs.Calls.{idle}
+use Rattle.rules.specs.Image.{layout, numberOf, readerNumber}
+use Rattle.rules.proofs.Tests.{and-first, and-second}
+use Rattle.rules.proofs.Members.{range-at}
+use Rattle.rules.proofs.Parts.{every-all}
+use Rattle.rules.proofs.Tables.{widths, total, number-at}
+use Rattle.rules.proofs.Images.{numbers}
+
+-- the width of a field of the table, and the place of its first byte
+abbrev wide : ℕ → ℕ
+wide i = getD (widths (layout idle)) i 0
+
+abbrev start : ℕ → ℕ
+start i = total (take i (widths (layout idle)))
+
+-- n fields have these widths and stand at these places
+abbrev Stand : (index width place : ℕ → ℕ) → ℕ → Bool
+Stand index width place n = every (λ k. eqb (wide (index k)) (width k) && eqb (start (index k)) (place k)) (range 0 n)
+
+-- so their numbers are read there: a table of closed numbers is tested by computing
+pub numbers-at : (index width place : ℕ → ℕ) (n : ℕ) → T (Stand index width place n) → (image : List ℕ) (k : ℕ) → k < n
+    → getD (numbers image) (index k) 0 ≡ numberOf (take (width k) (drop (place k) image))
+numbers-at index width place n h image k l =
+    let row = range-at (λ i. T (eqb (wide (index i)) (width i) && eqb (start (index i)) (place i))) 0 n k (every-all _ (range 0 n) h) (omega arith) (omega arith) in
+    let w = eqb→eq (wide (index k)) (width k) (and-first (eqb (wide (index k)) (width k)) _ row) in
+    let o = eqb→eq (start (index k)) (place k) (and-second (eqb (wide (index k)) (width k)) _ row) in
+    number-at (layout idle) image (index k) ∙ ap₂ (λ a b. numberOf (take a (drop b image))) w o
+
+module _ (image : List ℕ) where
+  -- frames, turn, 0, L, T
+  pub setting-at : (i : ℕ) → i < 5
+      → getD (numbers image) i 0 ≡ numberOf (take (getD (2 ∷ 1 ∷ 1 ∷ 4 ∷ 4 ∷ []) i 0) (drop (getD (0 ∷ 2 ∷ 3 ∷ 4 ∷ 8 ∷ []) i 0) image))
+  unfolding layout each every range total
+  setting-at = numbers-at (λ i. i) (λ i. getD (2 ∷ 1 ∷ 1 ∷ 4 ∷ 4 ∷ []) i 0) (λ i. getD (0 ∷ 2 ∷ 3 ∷ 4 ∷ 8 ∷ []) i 0) 5 tt image
+
+  -- the size of file f
+  pub size-at : (f : ℕ) → f < 8 → getD (numbers image) (5 + f) 0 ≡ numberOf (take 2 (drop (12 + 2 * f) image))
+  unfolding layout each every range total
+  size-at = numbers-at (λ f. 5 + f) (λ f. 2) (λ f. 12 + 2 * f) 8 tt image
+
+  -- condition, file, pace, position and 0 of slot j
+  pub slot-at : (j i : ℕ) → j < 16 → i < 5
+      → readerNumber (numbers image) j i ≡ numberOf (take (getD (1 ∷ 1 ∷ 2 ∷ 2 ∷ 2 ∷ []) i 0) (drop (28 + 8 * j + getD (0 ∷ 1 ∷ 2 ∷ 4 ∷ 6 ∷ []) i 0) image))
+  unfolding layout each every range total
+  slot-at j i l m =
+      let at : 13 + 5 * j + i ≡ 13 + (5 * j + i) = omega arith in
+      let slot : (5 * j + i) / 5 ≡ j = omega arith in
+      let number : (5 * j + i) % 5 ≡ i = omega arith in
+      ap (λ n. getD (numbers image) n 0) at
+      ∙ numbers-at (λ m. 13 + m) (λ m. getD (1 ∷ 1 ∷ 2 ∷ 2 ∷ 2 ∷ []) (m % 5) 0) (λ m. 28 + 8 * (m / 5) + getD (0 ∷ 1 ∷ 2 ∷ 4 ∷ 6 ∷ []) (m % 5) 0) 80 tt image (5 * j + i) (omega arith)
+      ∙ ap₂ (λ a b. numberOf (take (getD (1 ∷ 1 ∷ 2 ∷ 2 ∷ 2 ∷ []) b 0) (drop (28 + 8 * a + getD (0 ∷ 1 ∷ 2 ∷ 4 ∷ 6 ∷ []) b 0) image))) slot number
+
+  -- the 4 bytes of 0
+  pub gap-at : getD (numbers image) 93 0 ≡ numberOf (take 4 (drop 156 image))
+  unfolding layout each every range total
+  gap-at = numbers-at (λ _. 93) (λ _. 4) (λ _. 156) 1 tt image 0 (omega arith)
+
+  -- word k of the cached map
+  pub cached-at : (k : ℕ) → k < 128 → getD (numbers image) (94 + k) 0 ≡ numberOf (take 8 (drop (160 + 8 * k) image))
+  unfolding layout each every range total
+  cached-at = numbers-at (λ k. 94 + k) (λ k. 8) (λ k. 160 + 8 * k) 128 tt image
+
+  -- word k of the fetch map
+  pub fetching-at : (k : ℕ) → k < 128 → getD (numbers image) (222 + k) 0 ≡ numberOf (take 8 (drop (1184 + 8 * k) image))
+  unfolding layout each every range total
+  fetching-at = numbers-at (λ k. 222 + k) (λ k. 8) (λ k. 1184 + 8 * k) 128 tt image

@@ -1,0 +1,98 @@
+-- 01, "Soundings to check by": the twelve as one table and one theorem. Assumes nothing.
+use Prim.Native.Nat.{ℕ, _/_}
+use mathlib.Core.Path.{_≡_, refl}
+use mathlib.Core.List.{List, [], _∷_, _++_, map}
+use lib.ListN.{take, replicate}
+use Rattle.bits.specs.Map.{bit, putBit}
+use Rattle.rules.specs.Lists.{range, each, only, put, sorted, least, some-of}
+use Rattle.rules.specs.Pages.{keyOf, pages, held, ends, clusters}
+use Rattle.rules.specs.Readers.{noReader}
+use Rattle.rules.specs.UseTimes.{before, missing, cut, sees, timeFor, useFor, useKey, ahead, seen}
+use Rattle.rules.specs.Orders.{behindLast, notSeen, useTime, stealOrder, fetchOrder}
+use Rattle.rules.specs.declared.State.{State}
+use Rattle.rules.specs.declared.Reader.{Reader}
+use Rattle.rules.specs.declared.Condition.the-variants.{Running}
+
+-- the map with these pages
+abbrev pub mapOf : List ℕ → List ℕ
+mapOf [] = replicate 128 0
+mapOf (k ∷ ks) = putBit (mapOf ks) k 1
+
+-- what a sounding asks: an order, the times of the fetch order, or the clusters of file 0
+pub data Question : Type 0 where
+  steal : Question
+  fetch : Question
+  times : Question
+  runs : Question
+
+pub record Row : Type 0 where
+  pub sounding : ℕ
+  pub time : ℕ
+  pub turn : ℕ
+  pub sizes : List ℕ
+  pub readers : List Reader
+  pub cached : List ℕ
+  pub question : Question
+  pub answer : List ℕ
+
+-- the state of a row: L 40
+abbrev pub stateOf : Row → State
+stateOf r =
+    record {
+      frames = 16;
+      turn = r .turn;
+      «look_ahead» = 40;
+      «fetch_time» = r .time;
+      sizes = take 8 (r .sizes ++ replicate 8 0);
+      readers = take 16 (r .readers ++ replicate 16 noReader);
+      cached = mapOf (r .cached);
+      fetching = replicate 128 0;
+    }
+
+abbrev pub asked : Question → State → List ℕ
+asked steal s = stealOrder s
+asked fetch s = fetchOrder s
+asked times s = map (λ k. useKey s k / 16) (fetchOrder s)
+asked runs s = clusters s 0
+
+-- a reader of file 0
+abbrev pub at : ℕ → ℕ → Reader
+at c w = record { condition = Running; file = 0; pace = w; position = c }
+
+abbrev pub f0 : List ℕ → List ℕ
+f0 ps = map (keyOf 0) ps
+
+-- a row: its mark, T, the turn, sizes, readers, cached pages, the question and the answer
+abbrev row : ℕ → ℕ → ℕ → List ℕ → List Reader → List ℕ → Question → List ℕ → Row
+row n t u zs rs cs q a = record { sounding = n; time = t; turn = u; sizes = zs; readers = rs; cached = cs; question = q; answer = a }
+
+-- unless said: file 0, size 16, cached 1, 2, 3, 5, 7, reader in slot 0 at 3, w 10
+abbrev usual : ℕ → ℕ → Question → List ℕ → Row
+usual n t q a = row n t 0 (16 ∷ []) (at 3 10 ∷ []) (f0 (1 ∷ 2 ∷ 3 ∷ 5 ∷ 7 ∷ [])) q a
+
+unfoldable pub table : List Row
+table =
+    usual 1 20 steal (f0 (3 ∷ 2 ∷ 1 ∷ 7 ∷ 5 ∷ []))
+    ∷ usual 2 20 fetch (f0 (4 ∷ 6 ∷ []))
+    ∷ usual 2 20 times (10 ∷ 50 ∷ [])
+    ∷ usual 3 40 steal (f0 (3 ∷ 2 ∷ 1 ∷ 7 ∷ 5 ∷ []))
+    ∷ usual 3 40 fetch (f0 (4 ∷ []))
+    ∷ usual 4 41 fetch []
+    ∷ usual 5 0 steal (f0 (3 ∷ 2 ∷ 1 ∷ 7 ∷ 5 ∷ []))
+    ∷ usual 5 0 fetch (f0 (4 ∷ 6 ∷ []))
+    ∷ row 6 0 0 (16 ∷ []) (at 3 40 ∷ []) (f0 (1 ∷ 2 ∷ 3 ∷ 5 ∷ 7 ∷ [])) fetch (f0 (4 ∷ []))
+    ∷ row 6 0 0 (16 ∷ []) (at 3 41 ∷ []) (f0 (1 ∷ 2 ∷ 3 ∷ 5 ∷ 7 ∷ [])) fetch []
+    ∷ row 7 0 0 (16 ∷ []) (at 3 10 ∷ at 6 10 ∷ []) (f0 (1 ∷ 2 ∷ 3 ∷ 5 ∷ 7 ∷ [])) steal (f0 (3 ∷ 2 ∷ 1 ∷ 5 ∷ 7 ∷ []))
+    ∷ row 8 0 0 (16 ∷ []) (at 4 10 ∷ at 6 10 ∷ []) (f0 (5 ∷ 7 ∷ [])) steal (f0 (7 ∷ 5 ∷ []))
+    ∷ row 8 0 1 (16 ∷ []) (at 4 10 ∷ at 6 10 ∷ []) (f0 (5 ∷ 7 ∷ [])) steal (f0 (5 ∷ 7 ∷ []))
+    ∷ row 9 0 0 (16 ∷ []) [] (f0 (2 ∷ 5 ∷ [])) steal (f0 (5 ∷ 2 ∷ []))
+    ∷ row 10 0 0 (16 ∷ 16 ∷ []) [] (keyOf 0 5 ∷ keyOf 1 5 ∷ []) steal (keyOf 1 5 ∷ keyOf 0 5 ∷ [])
+    ∷ row 11 0 0 (1024 ∷ []) (at 3 10 ∷ []) (f0 (64 ∷ 65 ∷ [])) runs (64 ∷ 65 ∷ [])
+    ∷ row 12 0 0 (16 ∷ []) (at 3 10 ∷ []) [] steal []
+    ∷ row 12 0 0 (16 ∷ []) (at 3 10 ∷ []) [] runs []
+    ∷ []
+
+-- every row holds, computed from the rules
+pub soundings : map (λ r. asked (r .question) (stateOf r)) table ≡ map (λ r. r .answer) table
+unfolding table putBit range each only put sorted least some-of bit pages before missing cut sees timeFor useFor useKey ahead seen behindLast notSeen useTime stealOrder fetchOrder held ends clusters
+soundings = refl

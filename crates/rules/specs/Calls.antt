@@ -1,0 +1,183 @@
+-- Setup, Attach, Read, Steal, Arrive, Detach, Lost and Prefetch: 01, "Calls". Numbers are any numbers; where several refusals apply, the one
+-- listed first for the call is given, and but for Setup a refused call gives the state back. Assumes nothing: these are definitions.
+use Prim.Native.Nat.{ℕ, _+_}
+use mathlib.Core.Bool.{Bool, not, cond, _&&_, _||_}
+use mathlib.Core.List.{List, map}
+use mathlib.Core.Option.{Option, none}
+use lib.ListN.{set, length, replicate}
+use lib.Dec.{leb, ltb, eqb}
+use Rattle.bits.specs.Map.{putBit}
+use Rattle.rules.specs.Lists.{every, within, head, onOption}
+use Rattle.rules.specs.Pages.{size, fileOf, pageOf, keyOf, cached, inFetch, cachedPages}
+use Rattle.rules.specs.Readers.{noReader, readerAt, byCondition, lastPage, nextKey, inCondition, onward}
+use Rattle.rules.specs.Orders.{fetchOrder, victim}
+use Rattle.rules.specs.declared.State.{State}
+use Rattle.rules.specs.declared.Reader.{Reader}
+use Rattle.rules.specs.declared.Reply.{Reply}
+use Rattle.rules.specs.declared.Answer.{Answer}
+use Rattle.rules.specs.declared.Answer.the-variants.{Refused, Done, Hit, Wait, Fetch, End, Nothing, Stolen, Arrived, Replaced}
+use Rattle.rules.specs.declared.Condition.the-variants.{Running, Waiting}
+
+abbrev pub reply : State → Answer → Reply
+reply s a = record { state = s; answer = a }
+
+-- a refusal; of the calls that change a state, "Other refused calls change nothing"
+abbrev pub refused : State → ℕ → Reply
+refused s number = reply s (Refused number)
+
+-- the state with another turn, readers and maps: every call but Setup and Restore makes its state by this
+abbrev pub remade : State → ℕ → List Reader → List ℕ → List ℕ → State
+remade s turn readers cached fetching =
+    record {
+      frames = s .frames;
+      turn = turn;
+      «look_ahead» = s .«look_ahead»;
+      «fetch_time» = s .«fetch_time»;
+      sizes = s .sizes;
+      readers = readers;
+      cached = cached;
+      fetching = fetching;
+    }
+
+-- one record changed
+abbrev pub withReader : State → ℕ → Reader → State
+withReader s slot r = remade s (s .turn) (set (s .readers) slot r) (s .cached) (s .fetching)
+
+-- a page put in fetch
+abbrev pub withFetch : State → ℕ → State
+withFetch s k = remade s (s .turn) (s .readers) (s .cached) (putBit (s .fetching) k 1)
+
+-- 2: slot above 15
+abbrev pub noSlot : ℕ → Bool
+noSlot slot = ltb 15 slot
+
+-- 3: file above 7 or of size 0
+abbrev pub noFile : State → ℕ → Bool
+noFile s file = ltb 7 file || eqb (size s file) 0
+
+-- 8: page 0 or above the size
+abbrev pub noPage : State → ℕ → ℕ → Bool
+noPage s file page = not (within 1 (size s file) page)
+
+-- ---- Setup
+
+-- frames, L, T and the sizes in range
+unfoldable pub settingsIn : ℕ → ℕ → ℕ → List ℕ → Bool
+settingsIn frames look time sizes =
+    within 1 1024 frames && (within 1 2000000 look && (within 0 2000000 time && every (within 0 1024) sizes))
+
+-- "a state without readers, pages or fetches"; "The turn is a slot number, 0 at first"
+abbrev pub fresh : ℕ → ℕ → ℕ → List ℕ → State
+fresh frames look time sizes =
+    record {
+      frames = frames;
+      turn = 0;
+      «look_ahead» = look;
+      «fetch_time» = time;
+      sizes = sizes;
+      readers = replicate 16 noReader;
+      cached = replicate 128 0;
+      fetching = replicate 128 0;
+    }
+
+-- "the idle state .. (frames 1, L 1, T 0, sizes 0)"
+abbrev pub idle : State
+idle = fresh 1 1 0 (replicate 8 0)
+
+-- of the eight sizes. 1: any value out of range; the idle state comes back
+unfoldable pub setupOf : ℕ → ℕ → ℕ → List ℕ → Reply
+setupOf frames look time sizes = cond (settingsIn frames look time sizes) (reply (fresh frames look time sizes) Done) (refused idle 1)
+
+-- ---- Attach
+
+-- "position 0, running"
+abbrev pub docked : ℕ → ℕ → Reader
+docked file pace = record { condition = Running; file = file; pace = pace; position = 0 }
+
+-- 2; 3; 4: pace out of range; 5: slot not empty
+unfoldable pub attachOf : State → ℕ → ℕ → ℕ → Reply
+attachOf s slot file pace =
+    cond (noSlot slot) (refused s 2)
+    (cond (noFile s file) (refused s 3)
+    (cond (not (within 1 1000 pace)) (refused s 4)
+    (byCondition (readerAt s slot .condition) (reply (withReader s slot (docked file pace)) Done) (refused s 5) (refused s 5))))
+
+-- ---- Read
+
+-- "in this order: position equals size, Z; page c + 1 cached, H, and c grows by 1; in fetch, W, and the reader waits; else F, it is put in fetch and the reader waits"
+unfoldable pub readRunning : State → ℕ → Reader → Reply
+readRunning s slot r =
+    cond (eqb (r .position) (lastPage (s .sizes) r)) (reply s End)
+    (cond (cached s (nextKey r)) (reply (withReader s slot (onward r)) (Hit (r .file) (r .position + 1)))
+    (cond (inFetch s (nextKey r)) (reply (withReader s slot (inCondition Waiting r)) (Wait (r .file) (r .position + 1)))
+    (reply (withFetch (withReader s slot (inCondition Waiting r)) (nextKey r)) (Fetch (r .file) (r .position + 1)))))
+
+-- 2; 6: slot empty; 7: reader waiting
+unfoldable pub readOf : State → ℕ → Reply
+readOf s slot =
+    cond (noSlot slot) (refused s 2)
+    (byCondition (readerAt s slot .condition) (refused s 6) (readRunning s slot (readerAt s slot)) (refused s 7))
+
+-- ---- Steal
+
+-- the map without the page
+abbrev pub without : List ℕ → ℕ → List ℕ
+without words k = putBit words k 0
+
+-- "drops the head of the steal order, S; U if nothing is cached"
+unfoldable pub stealOf : State → Reply
+stealOf s =
+    onOption (victim s)
+    (λ k. reply (remade s (s .turn) (s .readers) (without (s .cached) k) (s .fetching)) (Stolen (fileOf k) (pageOf k)))
+    (reply s Nothing)
+
+-- ---- Arrive
+
+-- all frames are taken
+unfoldable pub full : State → Bool
+full s = leb (s .frames) (length (cachedPages s))
+
+-- "If all frames are taken, the head of the steal order is dropped first"
+unfoldable pub dropped : State → Option ℕ
+dropped s = cond (full s) (victim s) none
+
+-- a reader waiting for page k runs
+unfoldable pub woken : ℕ → Reader → Reader
+woken k r = byCondition (r .condition) r r (cond (eqb (nextKey r) k) (inCondition Running r) r)
+
+-- "Then the page leaves fetch, is cached, and every reader waiting for it runs"
+unfoldable pub landed : State → ℕ → State
+landed s k =
+    remade s (s .turn) (map (woken k) (s .readers))
+    (putBit (onOption (dropped s) (without (s .cached)) (s .cached)) k 1)
+    (without (s .fetching) k)
+
+-- Arrive and Lost: 3; 8; 9: page not in fetch
+unfoldable pub forFetch : State → ℕ → ℕ → Reply → Reply
+forFetch s file page done =
+    cond (noFile s file) (refused s 3)
+    (cond (noPage s file page) (refused s 8)
+    (cond (inFetch s (keyOf file page)) done (refused s 9)))
+
+-- "The answer I names the dropped page, if any"
+unfoldable pub arriveOf : State → ℕ → ℕ → Reply
+arriveOf s file page =
+    forFetch s file page (reply (landed s (keyOf file page)) (onOption (dropped s) (λ k. Replaced (fileOf k) (pageOf k)) Arrived))
+
+-- ---- Detach, Lost, Prefetch
+
+-- 2; 6; "The slot's record becomes empty and all 0; an open fetch stays open"
+unfoldable pub detachOf : State → ℕ → Reply
+detachOf s slot =
+    cond (noSlot slot) (refused s 2)
+    (byCondition (readerAt s slot .condition) (refused s 6) (reply (withReader s slot noReader) Done) (reply (withReader s slot noReader) Done))
+
+-- "the fetch is closed and its waiters run"
+unfoldable pub lostOf : State → ℕ → ℕ → Reply
+lostOf s file page =
+    forFetch s file page
+    (reply (remade s (s .turn) (map (woken (keyOf file page)) (s .readers)) (s .cached) (without (s .fetching) (keyOf file page))) Done)
+
+-- "puts the head of the fetch order in fetch, F; U if that order is empty"
+unfoldable pub prefetchOf : State → Reply
+prefetchOf s = onOption (head (fetchOrder s)) (λ k. reply (withFetch s k) (Fetch (fileOf k) (pageOf k))) (reply s Nothing)

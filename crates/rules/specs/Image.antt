@@ -1,0 +1,145 @@
+-- Save and Restore: 01, "Calls". Assumes nothing: these are definitions.
+use Prim.Native.Nat.{ℕ, zero, suc, _+_, _*_, _/_, _%_}
+use mathlib.Core.Bool.{Bool, not, cond, _&&_, _||_}
+use mathlib.Core.List.{List, [], _∷_, _++_, map}
+use lib.ListN.{getD, length, take, drop}
+use lib.Dec.{leb, ltb, eqb}
+use Rattle.rules.specs.Lists.{range, each, every, within}
+use Rattle.rules.specs.Pages.{size, fileOf, pageOf, cached, inFetch, cachedPages}
+use Rattle.rules.specs.Readers.{byCondition, lastPage, awaits}
+use Rattle.rules.specs.Calls.{reply, refused, settingsIn, idle, noFile}
+use Rattle.rules.specs.declared.State.{State}
+use Rattle.rules.specs.declared.Reader.{Reader}
+use Rattle.rules.specs.declared.Reply.{Reply}
+use Rattle.rules.specs.declared.Answer.{Answer}
+use Rattle.rules.specs.declared.Answer.the-variants.{Refused, Done}
+use Rattle.rules.specs.declared.Condition.{Condition}
+use Rattle.rules.specs.declared.Condition.the-variants.{Empty, Running, Waiting}
+
+-- ---- the layout
+
+-- a number of the image and its width in bytes
+pub record Field : Type 0 where
+  pub width : ℕ
+  pub value : ℕ
+
+abbrev pub field : ℕ → ℕ → Field
+field width value = record { width = width; value = value }
+
+-- "condition 0, 1 or 2 as listed above"
+abbrev pub conditionNumber : Condition → ℕ
+conditionNumber c = byCondition c 0 1 2
+
+-- "8 bytes (condition ..; file; pace 2; position 2; two of 0)"
+abbrev pub readerFields : Reader → List Field
+readerFields r =
+    field 1 (conditionNumber (r .condition)) ∷ field 1 (r .file) ∷ field 2 (r .pace) ∷ field 2 (r .position) ∷ field 2 0 ∷ []
+
+-- the one table: "frames (2), turn (1), 0 (1), L (4), T (4), sizes (8 of 2), sixteen readers .., 4 bytes of 0, cached map 1,024, fetch map 1,024".
+-- A map's word is 8 bytes, lowest first, so that "page 1 [is] in the lowest bit of the first".
+unfoldable pub layout : State → List Field
+layout s =
+    field 2 (s .frames) ∷ field 1 (s .turn) ∷ field 1 0 ∷ field 4 (s .«look_ahead») ∷ field 4 (s .«fetch_time»)
+    ∷ (map (field 2) (s .sizes) ++ (each readerFields (s .readers) ++ (field 4 0 ∷ (map (field 8) (s .cached) ++ map (field 8) (s .fetching)))))
+
+-- a number as so many bytes, "little-endian"
+unfoldable pub bytesOf : ℕ → ℕ → List ℕ
+bytesOf zero n = []
+bytesOf (suc width) n = n % 256 ∷ bytesOf width (n / 256)
+
+-- ---- Save
+
+-- the image of a state, 2,208 bytes
+unfoldable pub imageOf : State → List ℕ
+imageOf s = each (λ f. bytesOf (f .width) (f .value)) (layout s)
+
+-- the answer, and the lent buffer after the call
+pub record Saved : Type 0 where
+  pub answer : Answer
+  pub buffer : List ℕ
+
+-- "12: buffer shorter; bytes after 2,208 keep"
+unfoldable pub saveOf : State → List ℕ → Saved
+saveOf s buffer =
+    cond (ltb (length buffer) 2208) (record { answer = Refused 12; buffer = buffer })
+    (record { answer = Done; buffer = imageOf s ++ drop 2208 buffer })
+
+-- ---- Restore
+
+-- the number of some bytes, "little-endian"
+unfoldable pub numberOf : List ℕ → ℕ
+numberOf [] = 0
+numberOf (b ∷ bs) = b + 256 * numberOf bs
+
+-- the numbers of the image, by the table's widths
+unfoldable pub numbersIn : List Field → List ℕ → List ℕ
+numbersIn [] image = []
+numbersIn (f ∷ fs) image = numberOf (take (f .width) image) ∷ numbersIn fs (drop (f .width) image)
+
+abbrev pub conditionOf : ℕ → Condition
+conditionOf zero = Empty
+conditionOf (suc zero) = Running
+conditionOf (suc (suc n)) = Waiting
+
+-- number i of the reader in a slot: its five follow the first five numbers and the eight sizes
+abbrev pub readerNumber : List ℕ → ℕ → ℕ → ℕ
+readerNumber numbers slot i = getD numbers (13 + 5 * slot + i) 0
+
+abbrev pub readerFrom : List ℕ → ℕ → Reader
+readerFrom numbers slot =
+    record {
+      condition = conditionOf (readerNumber numbers slot 0);
+      file = readerNumber numbers slot 1;
+      pace = readerNumber numbers slot 2;
+      position = readerNumber numbers slot 3;
+    }
+
+-- the state that the table's numbers are of
+unfoldable pub stateFrom : List ℕ → State
+stateFrom numbers =
+    record {
+      frames = getD numbers 0 0;
+      turn = getD numbers 1 0;
+      «look_ahead» = getD numbers 3 0;
+      «fetch_time» = getD numbers 4 0;
+      sizes = take 8 (drop 5 numbers);
+      readers = map (readerFrom numbers) (range 0 16);
+      cached = take 128 (drop 94 numbers);
+      fetching = take 128 (drop 222 numbers);
+    }
+
+-- "a file of size 0, a position above the size", file and pace in range
+unfoldable pub readerPlaced : State → Reader → Bool
+readerPlaced s r = not (noFile s (r .file)) && (within 1 1000 (r .pace) && leb (r .position) (lastPage (s .sizes) r))
+
+-- "an empty slot not all 0", "a waiting reader whose next page is not in fetch"
+unfoldable pub readerHolds : State → Reader → Bool
+readerHolds s r =
+    byCondition (r .condition) (eqb (r .file) 0 && (eqb (r .pace) 0 && eqb (r .position) 0)) (readerPlaced s r)
+    (readerPlaced s r && awaits s r)
+
+-- a slot's record, its condition in range and its two 0 bytes 0
+unfoldable pub slotHolds : List ℕ → ℕ → Bool
+slotHolds numbers slot =
+    within 0 2 (readerNumber numbers slot 0)
+    && (readerHolds (stateFrom numbers) (readerFrom numbers slot) && eqb (readerNumber numbers slot 4) 0)
+
+-- "a bit above the size, a page in both maps"
+unfoldable pub keyHolds : State → ℕ → Bool
+keyHolds s k = not (cached s k && inFetch s k) && (not (cached s k || inFetch s k) || leb (pageOf k) (size s (fileOf k)))
+
+-- the table's numbers are those of a state: none of the grounds for 13 but the length
+unfoldable pub accepts : List ℕ → Bool
+accepts numbers =
+    settingsIn (stateFrom numbers .frames) (stateFrom numbers .«look_ahead») (stateFrom numbers .«fetch_time») (stateFrom numbers .sizes)
+    && (within 0 15 (stateFrom numbers .turn)
+    && (every (slotHolds numbers) (range 0 16)
+    && (every (keyHolds (stateFrom numbers)) (range 0 8192)
+    && (leb (length (cachedPages (stateFrom numbers))) (stateFrom numbers .frames)
+    && (eqb (getD numbers 2 0) 0 && eqb (getD numbers 93 0) 0)))))
+
+-- "13: another length, .. The idle state comes back"
+unfoldable pub restoreOf : List ℕ → Reply
+restoreOf image =
+    cond (eqb (length image) 2208 && accepts (numbersIn (layout idle) image)) (reply (stateFrom (numbersIn (layout idle) image)) Done)
+    (refused idle 13)

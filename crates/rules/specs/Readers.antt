@@ -1,0 +1,49 @@
+-- Readers: 01, "State". Assumes nothing: these are definitions.
+use Prim.Native.Nat.{ℕ, _+_}
+use mathlib.Core.Bool.{Bool, true, false, _&&_}
+use mathlib.Core.List.{List}
+use lib.ListN.{getD}
+use lib.Dec.{ltb}
+use Rattle.rules.specs.Pages.{keyOf, inFetch}
+use Rattle.rules.specs.declared.State.{State}
+use Rattle.rules.specs.declared.Reader.{Reader}
+use Rattle.rules.specs.declared.Condition.{Condition}
+use Rattle.rules.specs.declared.Condition.the-variants.{Empty, Running, Waiting}
+
+-- an empty slot's record, all 0
+abbrev pub noReader : Reader
+noReader = record { condition = Empty; file = 0; pace = 0; position = 0 }
+
+-- the record of a slot
+abbrev pub readerAt : State → ℕ → Reader
+readerAt s slot = getD (s .readers) slot noReader
+
+-- "A reader's record holds its condition: empty, running, or waiting"
+abbrev pub byCondition : {A : Type 0} → Condition → A → A → A → A
+byCondition Empty a b c = a
+byCondition Running a b c = b
+byCondition Waiting a b c = c
+
+-- "A reader is attached if its slot is not empty"
+abbrev pub attached : Reader → Bool
+attached r = byCondition (r .condition) false true true
+
+-- the page at which the reader is at its end: its file's size
+abbrev pub lastPage : List ℕ → Reader → ℕ
+lastPage sizes r = getD sizes (r .file) 0
+
+-- the key of page c + 1, which the reader reads next if its file has it
+abbrev pub nextKey : Reader → ℕ
+nextKey r = keyOf (r .file) (r .position + 1)
+
+-- the reader has a next page, and it is in fetch
+unfoldable pub awaits : State → Reader → Bool
+awaits s r = ltb (r .position) (lastPage (s .sizes) r) && inFetch s (nextKey r)
+
+-- the record in another condition
+abbrev pub inCondition : Condition → Reader → Reader
+inCondition c r = record { condition = c; file = r .file; pace = r .pace; position = r .position }
+
+-- the position grows by 1
+abbrev pub onward : Reader → Reader
+onward r = record { condition = r .condition; file = r .file; pace = r .pace; position = r .position + 1 }

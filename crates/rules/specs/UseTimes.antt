@@ -1,0 +1,66 @@
+-- Look-aheads, times and use keys: 01, "Use times". Assumes nothing: these are definitions.
+use Prim.Native.Nat.{ℕ, zero, suc, _+_, _*_, _-_, _/_, _%_}
+use mathlib.Core.Bool.{Bool, not, cond, _&&_}
+use lib.Dec.{leb, ltb, eqb}
+use Rattle.rules.specs.Lists.{some-of, least}
+use Rattle.rules.specs.Pages.{fileOf, pageOf, keyOf, cached}
+use Rattle.rules.specs.Readers.{readerAt, attached, lastPage}
+use Rattle.rules.specs.declared.State.{State}
+use Rattle.rules.specs.declared.Reader.{Reader}
+
+-- the reader still has page k before it: c < page, and page at most its last page
+unfoldable pub before : State → Reader → ℕ → Bool
+before s r k = attached r && (eqb (r .file) (fileOf k) && (ltb (r .position) (pageOf k) && leb (pageOf k) (lastPage (s .sizes) r)))
+
+-- j, where k is page c + j
+abbrev pub steps : Reader → ℕ → ℕ
+steps r k = pageOf k - r .position
+
+-- what q takes for cached: "A page in fetch is not cached"
+abbrev pub present : State → ℕ → Bool
+present s k = cached s k
+
+-- how many of the pages c + 1 to c + n of file f are not cached
+unfoldable pub missing : State → ℕ → ℕ → ℕ → ℕ
+missing s f c zero = 0
+missing s f c (suc n) = cond (present s (keyOf f (c + suc n))) 0 1 + missing s f c n
+
+-- q, the pages from c + 1 to c + j − 1 not cached
+abbrev pub between : State → Reader → ℕ → ℕ
+between s r k = missing s (r .file) (r .position) (steps r k - 1)
+
+-- "T is above 0 and the pages .. hold at least m not cached, m being L divided by T, rounded down"
+unfoldable pub cut : State → ℕ → Bool
+cut s q = ltb 0 (s .«fetch_time») && leb (s .«look_ahead» / s .«fetch_time») q
+
+-- page k is in the reader's look-ahead: j from 1 to K, K being L divided by w, rounded down; c + j at most the last page; not cut
+unfoldable pub sees : State → Reader → ℕ → Bool
+sees s r k = before s r k && (leb (steps r k) (s .«look_ahead» / r .pace) && not (cut s (between s r k)))
+
+-- "Its time for that reader is j × w + q × T"
+unfoldable pub timeFor : State → Reader → ℕ → ℕ
+timeFor s r k = steps r k * r .pace + between s r k * s .«fetch_time»
+
+-- "A reader's seat distance is (slot − turn) modulo 16"
+abbrev pub seat : State → ℕ → ℕ
+seat s slot = (slot + 16 - s .turn) % 16
+
+-- 2^26, above every use key: a time is at most 2 × L, so a key at most 4,000,000 × 16 + 15
+abbrev pub never : ℕ
+never = 67108864
+
+-- the pair (time, seat distance) of a slot for page k as one number, the time first; never, where the slot has not the page in look-ahead
+unfoldable pub useFor : State → ℕ → ℕ → ℕ
+useFor s k slot = cond (sees s (readerAt s slot) k) (timeFor s (readerAt s slot) k * 16 + seat s slot) never
+
+-- "A page's use key is the smallest pair (time, seat distance) over the readers that have it in look-ahead"
+unfoldable pub useKey : State → ℕ → ℕ
+useKey s k = least 16 (useFor s k) never
+
+-- page k is ahead of some reader of its file
+unfoldable pub ahead : State → ℕ → Bool
+ahead s k = some-of 16 (λ slot. before s (readerAt s slot) k)
+
+-- page k is in a look-ahead
+unfoldable pub seen : State → ℕ → Bool
+seen s k = some-of 16 (λ slot. sees s (readerAt s slot) k)
