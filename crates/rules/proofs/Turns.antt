@@ -29,9 +29,9 @@ use Rattle.rules.proofs.Cases.{option-all}
 use Rattle.rules.proofs.Marks.{on, map-put, on-put, off-put, put-on}
 use Rattle.rules.proofs.Changes.{cached-count}
 use Rattle.rules.proofs.Landings.{full-dropped, dropped-some, dropped-none}
-use Rattle.rules.proofs.Kept.{next-page}
+use Rattle.rules.proofs.Kept.{next-page, read-kept}
 use Rattle.rules.proofs.Moves.{nowAt, goesNow, keyNow, left}
-use Rattle.rules.proofs.Waits.{paused, steal-same, paused-alike}
+use Rattle.rules.proofs.Waits.{paused, steal-same}
 use Rattle.rules.specs.declared.State.{State}
 use Rattle.rules.specs.declared.Reader.{Reader}
 use Rattle.rules.specs.declared.Reply.{Reply}
@@ -197,12 +197,6 @@ module _ (s : State) (v : Valid s) (closed : (k : ℕ) → T (inFetch s k) → �
         (ap (λ b. cond b (inCondition Running (nowAt s)) (inCondition Waiting (nowAt s))) (is-true (eqb (keyNow s) (keyNow s)) (eqb-refl (keyNow s)))
         ∙ ap (λ c. inCondition c (nowAt s)) (sym (awake (s .turn) here)) ∙ sym (woken-still (nowAt s .condition) (nowAt s) _ (awake (s .turn)))) ∙ woken-all (keyNow s)
 
-    -- and Arrive drops what would have been dropped before the turn
-    dropped-same : dropped (awaiting s (s .turn)) ≡ dropped s
-    unfolding dropped full victim cachedPages pages
-    dropped-same = ap (λ l. cond (full s) (head l) none) (steal-same s (paused s (s .turn)) (putBit (s .fetching) (keyNow s) 1)
-        (paused-alike s (s .turn) (omega (arith, v .sixteen, v .turn-low)) (is-true (attached (nowAt s)) here)))
-
     -- the cached map after Arrive, by what is dropped
     abbrev stored : Option ℕ → List ℕ
     stored o = putBit (onOption o (without (s .cached)) (s .cached)) (keyNow s) 1
@@ -214,12 +208,21 @@ module _ (s : State) (v : Valid s) (closed : (k : ℕ) → T (inFetch s k) → �
     eased-map : PageMap (onOption (dropped s) (without (s .cached)) (s .cached))
     eased-map = option-all PageMap (dropped s) (without (s .cached)) (s .cached) (λ k _. map-put (s .cached) k 0 (omega arith) (v .cached-map)) (λ _. v .cached-map)
 
-    landed-at : landed (awaiting s (s .turn)) (keyNow s) ≡ remade s (s .turn) (s .readers) (stored (dropped s)) emptied
-    unfolding landed
-    landed-at = ap₂ (λ rs o. remade s (s .turn) rs (stored o) emptied) woken-paused dropped-same
-
     -- a turn that meets F
     module _ (out : T (not (cached s (keyNow s)))) where
+      -- the first Read puts the page in fetch
+      asked : readOf s (s .turn) ≡ reply (awaiting s (s .turn)) (Fetch (nowAt s .file) (nowAt s .position + 1))
+      asked = read-fetch s (s .turn) (v .turn-low) (awake (s .turn) here) short (is-false (cached s (keyNow s)) out) (is-false (inFetch s (keyNow s)) (not-T (inFetch s (keyNow s)) (closed (keyNow s))))
+
+      -- Arrive drops what would have been dropped before the turn
+      dropped-same : dropped (awaiting s (s .turn)) ≡ dropped s
+      unfolding dropped full victim cachedPages pages
+      dropped-same = ap (λ l. cond (full s) (head l) none) (steal-same s v (s .turn) (v .turn-low) here (putBit (s .fetching) (keyNow s) 1) (rw asked at (read-kept s (s .turn) v)))
+
+      landed-at : landed (awaiting s (s .turn)) (keyNow s) ≡ remade s (s .turn) (s .readers) (stored (dropped s)) emptied
+      unfolding landed
+      landed-at = ap₂ (λ rs o. remade s (s .turn) rs (stored o) emptied) woken-paused dropped-same
+
       arrived : arriveOf (awaiting s (s .turn)) (nowAt s .file) (nowAt s .position + 1) .state ≡ landed (awaiting s (s .turn)) (keyNow s)
       unfolding arriveOf forFetch
       arrived =
@@ -232,11 +235,9 @@ module _ (s : State) (v : Valid s) (closed : (k : ℕ) → T (inFetch s k) → �
       -- the second Read finds the page
       fetch-turn : turnOf s ≡ turned s (set (s .readers) (s .turn) (onward (nowAt s))) (stored (dropped s)) emptied 1 (keyNow s ∷ [])
       fetch-turn =
-          let free : inFetch s (keyNow s) ≡ false = is-false (inFetch s (keyNow s)) (not-T (inFetch s (keyNow s)) (closed (keyNow s))) in
           let there : cached (remade s (s .turn) (s .readers) (stored (dropped s)) emptied) (keyNow s) ≡ true =
           is-true (on (stored (dropped s)) (keyNow s)) (put-on (onOption (dropped s) (without (s .cached)) (s .cached)) eased-map (keyNow s) low) in
-          turn-by s (reply (awaiting s (s .turn)) (Fetch (nowAt s .file) (nowAt s .position + 1))) here
-          (read-fetch s (s .turn) (v .turn-low) (awake (s .turn) here) short (is-false (cached s (keyNow s)) out) free)
+          turn-by s _ here asked
           ∙ ap (λ t. ended 1 (readOf t (s .turn))) (arrived ∙ landed-at)
           ∙ ap (ended 1) (read-hit (remade s (s .turn) (s .readers) (stored (dropped s)) emptied) (s .turn) (v .turn-low) (awake (s .turn) here) short there)
 
