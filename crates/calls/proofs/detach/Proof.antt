@@ -1,0 +1,59 @@
+use borrow.Author.Needs.{needs}
+use Rattle.rules.specs.Calls.{detachOf}
+use Rattle.rules.proofs.OneRecord.{detaching}
+use Rattle.calls.proofs.Outcomes.{answers}
+use Rattle.calls.proofs.Slots.{others-stay}
+use Rattle.calls.proofs.detach.Statement.{statement}
+use Rattle.calls.proofs.detach.Tie as tie
+
+refuse-requires : tie.Need-refuse-requires
+refuse-requires c κs = search needs
+
+returns : tie.Need-returns
+unfolding detachOf
+returns c = others-stay detaching _ _ _ (search answers depth 12)
+
+mul-old : tie.Need-mul-old
+mul-old c = search needs
+
+element-copy-out-old : tie.Need-element-copy-out-old
+element-copy-out-old c = search needs
+
+enum-told : tie.Need-enum-told
+enum-told c = search needs
+
+refuse-requires-2 : tie.Need-refuse-requires-2
+refuse-requires-2 c κs = search needs
+
+mul-t19 : tie.Need-mul-t19
+mul-t19 c = search needs
+
+element-set-from-t : tie.Need-element-set-from-t
+element-set-from-t c = search needs
+
+reply-requires : tie.Need-reply-requires
+reply-requires c κs = search needs
+
+returns-2 : tie.Need-returns-2
+unfolding detachOf
+returns-2 c = others-stay detaching _ _ _ (search answers depth 12)
+
+returns-3 : tie.Need-returns-3
+unfolding detachOf
+returns-3 c = others-stay detaching _ _ _ (search answers depth 12)
+
+pub detach-spec : {M : Type 1} → statement M
+detach-spec =
+    tie.close
+    (tie.spec
+    refuse-requires
+    returns
+    mul-old
+    element-copy-out-old
+    enum-told
+    refuse-requires-2
+    mul-t19
+    element-set-from-t
+    reply-requires
+    returns-2
+    returns-3)

@@ -1,0 +1,47 @@
+use borrow.Author.Needs.{needs}
+use Rattle.calls.specs.Parts.{fetchRefusal}
+use Rattle.calls.proofs.Outcomes.{keyed}
+use Rattle.calls.proofs.Ranges.{file-low, there-small, there-low}
+use Rattle.calls.proofs.fetch_refusal.Statement.{statement}
+use Rattle.calls.proofs.fetch_refusal.Tie as tie
+
+no-file-requires : tie.Need-no-file-requires
+no-file-requires c κs = search needs
+
+returns : tie.Need-returns
+unfolding fetchRefusal
+returns c = search keyed depth 12
+
+no-page-requires : tie.Need-no-page-requires
+no-page-requires c κs = search (file-low, needs)
+
+returns-2 : tie.Need-returns-2
+unfolding fetchRefusal
+returns-2 c = search keyed depth 12
+
+page-key-requires : tie.Need-page-key-requires
+page-key-requires c κs = search (there-small, needs)
+
+has-bit-requires : tie.Need-has-bit-requires
+has-bit-requires c κs = search (there-low, needs)
+
+returns-3 : tie.Need-returns-3
+unfolding fetchRefusal
+returns-3 c = search keyed depth 12
+
+returns-4 : tie.Need-returns-4
+unfolding fetchRefusal
+returns-4 c = search keyed depth 12
+
+pub fetch-refusal-spec : {M : Type 1} → statement M
+fetch-refusal-spec =
+    tie.close
+    (tie.spec
+    no-file-requires
+    returns
+    no-page-requires
+    returns-2
+    page-key-requires
+    has-bit-requires
+    returns-3
+    returns-4)

@@ -1,0 +1,58 @@
+use borrow.Author.Needs.{needs}
+use Rattle.rules.specs.Calls.{woken}
+use Rattle.calls.proofs.Outcomes.{keyed}
+use Rattle.calls.proofs.wake_reader.Statement.{statement}
+use Rattle.calls.proofs.wake_reader.Tie as tie
+
+enum-told : tie.Need-enum-told
+enum-told c = search needs
+
+enum-told-2 : tie.Need-enum-told-2
+enum-told-2 c = search needs
+
+enum-told-3 : tie.Need-enum-told-3
+enum-told-3 c = search needs
+
+cast-page-key : tie.Need-cast-page-key
+cast-page-key c = search needs
+
+cast-page-key-2 : tie.Need-cast-page-key-2
+cast-page-key-2 c = search needs
+
+add-page-key : tie.Need-add-page-key
+add-page-key c = search needs
+
+page-key-requires : tie.Need-page-key-requires
+page-key-requires c κs = search needs
+
+returns : tie.Need-returns
+unfolding woken
+returns c = search keyed depth 12
+
+returns-2 : tie.Need-returns-2
+unfolding woken
+returns-2 c = search keyed depth 12
+
+returns-3 : tie.Need-returns-3
+unfolding woken
+returns-3 c = search keyed depth 12
+
+returns-4 : tie.Need-returns-4
+unfolding woken
+returns-4 c = search keyed depth 12
+
+pub wake-reader-spec : {M : Type 1} → statement M
+wake-reader-spec =
+    tie.close
+    (tie.spec
+    enum-told
+    enum-told-2
+    enum-told-3
+    cast-page-key
+    cast-page-key-2
+    add-page-key
+    page-key-requires
+    returns
+    returns-2
+    returns-3
+    returns-4)

@@ -1,0 +1,63 @@
+-- The parts of the rules that the functions work out, over just the fields that they read. Assumes nothing: these are definitions.
+use Prim.Native.Nat.{ℕ, _≤_, _<_}
+use mathlib.Core.Path.{_≡_}
+use mathlib.Core.Bool.{Bool, cond}
+use mathlib.Core.List.{List, map}
+use mathlib.Core.Logic.{_≢_}
+use mathlib.Core.Option.{Option, some}
+use lib.Dec.{eqb}
+use Rattle.bits.specs.Map.{bit, putBit}
+use Rattle.rules.specs.Lists.{onOption}
+use Rattle.rules.specs.Pages.{fileOf, pageOf, keyOf}
+use Rattle.rules.specs.Readers.{readerAt}
+use Rattle.rules.specs.Calls.{remade, noFile, noPage, fresh, without, woken}
+use Rattle.rules.specs.declared.State.{State}
+use Rattle.rules.specs.declared.Answer.{Answer}
+use Rattle.rules.specs.declared.Answer.the-variants.{Arrived, Replaced}
+
+-- any state with these sizes: what the rules' tests of files and pages read
+abbrev pub sized : List ℕ → State
+sized sizes = fresh 1 1 0 sizes
+
+-- the rules' 3 and 8 by the sizes
+abbrev pub noFileIn : List ℕ → ℕ → Bool
+noFileIn sizes file = noFile (sized sizes) file
+
+abbrev pub noPageIn : List ℕ → ℕ → ℕ → Bool
+noPageIn sizes file page = noPage (sized sizes) file page
+
+-- numbers of a file and a page whose key can be worked out
+pub record Small (file page : ℕ) : Type 0 where
+  pub file-small : file < 256
+  pub page-low : 1 ≤ page
+  pub page-small : page ≤ 65536
+
+-- with what Arrive and Lost refuse a page: 3, 8 or 9; 0 where it is in fetch
+unfoldable pub fetchRefusal : List ℕ → List ℕ → ℕ → ℕ → ℕ
+fetchRefusal sizes fetching file page =
+    cond (noFileIn sizes file) 3 (cond (noPageIn sizes file page) 8 (cond (eqb (bit fetching (keyOf file page)) 1) 0 9))
+
+-- every slot but this one has the record that it had
+abbrev pub OthersStay : State → ℕ → State → Type 0
+OthersStay s slot t = (j : ℕ) → j ≢ slot → readerAt t j ≡ readerAt s j
+
+-- the page leaves fetch, and every reader waiting for it runs
+abbrev pub closed : State → ℕ → State
+closed s k = remade s (s .turn) (map (woken k) (s .readers)) (s .cached) (without (s .fetching) k)
+
+-- the key of the page chosen, if any, is one of a map's
+abbrev pub InMap : Option ℕ → Type 0
+InMap gone = (k : ℕ) → gone ≡ some k → k < 8192
+
+-- the cached map without that page, if there is one
+abbrev pub eased : List ℕ → Option ℕ → List ℕ
+eased words gone = onOption gone (without words) words
+
+-- the state with page k landed, where that page made room for it
+abbrev pub landedWith : State → Option ℕ → ℕ → State
+landedWith s gone k =
+    remade s (s .turn) (map (woken k) (s .readers)) (putBit (eased (s .cached) gone) k 1) (without (s .fetching) k)
+
+-- Arrive's answer, which names that page
+abbrev pub arrivalOf : Option ℕ → Answer
+arrivalOf gone = onOption gone (λ k. Replaced (fileOf k) (pageOf k)) Arrived

@@ -1,0 +1,152 @@
+-- The searches for the heads of the two orders, page by page. Assumes nothing.
+use mathlib.Core.Path.{_≡_, refl, sym, ap, ap₂, _∙_, subst}
+use mathlib.Core.Bool.{Bool, false, not, _&&_}
+use mathlib.Core.Option.{none, some}
+use Prim.Native.Nat.{ℕ, zero, suc, min, _+_, _-_, _*_, _≤_, _<_}
+use native.Mathlib.Omega.{arith}
+use borrow.Author.Tests.{eq-eqb}
+use lib.Dec.{T, eqb, eqb→eq}
+use Rattle.bits.specs.Map.{bit}
+use Rattle.bits.proofs.Bits.{bit-le}
+use Rattle.bits.proofs.Finds.{Next, next-is}
+use Rattle.rules.specs.Lists.{head}
+use Rattle.rules.specs.Pages.{cached}
+use Rattle.rules.specs.Readers.{readerAt, attached, lastPage}
+use Rattle.rules.specs.Valid.{Valid}
+use Rattle.rules.specs.UseTimes.{before, never, useFor}
+use Rattle.rules.specs.Orders.{fetchOrder, victim}
+use Rattle.rules.proofs.Cases.{passed, failed}
+use Rattle.rules.proofs.LookAheads.{Before, before-is, is-before, use-least}
+use Rattle.rules.proofs.Ranks.{rank}
+use Rattle.rules.proofs.Candidates.{lastCached, candidate-cached, AtMost, NoneAbove, none-above, file-above, slot-above, best-candidate, no-candidate, absent, FirstAbsent, NoneBelow, none-below, slot-below, AtLeast, absent-least, absent-wanted, best-wanted, no-wanted}
+use Rattle.rules.specs.declared.State.{State}
+use Rattle.rules.specs.declared.Reader.{Reader}
+use Rattle.order.specs.Absent.{nextAbsent}
+use Rattle.order.specs.Searches.{Ranked, Raised, Highest, Soonest}
+use Rattle.order.specs.declared.Pick.{Pick}
+use Rattle.order.proofs.Lacks.{joined, joined-clear, absent-joined}
+
+-- ---- the victim
+
+module _ (s : State) where
+  module _ (f n page : ℕ) (e : page ≡ lastCached s f n) (p : Pick) where
+    -- there is no candidate
+    pub raised-none : Ranked s p → page ≡ 0 → Raised s f n p p
+    raised-none k z = record { page = k; up = omega arith; most = λ h. absurd (omega arith) }
+
+    module _ (value : ℕ) (r : value ≡ rank s (f * 1024 + page - 1)) where
+      most : (b : ℕ) → value ≤ b → AtMost s b f n
+      most b l _ = omega (arith, ap (λ i. rank s (f * 1024 + i - 1)) e)
+
+      -- a candidate that is kept
+      pub raised-take : (page ≡ 0 → ⊥) → p .value ≤ value → Raised s f n p (record { key = f * 1024 + page - 1; value = value })
+      raised-take z l = record {
+        page = record { held = λ _. subst (λ i. T (cached s (f * 1024 + i - 1))) (sym e) (candidate-cached s f n (omega arith)); its = λ _. sym r };
+        up = l;
+        most = most value (omega arith);
+      }
+
+      -- a candidate of no higher rank
+      pub raised-keep : Ranked s p → value ≤ p .value → Raised s f n p p
+      raised-keep k l = record { page = k; up = omega arith; most = most (p .value) l }
+
+  -- a search starts without files and slots
+  pub highest-none : Highest s 0 0 (record { key = 0; value = 0 })
+  highest-none = record { page = record { held = λ h. absurd (omega arith); its = λ h. absurd (omega arith) }; above = none-above s 0 }
+
+  module _ (n m : ℕ) (p : Pick) (a : Highest s n m p) where
+    -- one file more
+    pub highest-file : (q : Pick) → Raised s n 1024 p q → Highest s (n + 1) m q
+    highest-file q h = record { page = h .page; above = file-above s n m (p .value) (q .value) (a .above) (h .up) (h .most) }
+
+    -- one slot more, with a reader
+    pub highest-slot : (q : Pick) → Raised s (readerAt s m .file) (readerAt s m .position) p q → Highest s n (m + 1) q
+    highest-slot q h = record { page = h .page; above = slot-above s n m (p .value) (q .value) (a .above) (h .up) (λ _. h .most) }
+
+    -- one slot more, with none
+    pub highest-empty : attached (readerAt s m) ≡ false → Highest s n (m + 1) p
+    highest-empty e = record { page = a .page; above = slot-above s n m (p .value) (p .value) (a .above) (omega arith) (λ h. absurd (failed (attached (readerAt s m)) e h)) }
+
+  module _ (w : Valid s) (p : Pick) (a : Highest s 8 16 p) where
+    -- the page kept is the victim
+    pub highest-victim : 0 < p .value → victim s ≡ some (p .key)
+    highest-victim h = best-candidate s w (p .key) (a .page .held h) (subst (NoneAbove s 8 16) (sym (a .page .its h)) (a .above))
+
+    -- none is kept, and there is none
+    pub highest-nothing : p .value ≡ 0 → victim s ≡ none
+    highest-nothing e = no-candidate s w 16 (subst (NoneAbove s 8 16) e (a .above))
+
+-- ---- the next fetch
+
+-- a page is absent where its bit is 0 in the maps joined
+absent-bit : (s : State) (k : ℕ) → eqb (bit (joined (s .cached) (s .fetching)) k) 0 ≡ absent s k
+absent-bit s k = joined-clear (s .cached) (s .fetching) k ∙ ap₂ (λ (a b : Bool). a && b) (other (bit (s .cached) k) (bit-le (s .cached) k)) (other (bit (s .fetching) k) (bit-le (s .fetching) k))
+  where
+    other : (b : ℕ) → b ≤ 1 → eqb b 0 ≡ not (eqb b 1)
+    other zero h = refl
+    other (suc zero) h = refl
+    other (suc (suc b)) h = absurd (omega arith)
+
+module _ (s : State) (w : Valid s) (r : Reader) (here : T (attached r)) (key : ℕ)
+    (e : key ≡ nextAbsent (s .cached) (s .fetching) (r .file * 1024 + r .position) (lastPage (s .sizes) r - r .position)) where
+  found : Next (joined (s .cached) (s .fetching)) 0 (r .file * 1024 + r .position) (lastPage (s .sizes) r - r .position) key
+  found =
+      let f = e ∙ absent-joined (s .cached) (s .fetching) (r .file * 1024 + r .position) (lastPage (s .sizes) r - r .position) in
+      rw f (next-is (joined (s .cached) (s .fetching)) 0 (r .file * 1024 + r .position) (lastPage (s .sizes) r - r .position))
+
+  none-earlier : (i : ℕ) → T (before s r i) → i < key → T (absent s i) → ⊥
+  none-earlier i b l a =
+      let q = before-is s r i b in
+      found .before i (omega (arith, q .of-file, q .past)) l (eqb→eq (bit (joined (s .cached) (s .fetching)) i) 0 (subst T (sym (absent-bit s i)) a))
+
+  -- the reader lacks no page
+  pub none-absent : key ≡ r .file * 1024 + lastPage (s .sizes) r → (k : ℕ) → FirstAbsent s r k → ⊥
+  none-absent z k a =
+      let q = before-is s r k (a .ahead-of) in
+      none-earlier k (a .ahead-of) (omega (arith, q .of-file, q .in-file)) (a .lacking)
+
+  module _ (n : key ≡ r .file * 1024 + lastPage (s .sizes) r → ⊥) (p : r .position ≤ lastPage (s .sizes) r) where
+    -- the reader has the page found before it
+    absent-before : Before s r key
+    absent-before =
+        let m = w .sizes-high (r .file) in
+        let t = found in
+        record { here = here; of-file = omega arith; past = omega arith; in-file = omega arith }
+
+    -- the page found is the reader's first absent one
+    pub first-absent : FirstAbsent s r key
+    first-absent = record {
+      ahead-of = is-before s r key absent-before;
+      lacking = subst T (absent-bit s key) (passed _ (eq-eqb (bit (joined (s .cached) (s .fetching)) key) 0 (found .found (omega (arith, found .high)))));
+      first = λ i h u a. none-earlier i h (omega (arith, before-is s r i h .of-file, absent-before .of-file)) a;
+    }
+
+module _ (s : State) where
+  -- a search starts without slots
+  pub soonest-none : Soonest s 0 (record { key = 0; value = never })
+  soonest-none = record { low = omega arith; page = λ h. absurd (omega arith); its = λ h. absurd (omega arith); below = none-below s never }
+
+  module _ (m : ℕ) (p : Pick) (a : Soonest s m p) where
+    -- one slot more, whose page, if any, is used no sooner
+    pub soonest-keep : (T (attached (readerAt s m)) → AtLeast s (p .value) m) → Soonest s (m + 1) p
+    soonest-keep h = record { low = a .low; page = a .page; its = a .its; below = slot-below s m (p .value) (p .value) (a .below) (omega arith) h }
+
+    -- one slot more, whose page is used sooner
+    pub soonest-take : (key value : ℕ) → m < 16 → FirstAbsent s (readerAt s m) key → value ≡ min (useFor s key m) (p .value) → value < p .value → Soonest s (m + 1) (record { key = key; value = value })
+    soonest-take key value l f e u =
+        let t : useFor s key m ≡ value = omega arith in
+        record {
+          low = omega (arith, a .low);
+          page = λ h. absent-wanted s m key l f (omega arith);
+          its = λ h. omega (arith, use-least s key m l);
+          below = slot-below s m (p .value) value (a .below) (omega arith) (λ _. absent-least s value m key f (omega arith));
+        }
+
+  module _ (w : Valid s) (p : Pick) (a : Soonest s 16 p) where
+    -- the page kept is the next to fetch
+    pub soonest-fetch : (p .value ≡ never → ⊥) → head (fetchOrder s) ≡ some (p .key)
+    soonest-fetch n = let h : p .value < never = omega (arith, a .low) in best-wanted s w (p .key) (p .value) (a .page h) (a .its h) (a .below)
+
+    -- none is kept, and there is none
+    pub soonest-nothing : p .value ≡ never → head (fetchOrder s) ≡ none
+    soonest-nothing e = no-wanted s w (subst (NoneBelow s 16) e (a .below))

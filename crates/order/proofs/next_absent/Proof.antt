@@ -1,0 +1,100 @@
+use mathlib.Core.Path.{sym, _∙_}
+use mathlib.Core.Logic.{⊎-elim}
+use Prim.Native.Nat.{_+_, _-_, _*_, _/_, _%_, _≤_}
+use native.Mathlib.Omega.{arith}
+use borrow.Author.Needs.{needs}
+use borrow.Author.Tests.{ltb-true, ltb-false}
+use Rattle.bits.proofs.Finds.{Without, Next, without-join, next-at, next-none}
+use Rattle.order.proofs.Lacks.{joined, absent-joined, clear-word}
+use Rattle.order.proofs.next_absent.Statement.{statement}
+use Rattle.order.proofs.next_absent.Tie as tie
+
+-- each key from `from` on to `at` is in one of the maps
+abbrev Inv-loop : tie.InvT-loop
+Inv-loop cached fetching from n end at₀ at = (from ≤ at) × Without (joined cached fetching) 0 from at
+
+abbrev μ-loop : tie.MeasureT-loop
+μ-loop cached fetching from n end at₀ at = end - at
+
+-- the next clear key of the turn's words
+found : (c : tie.After-next-clear Inv-loop μ-loop)
+    → Next (joined (c .before .before .before .before .before .args .cached .now) (c .before .before .before .before .before .args .fetching .now)) 0 (c .before .before .before .before .loop .at) (64 - c .before .before .before .before .loop .at % 64) (c .before .before .before .before .loop .at / 64 * 64 + c .next-clear .result)
+found c =
+    let l = c .before .before .before .before in
+    clear-word (l .before .args .cached .now) (l .before .args .fetching .now) (l .loop .at) (c .next-clear .result) (c .next-clear .ensures)
+
+add-end : tie.Need-add-end Inv-loop μ-loop
+add-end c = search needs
+
+loop-holds : tie.Need-loop-holds Inv-loop μ-loop
+loop-holds c = (search needs, λ k l u e. omega arith)
+
+mul-next-clear : tie.Need-mul-next-clear Inv-loop μ-loop
+mul-next-clear c = search needs
+
+element-copy-out-next-clear : tie.Need-element-copy-out-next-clear Inv-loop μ-loop
+element-copy-out-next-clear c = search needs
+
+mul-next-clear-2 : tie.Need-mul-next-clear-2 Inv-loop μ-loop
+mul-next-clear-2 c = search needs
+
+element-copy-out-next-clear-2 : tie.Need-element-copy-out-next-clear-2 Inv-loop μ-loop
+element-copy-out-next-clear-2 c = search needs
+
+next-clear-requires : tie.Need-next-clear-requires Inv-loop μ-loop
+next-clear-requires c κs = search needs
+
+mul-at : tie.Need-mul-at Inv-loop μ-loop
+mul-at c = search needs
+
+add-at : tie.Need-add-at Inv-loop μ-loop
+add-at c = omega (arith, found c)
+
+returns : tie.Need-returns Inv-loop μ-loop
+returns c =
+    let t = found (c .before .before) in
+    let l = c .before .before .before .before .before .before in
+    let a = l .before .args in
+    let maps = joined (a .cached .now) (a .fetching .now) in
+    let q = l .loop .at / 64 * 64 + c .before .before .next-clear .result in
+    next-at maps 0 (a .from) (a .n) q (omega arith) (omega (arith, ltb-true)) (without-join maps 0 (a .from) (l .loop .at) q (l .loop .inv .1) (t .before)) (t .found (omega arith))
+    ∙ sym (absent-joined (a .cached .now) (a .fetching .now) (a .from) (a .n))
+
+loop-less : tie.Need-loop-less Inv-loop μ-loop
+loop-less c =
+    let t = found (c .before) in
+    ⊎-elim (λ w. omega (arith, ltb-false)) (λ w. omega arith) (c .if1 .came)
+
+loop-again : tie.Need-loop-again Inv-loop μ-loop
+loop-again c =
+    let l = c .before .before .before .before .before in
+    let a = l .before .args in
+    let t = found (c .before) in
+    (omega arith, without-join (joined (a .cached .now) (a .fetching .now)) 0 (a .from) (l .loop .at) (l .loop .at / 64 * 64 + c .before .next-clear .result) (l .loop .inv .1) (t .before))
+
+returns-2 : tie.Need-returns-2 Inv-loop μ-loop
+returns-2 c =
+    let l = c .before in
+    let a = l .before .args in
+    next-none (joined (a .cached .now) (a .fetching .now)) 0 (a .from) (a .n) (l .loop .at) (c .loop-test .left) (l .loop .inv .1)
+    ∙ sym (absent-joined (a .cached .now) (a .fetching .now) (a .from) (a .n))
+
+pub next-absent-spec : {M : Type 1} → statement M
+next-absent-spec =
+    tie.close
+    (tie.spec
+    Inv-loop
+    μ-loop
+    add-end
+    loop-holds
+    mul-next-clear
+    element-copy-out-next-clear
+    mul-next-clear-2
+    element-copy-out-next-clear-2
+    next-clear-requires
+    mul-at
+    add-at
+    returns
+    loop-less
+    loop-again
+    returns-2)

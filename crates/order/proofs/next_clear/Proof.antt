@@ -1,0 +1,26 @@
+use Prim.Native.Nat.{_-_, _/_, _^_}
+use native.Mathlib.Omega.{arith}
+use lib.Bits.{bitOr}
+use lib.Count.{trailing-le}
+use borrow.Author.Needs.{needs}
+use Rattle.order.proofs.Lacks.{clear-shr}
+use Rattle.order.proofs.next_clear.Statement.{statement}
+use Rattle.order.proofs.next_clear.Tie as tie
+
+shr-r : tie.Need-shr-r
+shr-r c = search needs
+
+cast-r : tie.Need-cast-r
+cast-r c = omega (arith, trailing-le 64 ((2 ^ 64 - 1 - bitOr (c .args .x) (c .args .y)) / 2 ^ c .args .s))
+
+add-r : tie.Need-add-r
+add-r c = omega (arith, trailing-le 64 ((2 ^ 64 - 1 - bitOr (c .args .x) (c .args .y)) / 2 ^ c .args .s))
+
+returns : tie.Need-returns
+returns c = let s = c .before in omega (arith, clear-shr (s .args .x) (s .args .y) (s .args .s) (s .fits .x .fits) (s .fits .y .fits) (s .pre))
+
+returns-2 : tie.Need-returns-2
+returns-2 c = let s = c .before in omega (arith, clear-shr (s .args .x) (s .args .y) (s .args .s) (s .fits .x .fits) (s .fits .y .fits) (s .pre))
+
+pub next-clear-spec : {M : Type 1} → statement M
+next-clear-spec = tie.close (tie.spec shr-r cast-r add-r returns returns-2)

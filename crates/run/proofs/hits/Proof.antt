@@ -1,0 +1,16 @@
+use borrow.Author.Needs.{needs}
+use Rattle.run.proofs.Answers.{not-hit}
+use Rattle.run.proofs.hits.Statement.{statement}
+use Rattle.run.proofs.hits.Tie as tie
+
+enum-told : tie.Need-enum-told
+enum-told c = search needs
+
+returns : tie.Need-returns
+returns c = search needs
+
+returns-2 : tie.Need-returns-2
+returns-2 c = search (not-hit, needs)
+
+pub hits-spec : {M : Type 1} → statement M
+hits-spec = tie.close (tie.spec enum-told returns returns-2)
