@@ -1,0 +1,37 @@
+//! The eight calls of the C boundary.
+
+/// "The server is in C and calls the box on numbers and an image buffer:
+/// Attach, Detach, Read, Arrive, Lost, Prefetch, Steal, Run". The numbers are
+/// as they come, in range or not.
+#[derive(Clone, Copy, Debug, PartialEq, Eq)]
+#[allow(missing_docs)] // the fields are the paper's own words
+pub enum Call {
+    Attach { slot: u64, file: u64, pace: u64 },
+    Detach { slot: u64 },
+    Read { slot: u64 },
+    Arrive { file: u64, page: u64 },
+    Lost { file: u64, page: u64 },
+    Prefetch,
+    Steal,
+    Run { turns: u64 },
+}
+
+/// Something that takes calls on an image buffer: the box, or what stands for
+/// it. It changes the buffer and returns the number.
+pub type Entry = fn(&mut [u8], Call) -> u64;
+
+impl Call {
+    /// The call's name in the paper.
+    pub fn name(self) -> &'static str {
+        match self {
+            Call::Attach { .. } => "Attach",
+            Call::Detach { .. } => "Detach",
+            Call::Read { .. } => "Read",
+            Call::Arrive { .. } => "Arrive",
+            Call::Lost { .. } => "Lost",
+            Call::Prefetch => "Prefetch",
+            Call::Steal => "Steal",
+            Call::Run { .. } => "Run",
+        }
+    }
+}

@@ -1,0 +1,36 @@
+//! The box itself, through its C entries: "calls the box on numbers and an
+//! image buffer".
+
+#![allow(unsafe_code)]
+
+use crate::call::Call;
+
+extern "C" {
+    fn quay_attach(image: *mut u8, len: usize, slot: u64, file: u64, pace: u64) -> u64;
+    fn quay_detach(image: *mut u8, len: usize, slot: u64) -> u64;
+    fn quay_read(image: *mut u8, len: usize, slot: u64) -> u64;
+    fn quay_arrive(image: *mut u8, len: usize, file: u64, page: u64) -> u64;
+    fn quay_lost(image: *mut u8, len: usize, file: u64, page: u64) -> u64;
+    fn quay_prefetch(image: *mut u8, len: usize) -> u64;
+    fn quay_steal(image: *mut u8, len: usize) -> u64;
+    fn quay_run(image: *mut u8, len: usize, turns: u64) -> u64;
+}
+
+/// One call through the box's C entry of that name.
+pub fn entry(image: &mut [u8], call: Call) -> u64 {
+    let (at, len) = (image.as_mut_ptr(), image.len());
+    // SAFETY: the entry may read and write `len` bytes from `at`, and for the
+    // length of the call these are lent to it alone.
+    unsafe {
+        match call {
+            Call::Attach { slot, file, pace } => quay_attach(at, len, slot, file, pace),
+            Call::Detach { slot } => quay_detach(at, len, slot),
+            Call::Read { slot } => quay_read(at, len, slot),
+            Call::Arrive { file, page } => quay_arrive(at, len, file, page),
+            Call::Lost { file, page } => quay_lost(at, len, file, page),
+            Call::Prefetch => quay_prefetch(at, len),
+            Call::Steal => quay_steal(at, len),
+            Call::Run { turns } => quay_run(at, len, turns),
+        }
+    }
+}

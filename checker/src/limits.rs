@@ -1,0 +1,40 @@
+//! The paper's bounds, each with its sentence.
+
+use std::ops::RangeInclusive;
+
+/// "Files are 0 to 7": how many there are.
+pub const FILES: u64 = 8;
+
+/// "each with a size of 0 to 1,024 pages (0: no such file)".
+pub const SIZE: RangeInclusive<u64> = 0..=FILE_PAGES;
+
+/// The most pages that a file can have, and the stride of keys: "its key:
+/// file × 1,024 + page − 1".
+pub const FILE_PAGES: u64 = 1_024;
+
+/// "Frames: 1 to 1,024."
+pub const FRAMES: RangeInclusive<u64> = 1..=1_024;
+
+/// "Look-ahead L: 1 to 2,000,000 ticks."
+pub const LOOK_AHEAD: RangeInclusive<u64> = 1..=2_000_000;
+
+/// "Fetch time T: 0 to 2,000,000 ticks."
+pub const FETCH_TIME: RangeInclusive<u64> = 0..=2_000_000;
+
+/// "There are 16 reader slots, 0 to 15."
+pub const SLOTS: u64 = 16;
+
+/// "a pace w (ticks per page, 1 to 1,000)".
+pub const PACE: RangeInclusive<u64> = 1..=1_000;
+
+/// Run: "11: above 16,384."
+pub const MOST_TURNS: u64 = 16_384;
+
+/// "Save writes 2,208 bytes".
+pub const IMAGE_BYTES: usize = 2_208;
+
+/// The program's lines: "at most 200 bytes, the line end not counted".
+pub const LINE_BYTES: usize = 200;
+
+/// The program's fields: "each at most 4,294,967,295".
+pub const MOST_IN_FIELD: u64 = 4_294_967_295;

@@ -1,0 +1,20 @@
+//! The box as the paper says it.
+//!
+//! Pages are held in sets, orders are collected and then sorted by the paper's
+//! criteria, nothing is kept from one decision to the next. Where a rule can be
+//! written as its sentence, it is.
+
+mod answer;
+mod calls;
+mod entry;
+mod image;
+mod lists;
+mod orders;
+mod program;
+mod state;
+
+pub use answer::{Answer, Refusal};
+pub use entry::entry;
+pub use orders::UseKey;
+pub use program::{respond, run_program};
+pub use state::{Page, Reader, State};

@@ -1,0 +1,206 @@
+//! The calls. Each looks for its refusals in the paper's order first and
+//! changes the state only after: "Other refused calls change nothing. Where
+//! several refusals apply, the one listed first for the call is given."
+
+use super::answer::{Answer, Refusal};
+use super::state::{Page, Reader, State};
+use crate::limits::{FETCH_TIME, FILES, FRAMES, LOOK_AHEAD, MOST_TURNS, PACE, SIZE, SLOTS};
+
+type Outcome = Result<Answer, Refusal>;
+
+impl State {
+    /// **Setup** "gives a state without readers, pages or fetches. 1: any value
+    /// out of range; the idle state comes back".
+    pub fn setup(
+        frames: u64,
+        look_ahead: u64,
+        fetch_time: u64,
+        sizes: [u64; FILES as usize],
+    ) -> (State, Outcome) {
+        let in_range = FRAMES.contains(&frames)
+            && LOOK_AHEAD.contains(&look_ahead)
+            && FETCH_TIME.contains(&fetch_time)
+            && sizes.iter().all(|size| SIZE.contains(size));
+        if !in_range {
+            return (State::idle(), Err(Refusal::Setup));
+        }
+        let state = State {
+            frames,
+            look_ahead,
+            fetch_time,
+            sizes,
+            ..State::idle()
+        };
+        (state, Ok(Answer::Done))
+    }
+
+    /// **Attach**: "position 0, running. 2: slot above 15. 3: file above 7 or
+    /// of size 0. 4: pace out of range. 5: slot not empty."
+    pub fn attach(&mut self, slot: u64, file: u64, pace: u64) -> Outcome {
+        check_slot(slot)?;
+        self.check_file(file)?;
+        if !PACE.contains(&pace) {
+            return Err(Refusal::Pace);
+        }
+        if self.readers.contains_key(&slot) {
+            return Err(Refusal::Taken);
+        }
+        self.readers.insert(slot, Reader::running(file, pace, 0));
+        Ok(Answer::Done)
+    }
+
+    /// **Detach**: "2. 6. The slot's record becomes empty and all 0; an open
+    /// fetch stays open."
+    pub fn detach(&mut self, slot: u64) -> Outcome {
+        self.reader_in(slot)?;
+        self.readers.remove(&slot);
+        Ok(Answer::Done)
+    }
+
+    /// **Read**: "2. 6: slot empty. 7: reader waiting. Then, in this order:
+    /// position equals size, Z; page c + 1 cached, H, and c grows by 1; in
+    /// fetch, W, and the reader waits; else F, it is put in fetch and the
+    /// reader waits."
+    pub fn read(&mut self, slot: u64) -> Outcome {
+        let mut reader = self.reader_in(slot)?;
+        if reader.waiting {
+            return Err(Refusal::Waiting);
+        }
+        if reader.position == self.size(reader.file) {
+            return Ok(Answer::End);
+        }
+        let page = reader.next_page();
+        let answer = if self.cached.contains(&page) {
+            reader.position += 1;
+            Answer::Hit(page)
+        } else if self.in_fetch.contains(&page) {
+            reader.waiting = true;
+            Answer::Wait(page)
+        } else {
+            self.in_fetch.insert(page);
+            reader.waiting = true;
+            Answer::Fetch(page)
+        };
+        self.readers.insert(slot, reader);
+        Ok(answer)
+    }
+
+    /// **Steal** "drops the head of the steal order, S; U if nothing is cached.
+    /// No refusal."
+    pub fn steal(&mut self) -> Answer {
+        self.drop_head().map_or(Answer::Nothing, Answer::Stolen)
+    }
+
+    /// **Arrive**: "3. 8: page 0 or above the size. 9: page not in fetch. If
+    /// all frames are taken, the head of the steal order is dropped first. Then
+    /// the page leaves fetch, is cached, and every reader waiting for it runs."
+    pub fn arrive(&mut self, file: u64, number: u64) -> Outcome {
+        let page = self.open_fetch(file, number)?;
+        let all_taken = self.cached.len() as u64 >= self.frames;
+        let dropped = if all_taken { self.drop_head() } else { None };
+        self.close_fetch(page);
+        self.cached.insert(page);
+        Ok(Answer::Arrived(dropped))
+    }
+
+    /// **Lost**: "3, 8, 9 as in Arrive; the fetch is closed and its waiters
+    /// run."
+    pub fn lost(&mut self, file: u64, number: u64) -> Outcome {
+        let page = self.open_fetch(file, number)?;
+        self.close_fetch(page);
+        Ok(Answer::Done)
+    }
+
+    /// **Prefetch** "puts the head of the fetch order in fetch, F; U if that
+    /// order is empty. No refusal."
+    pub fn prefetch(&mut self) -> Answer {
+        match self.fetch_order().first() {
+            Some(&page) => {
+                self.in_fetch.insert(page);
+                Answer::Fetch(page)
+            }
+            None => Answer::Nothing,
+        }
+    }
+
+    /// **Run**: "11: above 16,384. 10: a page is in fetch. For each turn: if
+    /// its slot holds a reader, Read; on F, Arrive of that page and Read again;
+    /// then the turn grows by 1 modulo 16."
+    pub fn run(&mut self, turns: u64) -> Outcome {
+        if turns > MOST_TURNS {
+            return Err(Refusal::Turns);
+        }
+        if !self.in_fetch.is_empty() {
+            return Err(Refusal::FetchOpen);
+        }
+        let (mut fetches, mut reads) = (0, 0);
+        for _ in 0..turns {
+            if self.readers.contains_key(&self.turn) {
+                let mut answer = self.read(self.turn)?;
+                if let Answer::Fetch(page) = answer {
+                    fetches += 1;
+                    self.arrive(page.file, page.number)?;
+                    answer = self.read(self.turn)?;
+                }
+                if let Answer::Hit(_) = answer {
+                    reads += 1;
+                }
+            }
+            self.pass_turn();
+        }
+        Ok(Answer::Ran { fetches, reads })
+    }
+
+    /// The reader in a slot, or "2: slot above 15", "6: slot empty".
+    fn reader_in(&self, slot: u64) -> Result<Reader, Refusal> {
+        check_slot(slot)?;
+        self.readers.get(&slot).copied().ok_or(Refusal::Empty)
+    }
+
+    /// "3: file above 7 or of size 0."
+    pub(super) fn check_file(&self, file: u64) -> Result<(), Refusal> {
+        if self.size(file) == 0 {
+            return Err(Refusal::File);
+        }
+        Ok(())
+    }
+
+    /// A page in fetch, or "3", "8: page 0 or above the size", "9: page not in
+    /// fetch".
+    fn open_fetch(&self, file: u64, number: u64) -> Result<Page, Refusal> {
+        self.check_file(file)?;
+        if number == 0 || number > self.size(file) {
+            return Err(Refusal::Page);
+        }
+        let page = Page { file, number };
+        if !self.in_fetch.contains(&page) {
+            return Err(Refusal::NotInFetch);
+        }
+        Ok(page)
+    }
+
+    /// "the page leaves fetch [...] and every reader waiting for it runs".
+    fn close_fetch(&mut self, page: Page) {
+        self.in_fetch.remove(&page);
+        for reader in self.readers.values_mut() {
+            if reader.next_page() == page {
+                reader.waiting = false;
+            }
+        }
+    }
+
+    /// Drops the head of the steal order, "worked out afresh for each steal".
+    fn drop_head(&mut self) -> Option<Page> {
+        let head = self.steal_order().first().copied()?;
+        self.cached.remove(&head);
+        Some(head)
+    }
+}
+
+/// "2: slot above 15."
+fn check_slot(slot: u64) -> Result<(), Refusal> {
+    if slot >= SLOTS {
+        return Err(Refusal::Slot);
+    }
+    Ok(())
+}

@@ -1,0 +1,76 @@
+//! The same rules on a flat state: arrays of numbers and words of bits.
+//!
+//! This is the yardstick of the benchmarks: plain, good Rust without tricks. A
+//! decision walks every reader's look-ahead once into an array of use keys and
+//! then scans the pages. Nothing is allocated. Tests hold it to the model.
+
+mod calls;
+mod decide;
+mod image;
+
+use crate::call::Call;
+
+const FILES: usize = 8;
+const SLOTS: usize = 16;
+const PAGES: usize = 8_192;
+const WORDS: usize = PAGES / 64;
+
+/// A slot's condition, by the image's numbers.
+const EMPTY: u8 = 0;
+const RUNNING: u8 = 1;
+const WAITING: u8 = 2;
+
+#[derive(Clone, Copy, Default)]
+struct Reader {
+    condition: u8,
+    file: usize,
+    pace: u32,
+    position: u32,
+}
+
+impl Reader {
+    /// The key of page c + 1.
+    fn next(&self) -> usize {
+        self.file * 1_024 + self.position as usize
+    }
+}
+
+/// The state; pages go by their keys, bit by bit in the two maps.
+struct Flat {
+    frames: u32,
+    turn: usize,
+    look_ahead: u32,
+    fetch_time: u32,
+    sizes: [u32; FILES],
+    readers: [Reader; SLOTS],
+    cached: [u64; WORDS],
+    in_fetch: [u64; WORDS],
+    /// How many pages are cached.
+    taken: u32,
+}
+
+/// One call on an image: Restore, call, Save, and the number.
+pub fn entry(image: &mut [u8], call: Call) -> u64 {
+    let Some(mut flat) = Flat::restore(image) else {
+        return 13;
+    };
+    match flat.call(call) {
+        Ok(number) => {
+            flat.save(image);
+            number
+        }
+        Err(refusal) => refusal,
+    }
+}
+
+fn has(map: &[u64; WORDS], key: usize) -> bool {
+    map[key / 64] >> (key % 64) & 1 == 1
+}
+
+fn put(map: &mut [u64; WORDS], key: usize) {
+    map[key / 64] |= 1 << (key % 64);
+}
+
+fn take(map: &mut [u64; WORDS], key: usize) {
+    map[key / 64] &= !(1 << (key % 64));
+}

@@ -1,0 +1,116 @@
+//! The two decisions: the page to give up and the next page to fetch.
+
+use super::{has, Flat, EMPTY, PAGES, SLOTS};
+
+/// The use key of a page in no look-ahead.
+const NONE: u32 = u32::MAX;
+
+impl Flat {
+    /// The head of the steal order.
+    pub(super) fn page_to_give_up(&self) -> Option<usize> {
+        let mut use_keys = [NONE; PAGES];
+        self.walk(&mut use_keys);
+        let lowest = self.lowest_positions();
+        let mut head = None;
+        for (index, &word) in self.cached.iter().enumerate() {
+            let mut left = word;
+            while left != 0 {
+                let key = index * 64 + left.trailing_zeros() as usize;
+                left &= left - 1;
+                let rank = rank(key, use_keys[key], &lowest);
+                if head.is_none_or(|(highest, _)| rank > highest) {
+                    head = Some((rank, key));
+                }
+            }
+        }
+        head.map(|(_, key)| key)
+    }
+
+    /// The head of the fetch order.
+    pub(super) fn next_to_fetch(&self) -> Option<usize> {
+        let mut use_keys = [NONE; PAGES];
+        self.walk(&mut use_keys);
+        let mut smallest = NONE;
+        let mut head = None;
+        for (key, &use_key) in use_keys.iter().enumerate() {
+            if use_key < smallest && !has(&self.cached, key) && !has(&self.in_fetch, key) {
+                smallest = use_key;
+                head = Some(key);
+            }
+        }
+        head
+    }
+
+    /// Walks every reader's look-ahead once and leaves each page's smallest use
+    /// key, time × 16 + seat distance. A time is below 4,000,001, so the key
+    /// fits.
+    fn walk(&self, use_keys: &mut [u32; PAGES]) {
+        for (slot, reader) in self.readers.iter().enumerate() {
+            if reader.condition == EMPTY {
+                continue;
+            }
+            let seat = ((slot + SLOTS - self.turn) % SLOTS) as u32;
+            let left = self.sizes[reader.file] - reader.position;
+            let reach = left.min(self.look_ahead / reader.pace) as usize;
+            let first = reader.next();
+            let ahead = &mut use_keys[first..first + reach];
+            if self.fetch_time == 0 {
+                walk_at_pace(ahead, reader.pace, seat);
+            } else {
+                self.walk_with_fetches(ahead, first, reader.pace, seat);
+            }
+        }
+    }
+
+    /// One reader's look-ahead with T above 0: pages not cached cost time, and
+    /// at most m of them are looked past.
+    fn walk_with_fetches(&self, ahead: &mut [u32], first: usize, pace: u32, seat: u32) {
+        let most_missing = self.look_ahead / self.fetch_time;
+        let (mut time, mut missing) = (0, 0);
+        for (key, smallest) in (first..).zip(ahead) {
+            if missing >= most_missing {
+                break;
+            }
+            time += pace;
+            *smallest = (*smallest).min(time * 16 + seat);
+            if !has(&self.cached, key) {
+                missing += 1;
+                time += self.fetch_time;
+            }
+        }
+    }
+
+    /// For each file the lowest position of its readers: pages above it are
+    /// still ahead of some reader.
+    fn lowest_positions(&self) -> [u32; 8] {
+        let mut lowest = [u32::MAX; 8];
+        for reader in self.readers.iter().filter(|r| r.condition != EMPTY) {
+            lowest[reader.file] = lowest[reader.file].min(reader.position);
+        }
+        lowest
+    }
+}
+
+/// One reader's look-ahead with T 0: what is cached does not matter.
+fn walk_at_pace(ahead: &mut [u32], pace: u32, seat: u32) {
+    for (j, smallest) in (1..).zip(ahead) {
+        *smallest = (*smallest).min(j * pace * 16 + seat);
+    }
+}
+
+/// A page's place in the steal order, the head highest: the stretch above, the
+/// order within it below.
+fn rank(key: usize, use_key: u32, lowest: &[u32; 8]) -> u64 {
+    const PAST: u64 = 2 << 32;
+    const FAR: u64 = 1 << 32;
+    if use_key != NONE {
+        return use_key.into();
+    }
+    let (file, page) = (key / 1_024, key % 1_024 + 1);
+    let page_then_file = (page * 8 + file) as u64;
+    if page as u32 > lowest[file] {
+        FAR + page_then_file
+    } else {
+        PAST + page_then_file
+    }
+}

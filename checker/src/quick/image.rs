@@ -1,0 +1,140 @@
+//! Restore and Save on the flat state.
+
+use super::{Flat, Reader, EMPTY, FILES, SLOTS, WAITING, WORDS};
+
+/// Where the pieces of the image start.
+const SIZES: usize = 12;
+const READERS: usize = 28;
+const ZEROS: usize = 156;
+const CACHED: usize = 160;
+const IN_FETCH: usize = 1_184;
+const END: usize = 2_208;
+
+fn u16_at(image: &[u8], at: usize) -> u32 {
+    u16::from_le_bytes([image[at], image[at + 1]]).into()
+}
+
+fn u32_at(image: &[u8], at: usize) -> u32 {
+    u32::from_le_bytes([image[at], image[at + 1], image[at + 2], image[at + 3]])
+}
+
+fn read_map(bytes: &[u8]) -> [u64; WORDS] {
+    let mut map = [0; WORDS];
+    for (word, eight) in map.iter_mut().zip(bytes.chunks_exact(8)) {
+        *word = u64::from_le_bytes(eight.try_into().unwrap());
+    }
+    map
+}
+
+fn write_map(bytes: &mut [u8], map: &[u64; WORDS]) {
+    for (eight, word) in bytes.chunks_exact_mut(8).zip(map) {
+        eight.copy_from_slice(&word.to_le_bytes());
+    }
+}
+
+/// The bits of a file's word that lie above its size.
+fn above(size: u32, word: usize) -> u64 {
+    let below = size.saturating_sub(word as u32 * 64);
+    u64::MAX.checked_shl(below).unwrap_or(0)
+}
+
+impl Flat {
+    /// Nothing for an image that Restore refuses.
+    pub(super) fn restore(image: &[u8]) -> Option<Flat> {
+        if image.len() != END {
+            return None;
+        }
+        let mut flat = Flat {
+            frames: u16_at(image, 0),
+            turn: image[2].into(),
+            look_ahead: u32_at(image, 4),
+            fetch_time: u32_at(image, 8),
+            sizes: [0; FILES],
+            readers: [Reader::default(); SLOTS],
+            cached: read_map(&image[CACHED..IN_FETCH]),
+            in_fetch: read_map(&image[IN_FETCH..END]),
+            taken: 0,
+        };
+        let numbers_fit = (1..=1_024).contains(&flat.frames)
+            && flat.turn < SLOTS
+            && image[3] == 0
+            && (1..=2_000_000).contains(&flat.look_ahead)
+            && flat.fetch_time <= 2_000_000
+            && image[ZEROS..CACHED] == [0; 4];
+        if !numbers_fit {
+            return None;
+        }
+        for (file, size) in flat.sizes.iter_mut().enumerate() {
+            *size = u16_at(image, SIZES + 2 * file);
+            if *size > 1_024 {
+                return None;
+            }
+        }
+        flat.count_maps()?;
+        for slot in 0..SLOTS {
+            let at = READERS + 8 * slot;
+            flat.readers[slot] = flat.reader_from(&image[at..at + 8])?;
+        }
+        Some(flat)
+    }
+
+    /// Counts the cached pages, if the maps may stand beside each other.
+    fn count_maps(&mut self) -> Option<()> {
+        for index in 0..WORDS {
+            let (cached, in_fetch) = (self.cached[index], self.in_fetch[index]);
+            let too_high = above(self.sizes[index / 16], index % 16);
+            if cached & in_fetch != 0 || (cached | in_fetch) & too_high != 0 {
+                return None;
+            }
+            self.taken += cached.count_ones();
+        }
+        (self.taken <= self.frames).then_some(())
+    }
+
+    fn reader_from(&self, record: &[u8]) -> Option<Reader> {
+        let condition = record[0];
+        if condition == EMPTY {
+            return (record == [0; 8]).then(Reader::default);
+        }
+        let reader = Reader {
+            condition,
+            file: record[1].into(),
+            pace: u16_at(record, 2),
+            position: u16_at(record, 4),
+        };
+        let sound = condition <= WAITING
+            && reader.file < FILES
+            && (1..=1_000).contains(&reader.pace)
+            && self.sizes[reader.file] > 0
+            && reader.position <= self.sizes[reader.file]
+            && record[6..8] == [0; 2]
+            && (condition != WAITING || self.may_wait(&reader));
+        sound.then_some(reader)
+    }
+
+    fn may_wait(&self, reader: &Reader) -> bool {
+        reader.position < self.sizes[reader.file] && super::has(&self.in_fetch, reader.next())
+    }
+
+    /// Writes the state back over an image of the right length.
+    pub(super) fn save(&self, image: &mut [u8]) {
+        image[0..2].copy_from_slice(&(self.frames as u16).to_le_bytes());
+        image[2] = self.turn as u8;
+        image[3] = 0;
+        image[4..8].copy_from_slice(&self.look_ahead.to_le_bytes());
+        image[8..SIZES].copy_from_slice(&self.fetch_time.to_le_bytes());
+        for (field, size) in image[SIZES..READERS].chunks_exact_mut(2).zip(self.sizes) {
+            field.copy_from_slice(&(size as u16).to_le_bytes());
+        }
+        for (record, reader) in image[READERS..ZEROS].chunks_exact_mut(8).zip(&self.readers) {
+            record[0] = reader.condition;
+            record[1] = reader.file as u8;
+            record[2..4].copy_from_slice(&(reader.pace as u16).to_le_bytes());
+            record[4..6].copy_from_slice(&(reader.position as u16).to_le_bytes());
+            record[6..8].fill(0);
+        }
+        image[ZEROS..CACHED].fill(0);
+        write_map(&mut image[CACHED..IN_FETCH], &self.cached);
+        write_map(&mut image[IN_FETCH..END], &self.in_fetch);
+    }
+}

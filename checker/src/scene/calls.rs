@@ -1,0 +1,161 @@
+//! Random calls, and calls with every number at and past its bounds.
+
+use crate::call::Call;
+use crate::limits::{FILES, MOST_TURNS, PACE, SLOTS};
+use crate::model::{Page, State};
+use crate::random::Dice;
+
+/// Numbers at, beside and far past the bounds of slots, files, pages, paces and
+/// turns, and at the widths at which a careless cast would cut them.
+#[rustfmt::skip]
+const EDGES: [u64; 38] = [
+    0, 1, 2, 6, 7, 8, 9, 14, 15, 16, 17, 63, 64, 65, 127, 128, 255, 256, 257,
+    999, 1_000, 1_001, 1_023, 1_024, 1_025, 16_383, 16_384, 16_385,
+    65_535, 65_536, 65_537, u32::MAX as u64, 1 << 32, (1 << 32) + 1,
+    1 << 63, (1 << 63) + 1, u64::MAX - 1, u64::MAX,
+];
+
+/// What a number of 64 bits may be cut to by mistake: adding one of these must
+/// not go unseen.
+const PAST_A_CUT: [u64; 5] = [1 << 8, 1 << 16, 1 << 32, 1 << 48, 1 << 63];
+
+/// Any call, mostly one that the state does not refuse.
+pub fn any_call(dice: &mut Dice, state: &State) -> Call {
+    let slot = usual_slot(dice, state);
+    let Page { file, number } = usual_page(dice, state);
+    match dice.below(24) {
+        0..=1 => Call::Attach {
+            slot: seldom_wild(dice, slot),
+            file: seldom_wild(dice, file),
+            pace: usual_pace(dice),
+        },
+        2 => Call::Detach {
+            slot: seldom_wild(dice, slot),
+        },
+        3..=9 => Call::Read {
+            slot: seldom_wild(dice, slot),
+        },
+        10..=14 => Call::Arrive {
+            file: seldom_wild(dice, file),
+            page: seldom_wild(dice, number),
+        },
+        15 => Call::Lost {
+            file: seldom_wild(dice, file),
+            page: seldom_wild(dice, number),
+        },
+        16..=18 => Call::Prefetch,
+        19..=20 => Call::Steal,
+        _ => Call::Run {
+            turns: usual_turns(dice, state),
+        },
+    }
+}
+
+/// Every call with each of its numbers at every edge, the others usual.
+pub fn calls_at_bounds(dice: &mut Dice, state: &State) -> Vec<Call> {
+    let mut calls = vec![Call::Prefetch, Call::Steal];
+    for edge in EDGES {
+        let slot = usual_slot(dice, state);
+        let pace = usual_pace(dice);
+        let Page { file, number: page } = usual_page(dice, state);
+        calls.push(Call::Attach {
+            slot: edge,
+            file,
+            pace,
+        });
+        calls.push(Call::Attach {
+            slot,
+            file: edge,
+            pace,
+        });
+        calls.push(Call::Attach {
+            slot,
+            file,
+            pace: edge,
+        });
+        calls.push(Call::Detach { slot: edge });
+        calls.push(Call::Read { slot: edge });
+        calls.push(Call::Arrive { file: edge, page });
+        calls.push(Call::Arrive { file, page: edge });
+        calls.push(Call::Lost { file: edge, page });
+        calls.push(Call::Lost { file, page: edge });
+        calls.push(Call::Run { turns: edge });
+    }
+    calls
+}
+
+/// The number itself, or now and then another in its place.
+fn seldom_wild(dice: &mut Dice, usual: u64) -> u64 {
+    match dice.below(24) {
+        0 => dice.pick(&EDGES),
+        1 => usual.wrapping_add(dice.pick(&PAST_A_CUT)),
+        _ => usual,
+    }
+}
+
+/// A slot, mostly one that holds a reader.
+fn usual_slot(dice: &mut Dice, state: &State) -> u64 {
+    let held: Vec<u64> = state.readers.keys().copied().collect();
+    if held.is_empty() || dice.once_in(6) {
+        dice.below(SLOTS)
+    } else {
+        dice.pick(&held)
+    }
+}
+
+/// A page, mostly one in fetch; else about the pages of a file, mostly one that
+/// there is.
+fn usual_page(dice: &mut Dice, state: &State) -> Page {
+    let open = state.in_fetch.len() as u64;
+    if open > 0 && !dice.once_in(6) {
+        let nth = dice.below(open) as usize;
+        return *state.in_fetch.iter().nth(nth).unwrap();
+    }
+    let files = state.files();
+    let file = if files.is_empty() || dice.once_in(6) {
+        dice.below(FILES)
+    } else {
+        dice.pick(&files)
+    };
+    let size = state.size(file);
+    let number = match dice.below(4) {
+        0 => dice.pick(&[0, size, size + 1]),
+        _ => dice.between(0, size),
+    };
+    Page { file, number }
+}
+
+fn usual_pace(dice: &mut Dice) -> u64 {
+    match dice.below(4) {
+        0 => dice.pick(&[0, 1, 1_000, 1_001, u64::MAX]),
+        _ => {
+            let pace = dice.between(*PACE.start(), *PACE.end());
+            seldom_wild(dice, pace)
+        }
+    }
+}
+
+/// Turns, or a refused number of them. What the model would take long for is
+/// cut short here; long runs have a trial of their own.
+fn usual_turns(dice: &mut Dice, state: &State) -> u64 {
+    let turns = match dice.below(6) {
+        0 => dice.pick(&EDGES),
+        1 => dice.pick(&[0, 1, 15, 16, 17, 32]),
+        _ => dice.below(400),
+    };
+    if turns > MOST_TURNS {
+        turns
+    } else {
+        turns.min(affordable_turns(state))
+    }
+}
+
+/// How many turns the model works off in little time, if each met a fetch that
+/// must steal: the work of one is the pages that its steal order looks at.
+fn affordable_turns(state: &State) -> u64 {
+    let looked_at = state.readers.values().map(|reader| {
+        let reach = state.look_ahead / reader.pace;
+        reach.min(state.size(reader.file) - reader.position)
+    });
+    40_000 / (looked_at.sum::<u64>() + state.cached.len() as u64 + 1) + 1
+}

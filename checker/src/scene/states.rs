@@ -1,0 +1,185 @@
+//! Random valid states. Bounds are met far more often than by even odds.
+
+use crate::limits::{FETCH_TIME, FILES, LOOK_AHEAD, SLOTS};
+use crate::model::{Page, Reader, State};
+use crate::random::Dice;
+
+const EDGE_SIZES: [u64; 6] = [1, 63, 64, 65, 1_023, 1_024];
+const EDGE_FRAMES: [u64; 9] = [1, 2, 3, 63, 64, 65, 500, 1_023, 1_024];
+const EDGE_PACES: [u64; 8] = [1, 2, 3, 10, 100, 333, 999, 1_000];
+
+/// A state that Restore accepts.
+pub fn any_state(dice: &mut Dice) -> State {
+    let mut state = State::idle();
+    state.frames = match dice.below(3) {
+        0 => dice.between(1, 1_024),
+        1 => dice.between(1, 12),
+        _ => dice.pick(&EDGE_FRAMES),
+    };
+    state.turn = dice.below(SLOTS);
+    choose_sizes(dice, &mut state);
+    let pace = any_pace(dice);
+    choose_ticks(dice, &mut state, pace);
+    seat_readers(dice, &mut state, pace);
+    fill_cache(dice, &mut state);
+    open_fetches(dice, &mut state);
+    let_some_wait(dice, &mut state);
+    state
+}
+
+/// A state from which Run has long work to do: sixteen readers on full files.
+/// No page is in fetch; `frames` and the pages of look-ahead are given.
+pub fn long_run_state(dice: &mut Dice, frames: u64, reach: u64) -> State {
+    let mut state = State::idle();
+    let pace = any_pace(dice);
+    state.frames = frames;
+    state.look_ahead = reach * pace;
+    state.fetch_time = dice.pick(&[0, 0, pace, 3 * pace]);
+    state.sizes = [1_024; FILES as usize];
+    for slot in 0..SLOTS {
+        let reader = Reader::running(dice.below(FILES), pace, dice.below(40));
+        state.readers.insert(slot, reader);
+    }
+    fill_cache(dice, &mut state);
+    state
+}
+
+/// Sizes for some files; the others keep 0. Seldom there is no file at all.
+fn choose_sizes(dice: &mut Dice, state: &mut State) {
+    let small = dice.once_in(3);
+    let tries = match dice.below(50) {
+        0 => 0,
+        _ => dice.pick(&[1, 1, 2, 3, 8, 30]),
+    };
+    for _ in 0..tries {
+        let file = dice.below(FILES) as usize;
+        state.sizes[file] = match dice.below(3) {
+            _ if small => dice.between(1, 20),
+            0 => dice.between(1, 1_024),
+            _ => dice.pick(&EDGE_SIZES),
+        };
+    }
+}
+
+fn any_pace(dice: &mut Dice) -> u64 {
+    match dice.below(3) {
+        0 => dice.between(1, 1_000),
+        _ => dice.pick(&EDGE_PACES),
+    }
+}
+
+/// L and T: at their bounds, at whole numbers of pages or fetches and one tick
+/// beside them, and anywhere.
+fn choose_ticks(dice: &mut Dice, state: &mut State, pace: u64) {
+    let l = match dice.below(8) {
+        0 => 1,
+        1 => dice.pick(&[1_999_999, 2_000_000]),
+        2 => dice.between(1, 2_000_000),
+        3 => pace * 1_024,
+        _ => pace * dice.between(1, 60) + dice.below(3) - 1,
+    };
+    state.look_ahead = l.clamp(*LOOK_AHEAD.start(), *LOOK_AHEAD.end());
+    let l = state.look_ahead;
+    let t = match dice.below(10) {
+        0..=2 => 0,
+        3 => dice.pick(&[1, 1_999_999, 2_000_000]),
+        4 => dice.pick(&[l - 1, l, l + 1]),
+        5 => dice.between(0, 2_000_000),
+        6..=7 => dice.between(1, 3 * pace),
+        _ => l / dice.between(1, 30) + dice.below(2),
+    };
+    state.fetch_time = t.min(*FETCH_TIME.end());
+}
+
+fn seat_readers(dice: &mut Dice, state: &mut State, one_pace: u64) {
+    let files = state.files();
+    if files.is_empty() {
+        return;
+    }
+    let paces_differ = dice.once_in(2);
+    let close_together = dice.once_in(2);
+    for _ in 0..dice.pick(&[0, 1, 2, 3, 5, 8, 16, 40]) {
+        let file = dice.pick(&files);
+        let size = state.size(file);
+        let position = match dice.below(12) {
+            0 => 0,
+            1 => size,
+            2 => size - 1,
+            _ if close_together => (size / 3 + dice.below(9)).min(size),
+            _ => dice.between(0, size),
+        };
+        let pace = match paces_differ {
+            true => any_pace(dice),
+            false => one_pace,
+        };
+        let reader = Reader::running(file, pace, position);
+        state.readers.insert(dice.below(SLOTS), reader);
+    }
+}
+
+/// Caches pages in stretches of one length, all over or ahead of the readers.
+fn fill_cache(dice: &mut Dice, state: &mut State) {
+    let files = state.files();
+    if files.is_empty() {
+        return;
+    }
+    let frames = state.frames;
+    let wanted = dice.pick(&[0, 1, frames / 2, frames - 1, frames, frames, frames, frames]);
+    let stretch = dice.pick(&[1, 1, 2, 5, 64, 200, 1_024]);
+    let readers: Vec<Reader> = state.readers.values().copied().collect();
+    let near_readers = !readers.is_empty() && dice.once_in(2);
+    for _ in 0..2 * wanted {
+        let start = if near_readers {
+            let mut page = dice.pick(&readers).next_page();
+            page.number += dice.pick(&[0, 0, 1, 2]) + dice.below(20);
+            page
+        } else {
+            let file = dice.pick(&files);
+            let number = dice.between(1, state.size(file));
+            Page { file, number }
+        };
+        let last = state.size(start.file).min(start.number + stretch - 1);
+        for number in start.number..=last {
+            if state.cached.len() as u64 >= wanted {
+                return;
+            }
+            state.cached.insert(Page { number, ..start });
+        }
+    }
+}
+
+/// Puts pages in fetch that are not cached: none, those that readers come to
+/// next, some anywhere, or every page of some file.
+fn open_fetches(dice: &mut Dice, state: &mut State) {
+    let files = state.files();
+    if files.is_empty() {
+        return;
+    }
+    let kind = dice.below(7); // none for 0 to 2
+    let mut pages = Vec::new();
+    if kind == 3 || kind == 4 {
+        let next_pages = state.readers.values().map(Reader::next_page);
+        pages.extend(next_pages.filter(|_| dice.once_in(2)));
+    }
+    if kind == 4 || kind == 5 {
+        for _ in 0..dice.between(1, 20) {
+            let file = dice.pick(&files);
+            let number = dice.between(1, state.size(file));
+            pages.push(Page { file, number });
+        }
+    }
+    if kind == 6 {
+        for file in files.into_iter().filter(|_| dice.once_in(2)) {
+            let numbers = 1..=state.size(file);
+            pages.extend(numbers.map(|number| Page { file, number }));
+        }
+    }
+    pages.retain(|page| page.number <= state.size(page.file) && !state.cached.contains(page));
+    state.in_fetch.extend(pages);
+}
+
+fn let_some_wait(dice: &mut Dice, state: &mut State) {
+    for reader in state.readers.values_mut() {
+        reader.waiting = state.in_fetch.contains(&reader.next_page()) && !dice.once_in(3);
+    }
+}

@@ -1,0 +1,64 @@
+//! Damaged images: changed bytes, random bytes, wrong lengths. Some damage
+//! leaves an image that Restore accepts; the model decides.
+
+use super::{hold, Report};
+use crate::call::Entry;
+use crate::limits::IMAGE_BYTES;
+use crate::random::Dice;
+use crate::scene::{any_call, any_state};
+use std::ops::Range;
+
+/// The whole image; then numbers, sizes, readers, cached map, fetch map.
+const PIECES: [Range<usize>; 6] = [
+    0..IMAGE_BYTES,
+    0..12,
+    12..28,
+    28..156,
+    160..1_184,
+    1_184..IMAGE_BYTES,
+];
+
+/// "The buffer must be exactly 2,208 bytes, else 13".
+const WRONG_LENGTHS: [usize; 5] = [0, 1, 2_207, 2_209, 4_096];
+
+/// Every byte changed, each in some valid images: one bit of it, or several.
+pub fn every_byte(report: &mut Report, entry: Entry, dice: &mut Dice) {
+    for position in 0..IMAGE_BYTES {
+        for _ in 0..3 {
+            let state = any_state(dice);
+            let call = any_call(dice, &state);
+            let mut image = state.image();
+            image[position] ^= match dice.below(2) {
+                0 => 1 << dice.below(8),
+                _ => dice.between(1, 255) as u8,
+            };
+            hold(report, entry, &image, call);
+        }
+    }
+}
+
+/// Random bytes: the whole image, or one piece of a valid one.
+pub fn noise(report: &mut Report, entry: Entry, dice: &mut Dice, images: u64) {
+    for piece in PIECES.iter().cycle().take(images as usize) {
+        let state = any_state(dice);
+        let call = any_call(dice, &state);
+        let mut image = state.image();
+        for byte in &mut image[piece.clone()] {
+            *byte = dice.bits() as u8;
+        }
+        hold(report, entry, &image, call);
+    }
+}
+
+/// Buffers of a wrong length, cut from or continued behind a valid image.
+pub fn lengths(report: &mut Report, entry: Entry, dice: &mut Dice) {
+    for length in WRONG_LENGTHS {
+        for _ in 0..40 {
+            let state = any_state(dice);
+            let call = any_call(dice, &state);
+            let mut image = state.image();
+            image.resize(length, 0);
+            hold(report, entry, &image, call);
+        }
+    }
+}

@@ -1,0 +1,59 @@
+//! One call through an entry, held to the model.
+
+use super::Report;
+use crate::call::{Call, Entry};
+use crate::model::{self, State};
+use std::ops::Range;
+
+/// Bytes around the buffer that no call may touch.
+const GUARD: usize = 96;
+const GUARD_BYTE: u8 = 0xA5;
+
+/// Makes the call on a copy of the image, with guard bytes on both sides and at
+/// every alignment in turn. Number and image must be the model's, and the guards
+/// must stand. Returns number and image by the model.
+pub fn hold(report: &mut Report, entry: Entry, image: &[u8], call: Call) -> (u64, Vec<u8>) {
+    let shift = report.calls() as usize % 8;
+    let inside = GUARD + shift..GUARD + shift + image.len();
+    let mut memory = vec![GUARD_BYTE; inside.end + GUARD];
+    memory[inside.clone()].copy_from_slice(image);
+    let number = entry(&mut memory[inside.clone()], call);
+
+    let (expected_number, expected_image) = model::entry(image, call);
+    report.note_call(call, expected_number);
+    let wrong_byte = (0..image.len()).find(|&at| memory[inside.start + at] != expected_image[at]);
+    let guarded = guards_stand(&memory, &inside);
+    let good = number == expected_number && wrong_byte.is_none() && guarded;
+    report.check(good, || {
+        format!(
+            "{call:?} answered {number}, the model {expected_number}; \
+             first wrong byte of the image: {wrong_byte:?}; guards stand: {guarded}; {}",
+            describe(image)
+        )
+    });
+    (expected_number, expected_image)
+}
+
+fn guards_stand(memory: &[u8], inside: &Range<usize>) -> bool {
+    let stands = |guard: &[u8]| guard.iter().all(|&byte| byte == GUARD_BYTE);
+    stands(&memory[..inside.start]) && stands(&memory[inside.end..])
+}
+
+/// The state in few words, to know it by.
+fn describe(image: &[u8]) -> String {
+    let (state, restored) = State::restore(image);
+    if restored.is_err() {
+        return format!("image of {} bytes that Restore refuses", image.len());
+    }
+    format!(
+        "frames {}, L {}, T {}, sizes {:?}, turn {}, {} cached, {} in fetch, readers {:?}",
+        state.frames,
+        state.look_ahead,
+        state.fetch_time,
+        state.sizes,
+        state.turn,
+        state.cached.len(),
+        state.in_fetch.len(),
+        state.readers
+    )
+}

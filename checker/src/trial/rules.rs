@@ -1,0 +1,197 @@
+//! Restore's rules, each broken alone, and bounds met exactly.
+//!
+//! This file has its own reading of the image, so that it also tries the model.
+
+use super::{hold, Report};
+use crate::call::{Call, Entry};
+use crate::model::{Page, Reader, State};
+
+/// Where the pieces of an image start, by the paper's list of them.
+const FRAMES: usize = 0;
+const TURN: usize = 2;
+const ZERO_BYTE: usize = 3;
+const LOOK_AHEAD: usize = 4;
+const FETCH_TIME: usize = 8;
+const SIZES: usize = 12;
+const READERS: usize = 28;
+const FOUR_ZEROS: usize = 156;
+const CACHED: usize = 160;
+const IN_FETCH: usize = 1_184;
+
+/// Each rule broken alone: every call answers 13. The bounds met exactly: none
+/// does. (Every entry restores for itself, so every call is tried.)
+pub fn rules(report: &mut Report, entry: Entry) {
+    for (rule, changes) in broken() {
+        let image = changed(&changes);
+        for call in EVERY_CALL {
+            let (number, _) = hold(report, entry, &image, call);
+            report.check(number == 13, || {
+                format!("{rule}, {call:?}: {number}, not 13")
+            });
+        }
+    }
+    for (rule, changes) in unbroken() {
+        let image = changed(&changes);
+        for call in EVERY_CALL {
+            let (number, _) = hold(report, entry, &image, call);
+            report.check(number != 13, || format!("{rule}, {call:?}: 13"));
+        }
+    }
+}
+
+/// One of each. Some would be refused for their own numbers too; 13 comes first.
+const EVERY_CALL: [Call; 8] = [
+    Call::Attach {
+        slot: 16,
+        file: 0,
+        pace: 1,
+    },
+    Call::Detach { slot: 1 },
+    Call::Read { slot: 0 },
+    Call::Arrive { file: 1, page: 5 },
+    Call::Lost { file: 8, page: 1 },
+    Call::Prefetch,
+    Call::Steal,
+    Call::Run { turns: 16_385 },
+];
+
+/// Bytes to write over an image, each piece with its place.
+type Changes = Vec<(usize, Vec<u8>)>;
+
+/// The image of the sound state with these changes.
+fn changed(changes: &Changes) -> Vec<u8> {
+    let mut image = sound_state().image();
+    for (at, bytes) in changes {
+        image[*at..*at + bytes.len()].copy_from_slice(bytes);
+    }
+    image
+}
+
+/// Two frames, both taken. File 0 has 20 pages, 1 to 3 have 1,024, 4 has 64,
+/// 5 has 1, 6 and 7 none. Slot 0 runs in file 0, slot 1 waits for page 5 of
+/// file 1, slot 2 runs in file 2; slot 3 is empty.
+fn sound_state() -> State {
+    let mut state = State::idle();
+    state.frames = 2;
+    state.look_ahead = 100;
+    state.fetch_time = 20;
+    state.sizes = [20, 1_024, 1_024, 1_024, 64, 1, 0, 0];
+    for (slot, file, position) in [(0, 0, 3), (1, 1, 4), (2, 2, 9)] {
+        let mut reader = Reader::running(file, 10, position);
+        reader.waiting = slot == 1;
+        state.readers.insert(slot, reader);
+    }
+    state.cached = [page(0, 4), page(4, 64)].into();
+    state.in_fetch = [page(1, 5), page(2, 1)].into();
+    state
+}
+
+fn page(file: u64, number: u64) -> Page {
+    Page { file, number }
+}
+
+/// A map byte with only this page's bit.
+fn bit(map: usize, page: Page) -> (usize, Vec<u8>) {
+    let key = page.file as usize * 1_024 + page.number as usize - 1;
+    (map + key / 8, vec![1 << (key % 8)])
+}
+
+/// A reader's record: slot, condition, file, pace, position.
+fn record(slot: usize, condition: u8, file: u8, pace: u16, position: u16) -> (usize, Vec<u8>) {
+    let mut bytes = vec![condition, file];
+    bytes.extend(pace.to_le_bytes());
+    bytes.extend(position.to_le_bytes());
+    (READERS + 8 * slot, bytes)
+}
+
+fn nothing_cached() -> (usize, Vec<u8>) {
+    (CACHED, vec![0; IN_FETCH - CACHED])
+}
+
+fn two(at: usize, number: u16) -> (usize, Vec<u8>) {
+    (at, number.to_le_bytes().to_vec())
+}
+
+fn four(at: usize, number: u32) -> (usize, Vec<u8>) {
+    (at, number.to_le_bytes().to_vec())
+}
+
+fn broken() -> Vec<(String, Changes)> {
+    let mut list = vec![
+        ("frames 0", vec![two(FRAMES, 0), nothing_cached()]),
+        ("frames 1,025", vec![two(FRAMES, 1_025)]),
+        ("turn 16", vec![(TURN, vec![16])]),
+        ("turn 255", vec![(TURN, vec![255])]),
+        ("byte 3 not 0", vec![(ZERO_BYTE, vec![1])]),
+        ("L 0", vec![four(LOOK_AHEAD, 0)]),
+        ("L 2,000,001", vec![four(LOOK_AHEAD, 2_000_001)]),
+        ("L far too large", vec![four(LOOK_AHEAD, u32::MAX)]),
+        ("T 2,000,001", vec![four(FETCH_TIME, 2_000_001)]),
+        ("T far too large", vec![four(FETCH_TIME, u32::MAX)]),
+        ("a size of 1,025", vec![two(SIZES + 2 * 3, 1_025)]),
+        ("condition 3", vec![record(2, 3, 2, 10, 9)]),
+        ("condition 255", vec![record(2, 255, 2, 10, 9)]),
+        ("file 8", vec![record(2, 1, 8, 10, 0)]),
+        ("file 255", vec![record(2, 1, 255, 10, 0)]),
+        ("a file of size 0", vec![record(2, 1, 7, 10, 0)]),
+        ("pace 0", vec![record(2, 1, 2, 0, 9)]),
+        ("pace 1,001", vec![record(2, 1, 2, 1_001, 9)]),
+        ("a position above the size", vec![record(2, 1, 0, 10, 21)]),
+        ("a position far above", vec![record(2, 1, 2, 10, u16::MAX)]),
+        ("waiting for no fetch", vec![record(2, 2, 2, 10, 9)]),
+        ("waiting for a cached page", vec![record(2, 2, 0, 10, 3)]),
+        (
+            "waiting at the last page, the key behind it in fetch",
+            vec![record(2, 2, 1, 10, 1_024)],
+        ),
+        (
+            "cached above the size",
+            vec![two(FRAMES, 9), bit(CACHED, page(5, 2))],
+        ),
+        ("fetched above the size", vec![bit(IN_FETCH, page(0, 21))]),
+        (
+            "cached in no file",
+            vec![two(FRAMES, 9), bit(CACHED, page(6, 1))],
+        ),
+        ("fetched in no file", vec![bit(IN_FETCH, page(7, 1_024))]),
+        ("a page in both maps", vec![bit(IN_FETCH, page(4, 64))]),
+        ("more cached than frames", vec![two(FRAMES, 1)]),
+        ("more cached than frames", vec![bit(CACHED, page(3, 1_024))]),
+        (
+            "the waited-for page not in fetch",
+            vec![bit(IN_FETCH, page(1, 6))],
+        ),
+    ];
+    let zeros = (FOUR_ZEROS..CACHED).chain(READERS + 6..READERS + 8);
+    list.extend(zeros.map(|at| ("a 0 byte that is not 0", vec![(at, vec![1])])));
+    let empty_slot = READERS + 8 * 3;
+    let record_bytes = empty_slot + 1..empty_slot + 8;
+    list.extend(record_bytes.map(|at| ("an empty slot not all 0", vec![(at, vec![128])])));
+    let named = |(rule, changes): (&str, Changes)| (format!("{rule} {changes:?}"), changes);
+    list.into_iter().map(named).collect()
+}
+
+fn unbroken() -> Vec<(&'static str, Changes)> {
+    vec![
+        ("nothing changed", vec![]),
+        ("frames 1", vec![two(FRAMES, 1), nothing_cached()]),
+        ("frames 1,024", vec![two(FRAMES, 1_024)]),
+        ("turn 15", vec![(TURN, vec![15])]),
+        ("L 1", vec![four(LOOK_AHEAD, 1)]),
+        ("L 2,000,000", vec![four(LOOK_AHEAD, 2_000_000)]),
+        ("T 0", vec![four(FETCH_TIME, 0)]),
+        ("T 2,000,000", vec![four(FETCH_TIME, 2_000_000)]),
+        ("pace 1", vec![record(2, 1, 2, 1, 9)]),
+        ("pace 1,000", vec![record(2, 1, 2, 1_000, 9)]),
+        ("position 0", vec![record(2, 1, 2, 10, 0)]),
+        ("position at the size", vec![record(2, 1, 0, 10, 20)]),
+        ("position 1,024", vec![record(2, 1, 1, 10, 1_024)]),
+        ("waiting at position 0", vec![record(2, 2, 2, 10, 0)]),
+        ("two waiting for one page", vec![record(2, 2, 1, 10, 4)]),
+        ("a reader in slot 15", vec![record(15, 1, 5, 10, 1)]),
+        (
+            "the last page in fetch",
+            vec![bit(IN_FETCH, page(3, 1_024))],
+        ),
+    ]
+}

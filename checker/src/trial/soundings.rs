@@ -1,0 +1,152 @@
+//! The paper's "Soundings to check by (marked 1 to 12)" and its listing.
+
+use super::{hold, Report};
+use crate::call::{Call, Entry};
+use crate::model::{run_program, Answer, Page, Reader, State};
+
+/// One sounding: a state and what the paper says of it.
+struct Sounding {
+    mark: u32,
+    state: State,
+    says: Says,
+}
+
+enum Says {
+    Steal(Vec<Page>),
+    Fetch(Vec<Page>),
+    /// The pages of the fetch order with their times.
+    Times(Vec<(Page, u64)>),
+    /// Of file 0, low and high page.
+    Clusters(Vec<u16>),
+}
+
+/// "File 0, size 16, L 40, turn 0, cached 1, 2, 3, 5, 7, reader in slot 0 at 3,
+/// w 10, unless said." T is said by each; frames, by none.
+fn usual(fetch_time: u64) -> State {
+    let mut state = State::idle();
+    state.frames = 16;
+    state.look_ahead = 40;
+    state.fetch_time = fetch_time;
+    state.sizes[0] = 16;
+    state.cached = pages(&[1, 2, 3, 5, 7]).into_iter().collect();
+    seat(state, 0, 3, 10)
+}
+
+fn seat(mut state: State, slot: u64, position: u64, pace: u64) -> State {
+    state
+        .readers
+        .insert(slot, Reader::running(0, pace, position));
+    state
+}
+
+/// No reader, and only these pages cached.
+fn unread(cached: &[Page]) -> State {
+    let mut state = usual(0);
+    state.readers.clear();
+    state.cached = cached.iter().copied().collect();
+    state
+}
+
+/// Sounding 8, at either turn.
+fn two_near(turn: u64) -> State {
+    let mut state = seat(seat(usual(0), 0, 4, 10), 1, 6, 10);
+    state.cached = pages(&[5, 7]).into_iter().collect();
+    state.turn = turn;
+    state
+}
+
+/// Pages of file 0.
+fn pages(numbers: &[u64]) -> Vec<Page> {
+    let page = |&number| Page { file: 0, number };
+    numbers.iter().map(page).collect()
+}
+
+fn all() -> Vec<Sounding> {
+    let steal = |numbers: &[u64]| Says::Steal(pages(numbers));
+    let fetch = |numbers: &[u64]| Says::Fetch(pages(numbers));
+    let times = |times: &[(u64, u64)]| {
+        let timed = |&(number, time)| (Page { file: 0, number }, time);
+        Says::Times(times.iter().map(timed).collect())
+    };
+    let five_of = |file| Page { file, number: 5 };
+
+    let mut two_files = unread(&[five_of(0), five_of(1)]);
+    two_files.sizes[1] = 16;
+    let mut larger = unread(&pages(&[64, 65]));
+    larger.sizes[0] = 1_024;
+
+    let table = [
+        (1, usual(20), steal(&[3, 2, 1, 7, 5])),
+        (2, usual(20), fetch(&[4, 6])),
+        (2, usual(20), times(&[(4, 10), (6, 50)])),
+        (3, usual(40), steal(&[3, 2, 1, 7, 5])),
+        (3, usual(40), fetch(&[4])),
+        (4, usual(41), fetch(&[])),
+        (5, usual(0), steal(&[3, 2, 1, 7, 5])),
+        (5, usual(0), fetch(&[4, 6])),
+        (6, seat(usual(0), 0, 3, 40), fetch(&[4])),
+        (6, seat(usual(0), 0, 3, 41), fetch(&[])),
+        (7, seat(usual(0), 1, 6, 10), steal(&[3, 2, 1, 5, 7])),
+        (8, two_near(0), steal(&[7, 5])),
+        (8, two_near(1), steal(&[5, 7])),
+        (9, unread(&pages(&[2, 5])), steal(&[5, 2])),
+        (10, two_files, Says::Steal(vec![five_of(1), five_of(0)])),
+        (11, larger, Says::Clusters(vec![64, 65])),
+        (12, unread(&[]), Says::Clusters(vec![])),
+        (12, unread(&[]), steal(&[])),
+    ];
+    let sounding = |(mark, state, says)| Sounding { mark, state, says };
+    table.into_iter().map(sounding).collect()
+}
+
+/// Holds the model to every sounding.
+pub fn by_model(report: &mut Report) {
+    for Sounding { mark, state, says } in all() {
+        let good = match says {
+            Says::Steal(order) => state.steal_order() == order,
+            Says::Fetch(order) => state.fetch_order() == order,
+            Says::Times(times) => {
+                let keys = state.use_keys();
+                times.iter().all(|(page, time)| keys[page].time == *time)
+            }
+            Says::Clusters(numbers) => {
+                let mut list = [0; 32];
+                let count = state.clusters(0, &mut list);
+                count == Ok(numbers.len() / 2) && list[..numbers.len()] == numbers
+            }
+        };
+        report.check(good, || format!("sounding {mark}, by the model"));
+    }
+}
+
+/// Holds an entry to the heads of the soundings' orders: Steal and Prefetch
+/// answer them.
+pub fn by_entry(report: &mut Report, entry: Entry) {
+    for Sounding { mark, state, says } in all() {
+        let (call, answer) = match says {
+            Says::Steal(order) => (Call::Steal, order.first().copied().map(Answer::Stolen)),
+            Says::Fetch(order) => (Call::Prefetch, order.first().copied().map(Answer::Fetch)),
+            Says::Times(_) | Says::Clusters(_) => continue,
+        };
+        let expected = answer.unwrap_or(Answer::Nothing).number();
+        let (number, _) = hold(report, entry, &state.image(), call);
+        report.check(number == expected, || {
+            format!("sounding {mark}: {call:?} answered {number}, not {expected}")
+        });
+    }
+}
+
+/// "Input, then the output whole", slashes for line ends.
+const INPUT: &str = "S,3,100,0,6,0,0,0,0,0,0,0 / A,0,0,10 / R,0 / R,0 / I,0,1 / R,0 / A,1,0,10 / \
+    N,32 / L / P / T / I,0,4 / C,0 / I,0,5 / N,16 / L";
+const OUTPUT: &str = "O / O / F,0,1 / E,7 / I / H,0,1 / O / N,2,4 / L,3,0,2,0,1,0,3 / F,0,4 / \
+    S,0,2 / I / C,2,1,1,3,4 / E,9 / N,0,2 / L,3,0,3,0,1,0,4";
+
+/// Holds the model's program to the paper's listing.
+pub fn listing(report: &mut Report) {
+    let lines = |listing: &str| listing.replace(" / ", "\n") + "\n";
+    let output = String::from_utf8(run_program(lines(INPUT).as_bytes())).unwrap();
+    report.check(output == lines(OUTPUT), || {
+        format!("the listing's output is\n{output}")
+    });
+}

@@ -1,0 +1,143 @@
+//! Save, Restore and the lent lists.
+
+use checker::limits::IMAGE_BYTES;
+use checker::model::{Page, Refusal, State};
+use checker::quick;
+use checker::random::Dice;
+use checker::scene::any_state;
+use checker::trial::{rules, Report};
+
+#[test]
+fn images_come_back_as_they_went() {
+    let mut dice = Dice::new(2);
+    for _ in 0..1_000 {
+        let state = any_state(&mut dice);
+        let image = state.image();
+        assert_eq!(image.len(), IMAGE_BYTES);
+        assert_eq!(State::restore(&image), (state, Ok(())));
+    }
+}
+
+#[test]
+fn images_lie_as_the_paper_says() {
+    let (mut state, _) = State::setup(515, 0x0001_0203, 70_000, [1_024, 0, 0, 0, 0, 0, 0, 258]);
+    state.turn = 9;
+    state.attach(3, 7, 999).unwrap();
+    state.readers.get_mut(&3).unwrap().position = 257;
+    state.read(3).unwrap(); // page 258 of file 7: in fetch, waited for
+    state.cached.insert(Page {
+        file: 0,
+        number: 1_024,
+    });
+    let image = state.image();
+
+    let mut expected = vec![0; IMAGE_BYTES];
+    expected[0..4].copy_from_slice(&[0x03, 0x02, 9, 0]);
+    expected[4..8].copy_from_slice(&[0x03, 0x02, 0x01, 0]);
+    expected[8..12].copy_from_slice(&[0x70, 0x11, 0x01, 0]);
+    expected[12..14].copy_from_slice(&[0x00, 0x04]);
+    expected[26..28].copy_from_slice(&[0x02, 0x01]);
+    expected[52..60].copy_from_slice(&[2, 7, 0xE7, 0x03, 0x01, 0x01, 0, 0]);
+    expected[160 + 127] = 0x80;
+    expected[1_184 + 7 * 128 + 32] = 0x02;
+    assert_eq!(image, expected);
+}
+
+#[test]
+fn save_refuses_short_buffers_and_keeps_the_bytes_behind() {
+    let state = any_state(&mut Dice::new(3));
+    let mut short = [7; IMAGE_BYTES - 1];
+    assert_eq!(state.save(&mut short), Err(Refusal::TooShort));
+    assert_eq!(short, [7; IMAGE_BYTES - 1]);
+    let mut long = [7; IMAGE_BYTES + 5];
+    assert_eq!(state.save(&mut long), Ok(()));
+    assert_eq!(long[..IMAGE_BYTES], state.image());
+    assert_eq!(long[IMAGE_BYTES..], [7; 5]);
+}
+
+#[test]
+fn refused_setups_and_images_give_the_idle_state() {
+    let (state, answer) = State::setup(1, 1, 0, [1_025; 8]);
+    assert_eq!((state, answer), (State::idle(), Err(Refusal::Setup)));
+    let restored = State::restore(&[0; IMAGE_BYTES]);
+    assert_eq!(restored, (State::idle(), Err(Refusal::Image)));
+}
+
+#[test]
+fn setup_takes_exactly_its_ranges() {
+    let good = |frames, l, t, size| State::setup(frames, l, t, [size; 8]).1.is_ok();
+    assert!(good(1, 1, 0, 0) && good(1_024, 2_000_000, 2_000_000, 1_024));
+    assert!(!good(0, 1, 0, 0) && !good(1_025, 1, 0, 0));
+    assert!(!good(1, 0, 0, 0) && !good(1, 2_000_001, 0, 0));
+    assert!(!good(1, 1, 2_000_001, 0) && !good(1, 1, 0, 1_025));
+    assert!(!good(u64::MAX, 1, 0, 0) && !good(1, u64::MAX, 0, 0));
+}
+
+#[test]
+fn each_rule_of_restore_is_kept() {
+    let mut report = Report::default();
+    rules::rules(&mut report, quick::entry);
+    assert_eq!(report.failed(), 0);
+}
+
+/// A call that writes into a lent list and says how many numbers it wrote.
+type Write<'a> = &'a dyn Fn(&mut [u16]) -> Result<usize, Refusal>;
+
+#[test]
+fn lists_too_short_are_refused_and_left() {
+    let mut dice = Dice::new(4);
+    for _ in 0..300 {
+        let state = any_state(&mut dice);
+        let file = dice.below(9); // 8 is no file
+        let lists: [Write; 3] = [
+            &|list| state.steal_list(list),
+            &|list| state.fetch_list(list),
+            &|list| state.clusters(file, list).map(|count| 2 * count),
+        ];
+        for write in lists {
+            let mut long = [0xAAAA; 8_192];
+            let Ok(written) = write(&mut long) else {
+                assert_eq!(write(&mut []), Err(Refusal::File)); // before 12
+                continue;
+            };
+            assert!(long[written..].iter().all(|&number| number == 0xAAAA));
+            let mut exact = vec![0; written];
+            assert_eq!(write(&mut exact), Ok(written));
+            assert_eq!(exact, long[..written]);
+            if written > 0 {
+                let mut short = vec![0xAAAA; written - 1];
+                assert_eq!(write(&mut short), Err(Refusal::TooShort));
+                assert!(short.iter().all(|&number| number == 0xAAAA));
+            }
+        }
+    }
+}
+
+/// The steal order has every cached page once, the fetch order none of them,
+/// and the clusters of all files hold exactly the cached pages.
+#[test]
+fn lists_hold_the_right_pages() {
+    let mut dice = Dice::new(5);
+    for _ in 0..300 {
+        let state = any_state(&mut dice);
+        let mut order = state.steal_order();
+        order.sort();
+        assert!(order.iter().eq(&state.cached));
+        let fetches = state.fetch_order();
+        assert!(fetches.iter().all(|page| !state.cached.contains(page)));
+        assert!(fetches.iter().all(|page| !state.in_fetch.contains(page)));
+
+        let mut clustered = Vec::new();
+        for file in state.files() {
+            let mut list = [0; 1_024];
+            let count = state.clusters(file, &mut list).unwrap();
+            for ends in list[..2 * count].chunks(2) {
+                let numbers = u64::from(ends[0])..=u64::from(ends[1]);
+                clustered.extend(numbers.map(|number| Page { file, number }));
+            }
+            let gaps = list[1..2 * count.max(1) - 1].chunks(2);
+            assert!(gaps.into_iter().all(|gap| gap[0] + 1 < gap[1]));
+        }
+        assert!(clustered.iter().eq(&state.cached));
+    }
+}

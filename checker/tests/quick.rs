@@ -1,0 +1,19 @@
+//! Quick against the model: equal numbers, equal images.
+
+use checker::quick::entry;
+use checker::random::Dice;
+use checker::trial::{calls, damage, Report};
+
+#[test]
+fn random_calls_at_bounds_and_beyond() {
+    let (mut report, mut dice) = (Report::default(), Dice::new(6));
+    calls::random_calls(&mut report, entry, &mut dice, 600);
+    calls::bounds(&mut report, entry, &mut dice, 3);
+    calls::long_runs(&mut report, entry, &mut dice);
+    damage::every_byte(&mut report, entry, &mut dice);
+    damage::noise(&mut report, entry, &mut dice, 300);
+    damage::lengths(&mut report, entry, &mut dice);
+    report.check_every_outcome_met();
+    println!("{}", report.outcomes());
+    assert_eq!(report.failed(), 0);
+}

@@ -1,0 +1,65 @@
+//! The model against the paper's twelve soundings and its listing, and a
+//! look-ahead written once more, word for word.
+
+use checker::model::{Page, Reader, State};
+use checker::quick;
+use checker::random::Dice;
+use checker::scene::any_state;
+use checker::trial::{soundings, Report};
+
+#[test]
+fn model_meets_the_soundings() {
+    let mut report = Report::default();
+    soundings::by_model(&mut report);
+    assert_eq!(report.failed(), 0);
+}
+
+#[test]
+fn quick_meets_the_heads_of_the_soundings() {
+    let mut report = Report::default();
+    soundings::by_entry(&mut report, quick::entry);
+    assert_eq!(report.failed(), 0);
+}
+
+#[test]
+fn program_meets_the_listing() {
+    let mut report = Report::default();
+    soundings::listing(&mut report);
+    assert_eq!(report.failed(), 0);
+}
+
+/// The model walks a look-ahead with a running count. The paper counts the
+/// pages from c + 1 to c + j − 1 anew for each j.
+#[test]
+fn look_ahead_is_the_definition() {
+    let mut dice = Dice::new(1);
+    for _ in 0..400 {
+        let state = any_state(&mut dice);
+        for reader in state.readers.values() {
+            assert_eq!(state.look_ahead_of(reader), by_definition(&state, reader));
+        }
+    }
+}
+
+fn by_definition(state: &State, reader: &Reader) -> Vec<(Page, u64)> {
+    let (c, w, file) = (reader.position, reader.pace, reader.file);
+    let (l, t) = (state.look_ahead, state.fetch_time);
+    let k = l / w;
+    let q = |j| {
+        let not_cached = |&number: &u64| !state.cached.contains(&Page { file, number });
+        (c + 1..=c + j - 1).filter(not_cached).count() as u64
+    };
+    (1..=k.min(state.size(file)))
+        .filter(|j| c + j <= state.size(file))
+        .filter(|&j| !(t > 0 && q(j) >= l / t))
+        .map(|j| {
+            (
+                Page {
+                    file,
+                    number: c + j,
+                },
+                j * w + q(j) * t,
+            )
+        })
+        .collect()
+}

@@ -1,0 +1,16 @@
+use borrow.Author.Needs.{needs}
+use Rattle.capi.proofs.Outcomes.{not-refused}
+use Rattle.capi.proofs.carried_out.Statement.{statement}
+use Rattle.capi.proofs.carried_out.Tie as tie
+
+enum-told : tie.Need-enum-told
+enum-told c = search needs
+
+returns : tie.Need-returns
+returns c = search needs
+
+returns-2 : tie.Need-returns-2
+returns-2 c = search (not-refused, needs)
+
+pub carried-out-spec : {M : Type 1} → statement M
+carried-out-spec = tie.close (tie.spec enum-told returns returns-2)

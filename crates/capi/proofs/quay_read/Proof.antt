@@ -1,0 +1,45 @@
+use borrow.Author.Needs.{needs}
+use Rattle.rules.specs.Entries.{read}
+use Rattle.capi.proofs.Entering.{entry-valid, entry-unrestored, entry-ready, entry-restored}
+use Rattle.capi.proofs.quay_read.Statement.{statement}
+use Rattle.capi.proofs.quay_read.Tie as tie
+
+restore-requires : tie.Need-restore-requires
+restore-requires c κs = search needs
+
+carried-out-requires : tie.Need-carried-out-requires
+carried-out-requires c κs = search needs
+
+same-length : tie.Need-same-length
+same-length c = search needs
+
+returns : tie.Need-returns
+returns c = search (entry-unrestored, needs)
+
+read-requires : tie.Need-read-requires
+read-requires c κs = let restored = c .before .before in entry-valid _ _ (restored .restore .ensures) (restored .before .before .slice-known .given)
+
+finish-requires : tie.Need-finish-requires
+finish-requires c κs =
+    let tested = c .before .before .before in
+    let restored = tested .before in
+    entry-ready _ _ (restored .restore .ensures) _ (tested .carried-out .ensures) (read _) (c .before .before .if1 .left) _ (c .before .read .ensures .0) (restored .before .before .slice-known .given)
+
+same-length-2 : tie.Need-same-length-2
+same-length-2 c = search needs
+
+returns-2 : tie.Need-returns-2
+returns-2 c = search (entry-restored, needs)
+
+pub quay-read-spec : {M : Type 1} → statement M
+quay-read-spec =
+    tie.close
+    (tie.spec
+    restore-requires
+    carried-out-requires
+    same-length
+    returns
+    read-requires
+    finish-requires
+    same-length-2
+    returns-2)

@@ -1,0 +1,106 @@
+-- Tests made one after the other, up to the first that fails. Assumes nothing.
+use mathlib.Core.Path.{_≡_, refl, sym, ap, _∙_}
+use mathlib.Core.Bool.{Bool, true, false, not, _&&_, _||_}
+use mathlib.Core.List.{List}
+use Prim.Native.Nat.{ℕ, _+_, _≤_, _<_}
+use native.Mathlib.Decide.{ℕ-discrete, decLt}
+use native.Mathlib.Omega.{arith}
+use borrow.Author.Tests.{not-true, not-false}
+use lib.ListN.{length, getD, List·getD-eq-default}
+use lib.Dec.{T}
+use Rattle.rules.specs.Lists.{range, every}
+use Rattle.rules.proofs.Cases.{outcomes, passed, failed}
+use Rattle.rules.proofs.Tests.{is-true}
+use Rattle.rules.proofs.Members.{All, range-in, range-at}
+use Rattle.rules.proofs.Parts.{all-always, always-all, every-all, all-every}
+
+-- two tests that pass together
+pub same-test : (a b : Bool) → (T a → T b) → (T b → T a) → a ≡ b
+same-test true true f g = refl
+same-test true false f g = absurd (f tt)
+same-test false true f g = absurd (g tt)
+same-test false false f g = refl
+
+-- ---- joined by "and"
+
+-- the first fails
+pub and-stop : (a b : Bool) → a ≡ false → false ≡ (a && b)
+and-stop a b e = rw e
+
+-- a later one fails
+pub and-later : (a b : Bool) → false ≡ b → false ≡ (a && b)
+and-later true b e = e
+and-later false b e = refl
+
+-- it passes: the answer is that of the others
+pub and-pass : (a b q : Bool) → a ≡ true → q ≡ b → q ≡ (a && b)
+and-pass a b q e f = rw e f
+
+-- the first, as a call answers it, fails
+pub call-stop : (a b t : Bool) → t ≡ a → not t ≡ true → false ≡ (a && b)
+call-stop a b t e n = and-stop a b (sym e ∙ not-true t n)
+
+-- it passes
+pub call-pass : (a b t q : Bool) → t ≡ a → not t ≡ false → q ≡ b → q ≡ (a && b)
+call-pass a b t q e n f = and-pass a b q (sym e ∙ not-false t n) f
+
+-- neither of two: the first holds
+pub nor-left : (a b : Bool) → a ≡ true → not (a || b) ≡ false
+nor-left a b e = rw e
+
+-- the second holds
+pub nor-right : (a b : Bool) → b ≡ true → not (a || b) ≡ false
+nor-right true b e = refl
+nor-right false b e = rw e
+
+-- neither holds
+pub nor-both : (a b : Bool) → a ≡ false → b ≡ false → not (a || b) ≡ true
+nor-both a b e f = rw (e, f)
+
+-- where a function stops at a test
+pub ruleset stops = (and-stop, and-later, call-stop, nor-left, nor-right, outcomes)
+
+-- where all before the last passed
+pub ruleset passes = (and-pass, call-pass, nor-both, outcomes)
+
+-- ---- one for each of n numbers
+
+module _ (P : ℕ → Bool) where
+  -- no number yet
+  pub every-none : every P (range 0 0) ≡ true
+  unfolding every range
+  every-none = refl
+
+  -- one more
+  pub every-more : (k : ℕ) (t : Bool) → every P (range 0 k) ≡ true → t ≡ P k → not t ≡ false → every P (range 0 (k + 1)) ≡ true
+  every-more k t e f n =
+      let before = every-all P (range 0 k) (passed (every P (range 0 k)) e) in
+      let here : T (P k) = passed (P k) (sym f ∙ not-false t n) in
+      is-true (every P (range 0 (k + 1))) (all-every P (range 0 (k + 1)) (range-in (λ i. T (P i)) 0 (k + 1) (λ i _ l. by i l (ℕ-discrete i k) before here)))
+    where
+      by : (i : ℕ) → i < 0 + (k + 1) → Dec (i ≡ k) → All (λ j. T (P j)) (range 0 k) → T (P k) → T (P i)
+      by i l (yes q) b h = rw q h
+      by i l (no d) b h = range-at (λ j. T (P j)) 0 k i b (omega arith) (omega arith)
+
+  -- one fails
+  pub every-stop : (k n : ℕ) (t : Bool) → k < n → t ≡ P k → not t ≡ true → false ≡ every P (range 0 n)
+  every-stop k n t l f m =
+      sym (same-test (every P (range 0 n)) false (λ h. failed (P k) (sym f ∙ not-true t m) (range-at (λ i. T (P i)) 0 n k (every-all P (range 0 n) h) (omega arith) (omega arith))) (λ z. absurd z))
+
+  -- all pass
+  pub every-end : (k n : ℕ) → every P (range 0 k) ≡ true → n ≤ k → k ≤ n → true ≡ every P (range 0 n)
+  every-end k n e h g = let q : k ≡ n = omega arith in sym (ap (λ m. every P (range 0 m)) (sym q) ∙ e)
+
+  -- the members of a list by their numbers
+  pub every-listed : (l : List ℕ) (n : ℕ) → T (P 0) → length l ≡ n → every P l ≡ every (λ i. P (getD l i 0)) (range 0 n)
+  every-listed l n p long =
+      same-test (every P l) (every Q (range 0 n))
+      (λ h. all-every Q (range 0 n) (range-in (λ i. T (Q i)) 0 n (λ i _ _. all-always (λ x. T (P x)) 0 p l (every-all P l h) i)))
+      (λ h. all-every P l (always-all (λ x. T (P x)) 0 l (λ i. by h i (decLt i n))))
+    where
+      Q : ℕ → Bool
+      Q i = P (getD l i 0)
+
+      by : T (every Q (range 0 n)) → (i : ℕ) → Dec (i < n) → T (P (getD l i 0))
+      by h i (yes q) = range-at (λ j. T (Q j)) 0 n i (every-all Q (range 0 n) h) (omega arith) (omega arith)
+      by h i (no q) = rw (List·getD-eq-default l 0 {n = i} (omega arith)) p

@@ -1,0 +1,9 @@
+pub mod Puts
+pub mod Gets
+pub mod Saves
+pub mod Fills
+pub mod States
+pub mod Checks
+pub mod Slots
+pub mod WordTests
+pub mod Restores

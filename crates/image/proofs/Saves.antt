@@ -1,0 +1,81 @@
+-- The parts of a state's image. Assumes nothing.
+use mathlib.Core.Path.{_≡_, refl, sym, ap, ap₂, _∙_}
+use mathlib.Core.List.{List, [], _∷_, _++_, map, append-assoc, append-nil}
+use Prim.Native.Nat.{ℕ, _+_}
+use native.Mathlib.Omega.{arith}
+use lib.ListN.{length, length-append, drop-of-length-le}
+use Rattle.rules.specs.Lists.{each}
+use Rattle.rules.specs.Valid.{Valid}
+use Rattle.rules.specs.Image.{Field, field, readerFields, layout, bytesOf, imageOf}
+use Rattle.rules.proofs.Parts.{each-map, length-each}
+use Rattle.rules.proofs.Numbers.{bytes-length}
+use Rattle.image.specs.Bytes.{written, encoded, readerBytes, settingsFields}
+use Rattle.image.proofs.Puts.{each-append, written-more, reader-wide}
+use Rattle.rules.specs.declared.State.{State}
+use Rattle.rules.specs.declared.Reader.{Reader}
+
+-- the records' fields, record by record
+encoded-readers : (rs : List Reader) → encoded (each readerFields rs) ≡ each readerBytes rs
+unfolding each readerBytes
+encoded-readers [] = refl
+encoded-readers (r ∷ rs) = each-append (λ f. bytesOf (f .width) (f .value)) (readerFields r) (each readerFields rs) ∙ ap (λ l. encoded (readerFields r) ++ l) (encoded-readers rs)
+
+-- the first 12 bytes
+abbrev settings : State → List ℕ
+settings s = encoded (settingsFields (s .frames) (s .turn) (s .«look_ahead») (s .«fetch_time»))
+
+settings-long : (s : State) → length (settings s) ≡ 12
+unfolding each bytesOf
+settings-long s = refl
+
+image-parts : (s : State)
+    → settings s ++ (each (bytesOf 2) (s .sizes) ++ (each readerBytes (s .readers) ++ (bytesOf 4 0 ++ (each (bytesOf 8) (s .cached) ++ each (bytesOf 8) (s .fetching))))) ≡ imageOf s
+unfolding imageOf layout each
+image-parts s =
+    let g : Field → List ℕ = λ f. bytesOf (f .width) (f .value) in
+    let words = each-append g (map (field 8) (s .cached)) (map (field 8) (s .fetching)) ∙ ap₂ _++_ (each-map g (field 8) (s .cached)) (each-map g (field 8) (s .fetching)) in
+    let maps : List Field = field 4 0 ∷ (map (field 8) (s .cached) ++ map (field 8) (s .fetching)) in
+    let slots = each-append g (each readerFields (s .readers)) maps ∙ ap₂ _++_ (encoded-readers (s .readers)) (ap (λ l. bytesOf 4 0 ++ l) words) in
+    let rest : List Field = each readerFields (s .readers) ++ maps in
+    let sizes = each-append g (map (field 2) (s .sizes)) rest ∙ ap₂ _++_ (each-map g (field 2) (s .sizes)) slots in
+    let first : List Field = settingsFields (s .frames) (s .turn) (s .«look_ahead») (s .«fetch_time») in
+    sym (each-append g first (map (field 2) (s .sizes) ++ rest) ∙ ap (λ l. settings s ++ l) sizes)
+
+-- bytes that fill the buffer are all of it
+written-all : (l bs : List ℕ) → length bs ≡ length l → written l 0 bs ≡ bs
+unfolding written
+written-all l bs e = ap (λ r. bs ++ r) (drop-of-length-le l {i = 0 + length bs} (omega arith)) ∙ append-nil bs
+
+-- the parts, put one after the other, are the image
+module _ (s : State) (v : Valid s) where
+  pub written-image : (l k m n o p q : List ℕ) → length l ≡ 2208
+      → k ≡ written l 0 (settings s)
+      → m ≡ written k 12 (each (bytesOf 2) (s .sizes))
+      → n ≡ written m 28 (each readerBytes (s .readers))
+      → o ≡ written n 156 (bytesOf 4 0)
+      → p ≡ written o 160 (each (bytesOf 8) (s .cached))
+      → q ≡ written p 1184 (each (bytesOf 8) (s .fetching))
+      → q ≡ imageOf s
+  written-image l k m n o p q fits e₁ e₂ e₃ e₄ e₅ e₆ =
+      let a : List ℕ = settings s in
+      let b : List ℕ = each (bytesOf 2) (s .sizes) in
+      let c : List ℕ = each readerBytes (s .readers) in
+      let d : List ℕ = bytesOf 4 0 in
+      let x : List ℕ = each (bytesOf 8) (s .cached) in
+      let y : List ℕ = each (bytesOf 8) (s .fetching) in
+      let b-long : length b ≡ 16 = omega (arith, length-each (bytesOf 2) 2 (bytes-length 2) (s .sizes), v .eight) in
+      let c-long : length c ≡ 128 = omega (arith, length-each readerBytes 8 reader-wide (s .readers), v .sixteen) in
+      let d-long : length d ≡ 4 = bytes-length 4 0 in
+      let x-long : length x ≡ 1024 = omega (arith, length-each (bytesOf 8) 8 (bytes-length 8) (s .cached), v .cached-map .all) in
+      let y-long : length y ≡ 1024 = omega (arith, length-each (bytesOf 8) 8 (bytes-length 8) (s .fetching), v .fetching-map .all) in
+      let l₂ : length (a ++ b) ≡ 28 = omega (arith, length-append a b, settings-long s) in
+      let l₃ : length ((a ++ b) ++ c) ≡ 156 = omega (arith, length-append (a ++ b) c) in
+      let l₄ : length (((a ++ b) ++ c) ++ d) ≡ 160 = omega (arith, length-append ((a ++ b) ++ c) d) in
+      let l₅ : length ((((a ++ b) ++ c) ++ d) ++ x) ≡ 1184 = omega (arith, length-append (((a ++ b) ++ c) ++ d) x) in
+      let l₆ : length (((((a ++ b) ++ c) ++ d) ++ x) ++ y) ≡ 2208 = omega (arith, length-append ((((a ++ b) ++ c) ++ d) ++ x) y) in
+      let s₂ = written-more l k m 0 12 a b (settings-long s) e₁ e₂ (omega arith) in
+      let s₃ = written-more l m n 0 28 (a ++ b) c l₂ s₂ e₃ (omega arith) in
+      let s₄ = written-more l n o 0 156 ((a ++ b) ++ c) d l₃ s₃ e₄ (omega arith) in
+      let s₅ = written-more l o p 0 160 (((a ++ b) ++ c) ++ d) x l₄ s₄ e₅ (omega arith) in
+      let s₆ = written-more l p q 0 1184 ((((a ++ b) ++ c) ++ d) ++ x) y l₅ s₅ e₆ (omega arith) in
+      s₆ ∙ written-all l (((((a ++ b) ++ c) ++ d) ++ x) ++ y) (omega arith) ∙ simp append-assoc (image-parts s)

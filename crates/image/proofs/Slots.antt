@@ -1,0 +1,88 @@
+-- The test of a slot. Assumes nothing.
+use mathlib.Core.Path.{_≡_, refl, sym, ap, _∙_}
+use mathlib.Core.Bool.{Bool, true, false, not, _&&_}
+use mathlib.Core.List.{List, []}
+use Prim.Native.Nat.{ℕ, _+_, _*_, _<_}
+use native.Mathlib.Omega.{arith}
+use borrow.Author.Tests.{not-true, not-false}
+use lib.Dec.{eqb}
+use Rattle.rules.specs.Lists.{within}
+use Rattle.rules.specs.Calls.{noFile}
+use Rattle.rules.specs.Readers.{awaits}
+use Rattle.rules.specs.Image.{readerNumber, readerFrom, readerPlaced, readerHolds, slotHolds}
+use Rattle.rules.proofs.Cases.{passed, file-there}
+use Rattle.rules.proofs.Tests.{is-true, and-first}
+use Rattle.rules.proofs.Offsets.{slot-at}
+use Rattle.image.specs.Bytes.{numberAt, numbers, stateIn}
+use Rattle.image.specs.Tests.{among, FromImage}
+use Rattle.image.proofs.Checks.{and-later, call-stop, call-pass}
+use Rattle.rules.specs.declared.State.{State}
+use Rattle.rules.specs.declared.Reader.{Reader}
+use Rattle.rules.specs.declared.Condition.the-variants.{Empty, Running, Waiting}
+
+module _ (sizes fetching : List ℕ) (r : Reader) where
+  -- an empty slot
+  pub holds-empty : (t : Bool) → r .condition ≡ Empty → t ≡ (eqb (r .file) 0 && (eqb (r .pace) 0 && eqb (r .position) 0)) → t ≡ readerHolds (among sizes fetching) r
+  unfolding readerHolds
+  holds-empty t e f = rw e f
+
+  -- a running reader
+  pub holds-running : (t : Bool) → r .condition ≡ Running → t ≡ readerPlaced (among sizes []) r → t ≡ readerHolds (among sizes fetching) r
+  unfolding readerHolds readerPlaced
+  holds-running t e f = rw e f
+
+  -- a waiting reader that is not in its place
+  pub holds-stop : (t : Bool) → r .condition ≡ Waiting → t ≡ readerPlaced (among sizes []) r → not t ≡ true → false ≡ readerHolds (among sizes fetching) r
+  unfolding readerHolds readerPlaced awaits
+  holds-stop t e f n = rw e (call-stop (readerPlaced (among sizes []) r) (awaits (among sizes fetching) r) t f n)
+
+  -- one that is
+  pub holds-waiting : (t q : Bool) → r .condition ≡ Waiting → t ≡ readerPlaced (among sizes []) r → not t ≡ false → q ≡ awaits (among sizes fetching) r
+      → q ≡ readerHolds (among sizes fetching) r
+  unfolding readerHolds readerPlaced awaits
+  holds-waiting t q e f n g = rw e (call-pass (readerPlaced (among sizes []) r) (awaits (among sizes fetching) r) t q f n g)
+
+  -- a reader in its place has a file below 8
+  pub placed-file : (t : Bool) → t ≡ readerPlaced (among sizes []) r → not t ≡ false → r .file < 8
+  unfolding readerPlaced
+  placed-file t e n =
+      let s : State = among sizes [] in
+      let all = passed (readerPlaced s r) (sym e ∙ not-false t n) in
+      let there : noFile s (r .file) ≡ false = not-true (noFile s (r .file)) (is-true (not (noFile s (r .file))) (and-first (not (noFile s (r .file))) _ all)) in
+      file-there s (r .file) there .0
+
+-- the test of a record looks at the sizes and the fetches alone
+holds-among : (s : State) (r : Reader) → readerHolds (among (s .sizes) (s .fetching)) r ≡ readerHolds s r
+unfolding readerHolds readerPlaced awaits
+holds-among s r = refl
+
+module _ (image sizes fetching : List ℕ) (h : FromImage image sizes fetching) (j : ℕ) (low : j < 16) where
+  -- the test of the record
+  record-holds : (r : Reader) (t : Bool) → r ≡ readerFrom (numbers image) j → t ≡ readerHolds (among sizes fetching) r
+      → t ≡ readerHolds (stateIn image) (readerFrom (numbers image) j)
+  record-holds r t e f = f ∙ rw (h .sizes-read, h .fetching-read, e) (holds-among (stateIn image) (readerFrom (numbers image) j))
+
+  -- the test of the condition's number
+  condition-holds : (n : ℕ) (t : Bool) → n ≡ numberAt 1 image (28 + 8 * j) → t ≡ within 0 2 n → t ≡ within 0 2 (readerNumber (numbers image) j 0)
+  condition-holds n t e f =
+      let start : 28 + 8 * j + 0 ≡ 28 + 8 * j = omega arith in
+      f ∙ ap (within 0 2) (e ∙ ap (numberAt 1 image) (sym start) ∙ sym (slot-at image j 0 low (omega arith)))
+
+  -- the condition is out of range
+  pub slot-stop : (n : ℕ) (t : Bool) → n ≡ numberAt 1 image (28 + 8 * j) → t ≡ within 0 2 n → not t ≡ true → false ≡ slotHolds (numbers image) j
+  unfolding slotHolds
+  slot-stop n t e f m = call-stop (within 0 2 (readerNumber (numbers image) j 0)) _ t (condition-holds n t e f) m
+
+  -- the record does not hold
+  pub slot-out : (r : Reader) (t : Bool) → r ≡ readerFrom (numbers image) j → t ≡ readerHolds (among sizes fetching) r → not t ≡ true → false ≡ slotHolds (numbers image) j
+  unfolding slotHolds
+  slot-out r t e f m = and-later (within 0 2 (readerNumber (numbers image) j 0)) _ (call-stop (readerHolds (stateIn image) (readerFrom (numbers image) j)) _ t (record-holds r t e f) m)
+
+  -- the 0 bytes are left
+  pub slot-last : (n o : ℕ) (r : Reader) (t u : Bool) → n ≡ numberAt 1 image (28 + 8 * j) → t ≡ within 0 2 n → not t ≡ false
+      → r ≡ readerFrom (numbers image) j → u ≡ readerHolds (among sizes fetching) r → not u ≡ false
+      → o ≡ numberAt 2 image (28 + 8 * j + 6) → eqb o 0 ≡ slotHolds (numbers image) j
+  unfolding slotHolds
+  slot-last n o r t u e f m g k l z =
+      call-pass (within 0 2 (readerNumber (numbers image) j 0)) _ t _ (condition-holds n t e f) m
+      (call-pass (readerHolds (stateIn image) (readerFrom (numbers image) j)) _ u _ (record-holds r u g k) l (ap (λ x. eqb x 0) (z ∙ sym (slot-at image j 4 low (omega arith)))))

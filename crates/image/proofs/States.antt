@@ -1,0 +1,83 @@
+-- The state that an image's numbers are of, read number by number. Assumes nothing.
+use mathlib.Core.Path.{_≡_, refl, sym, ap, _∙_}
+use mathlib.Core.List.{List, map}
+use Prim.Native.Nat.{ℕ, zero, suc, _+_, _*_, _≤_, _<_}
+use native.Mathlib.Omega.{arith}
+use lib.ListN.{length, getD, take, drop}
+use lib.Seq.{ext-getD}
+use Rattle.rules.specs.Lists.{range, each}
+use Rattle.rules.specs.Calls.{idle}
+use Rattle.rules.specs.Image.{layout, conditionOf, readerFrom, stateFrom}
+use Rattle.rules.proofs.Parts.{part-listed, length-listed, getD-listed}
+use Rattle.rules.proofs.Tables.{numbers-length}
+use Rattle.rules.proofs.Offsets.{setting-at, size-at, slot-at, cached-at, fetching-at}
+use Rattle.image.specs.Bytes.{numberAt, numberFrom, numbersAt, numbers, stateIn}
+use Rattle.rules.specs.declared.State.{State}
+use Rattle.rules.specs.declared.Reader.{Reader}
+use Rattle.rules.specs.declared.Condition.{Condition}
+use Rattle.rules.specs.declared.Condition.the-variants.{Waiting}
+
+-- a number above 1 stands for a waiting reader
+pub waiting-of : (n : ℕ) → (n ≡ 0 → ⊥) → (n ≡ 1 → ⊥) → Waiting ≡ conditionOf n
+waiting-of zero z o = absurd (z refl)
+waiting-of (suc zero) z o = absurd (o refl)
+waiting-of (suc (suc n)) z o = refl
+
+module _ (image : List ℕ) where
+  numbers-long : length (numbers image) ≡ 350
+  unfolding layout each
+  numbers-long = numbers-length (layout idle) image
+
+  -- numbers of one width that stand one after the other are those of the table
+  pub part-at : (w place o n : ℕ) → ((k : ℕ) → k < n → getD (numbers image) (o + k) 0 ≡ numberFrom w image place k) → o + n ≤ 350
+      → numbersAt w image place n ≡ take n (drop o (numbers image))
+  part-at w place o n at fits =
+      let f : ℕ → ℕ = numberFrom w image place in
+      let g : ℕ → ℕ = λ k. getD (numbers image) (o + k) 0 in
+      ext-getD 0 (map f (range 0 n)) (map g (range 0 n)) (length-listed f n ∙ sym (length-listed g n)) (λ k l.
+      let low : k < n = omega (arith, length-listed f n) in
+      getD-listed f n k 0 low ∙ sym (at k low) ∙ sym (getD-listed g n k 0 low))
+      ∙ sym (part-listed (numbers image) 0 o n (omega (arith, numbers-long)))
+
+  -- the record of a slot
+  pub reader-read : (condition : Condition) (j number file pace position : ℕ) → j < 16
+      → condition ≡ conditionOf number
+      → number ≡ numberAt 1 image (28 + 8 * j)
+      → file ≡ numberAt 1 image (28 + 8 * j + 1)
+      → pace ≡ numberAt 2 image (28 + 8 * j + 2)
+      → position ≡ numberAt 2 image (28 + 8 * j + 4)
+      → _≡_ {A = Reader} (record { condition = condition; file = file; pace = pace; position = position }) (readerFrom (numbers image) j)
+  reader-read condition j number file pace position l e e₀ e₁ e₂ e₃ =
+      let start : 28 + 8 * j + 0 ≡ 28 + 8 * j = omega arith in
+      let first = slot-at image j 0 l (omega arith) ∙ ap (numberAt 1 image) start in
+      λ i.
+      record {
+        condition = (e ∙ ap conditionOf (e₀ ∙ sym first)) i;
+        file = (e₁ ∙ sym (slot-at image j 1 l (omega arith))) i;
+        pace = (e₂ ∙ sym (slot-at image j 2 l (omega arith))) i;
+        position = (e₃ ∙ sym (slot-at image j 3 l (omega arith))) i;
+      }
+
+  -- the state
+  pub state-read : (frames turn look time : ℕ) (sizes : List ℕ) (readers : List Reader) (cached fetching : List ℕ)
+      → frames ≡ numberAt 2 image 0
+      → turn ≡ numberAt 1 image 2
+      → look ≡ numberAt 4 image 4
+      → time ≡ numberAt 4 image 8
+      → sizes ≡ numbersAt 2 image 12 8
+      → readers ≡ map (readerFrom (numbers image)) (range 0 16)
+      → cached ≡ numbersAt 8 image 160 128
+      → fetching ≡ numbersAt 8 image 1184 128
+      → _≡_ {A = State} (record { frames = frames; turn = turn; «look_ahead» = look; «fetch_time» = time; sizes = sizes; readers = readers; cached = cached; fetching = fetching }) (stateIn image)
+  unfolding stateFrom
+  state-read frames turn look time sizes readers cached fetching e₀ e₁ e₃ e₄ e₅ r c f = λ i.
+      record {
+        frames = (e₀ ∙ sym (setting-at image 0 (omega arith))) i;
+        turn = (e₁ ∙ sym (setting-at image 1 (omega arith))) i;
+        «look_ahead» = (e₃ ∙ sym (setting-at image 3 (omega arith))) i;
+        «fetch_time» = (e₄ ∙ sym (setting-at image 4 (omega arith))) i;
+        sizes = (e₅ ∙ part-at 2 12 5 8 (size-at image) (omega arith)) i;
+        readers = r i;
+        cached = (c ∙ part-at 8 160 94 128 (cached-at image) (omega arith)) i;
+        fetching = (f ∙ part-at 8 1184 222 128 (fetching-at image) (omega arith)) i;
+      }

@@ -1,0 +1,158 @@
+/* A small server over the quay box: two tablets dock, read their passage file and are taken off again.
+ *
+ * The link is played by a queue: a fetch asked for at one tick arrives at a later one, and one of them is lost on the way. When
+ * nobody waits for a page the box is asked what to fetch early. Half way the server stops, leaves the image in a file and comes
+ * back from it.
+ *
+ * usage: server IMAGE-FILE */
+#include <stdio.h>
+#include <stdlib.h>
+#include <string.h>
+
+#include "quay.h"
+
+enum { FILE_PAGES = 12, FRAMES = 4, PACE = 10, LINK_DELAY = 2, LINK_DEPTH = 8, LOSS_TICK = 11, STOP_TICK = 16, LAST_TICK = 100 };
+
+struct fetch {
+    unsigned file, page, due;
+};
+
+struct server {
+    uint8_t image[QUAY_IMAGE_SIZE];
+    struct fetch link[LINK_DEPTH];
+    unsigned on_link;
+};
+
+static void put(uint8_t *at, unsigned width, uint32_t value)
+{
+    for (unsigned i = 0; i < width; i++)
+        at[i] = (uint8_t)(value >> (8 * i));
+}
+
+/* A first image, by the layout: nothing docked, cached or in fetch. */
+static void start(struct server *s)
+{
+    memset(s, 0, sizeof *s);
+    put(s->image + QUAY_AT_FRAMES, 2, FRAMES);
+    put(s->image + QUAY_AT_LOOK_AHEAD, 4, 200);
+    put(s->image + QUAY_AT_FETCH_TIME, 4, 5);
+    put(s->image + QUAY_AT_SIZES, 2, FILE_PAGES);
+}
+
+static void show(unsigned tick, const char *what, uint64_t answer)
+{
+    printf("%3u  %-10s", tick, what);
+    if (quay_refused(answer))
+        printf(" refused: %u", (unsigned)answer);
+    else if (quay_has_page(answer))
+        printf(" %c file %u page %u", quay_letter(answer), quay_file(answer), quay_page(answer));
+    else
+        printf(" %c", quay_letter(answer));
+    printf("\n");
+}
+
+/* The box asks for a page: it goes on the link. */
+static void ask(struct server *s, unsigned tick, uint64_t answer)
+{
+    struct fetch f = {quay_file(answer), quay_page(answer), tick + LINK_DELAY};
+    s->link[s->on_link++] = f;
+}
+
+/* What the link brings at this tick; at one tick it loses it. */
+static void deliver(struct server *s, unsigned tick)
+{
+    unsigned left = 0;
+    for (unsigned i = 0; i < s->on_link; i++) {
+        struct fetch f = s->link[i];
+        if (f.due > tick)
+            s->link[left++] = f;
+        else if (tick == LOSS_TICK)
+            show(tick, "lost", quay_lost(s->image, sizeof s->image, f.file, f.page));
+        else
+            show(tick, "arrived", quay_arrive(s->image, sizeof s->image, f.file, f.page));
+    }
+    s->on_link = left;
+}
+
+/* A tablet asks for its next page. Returns whether it has its whole file. */
+static int serve(struct server *s, unsigned tick, unsigned slot)
+{
+    char what[16];
+    uint64_t answer = quay_read(s->image, sizeof s->image, slot);
+    if (answer == QUAY_READER_WAITS || answer == QUAY_SLOT_EMPTY)
+        return 0;
+    snprintf(what, sizeof what, "tablet %u", slot);
+    show(tick, what, answer);
+    if (quay_letter(answer) == QUAY_FETCH)
+        ask(s, tick, answer);
+    return quay_letter(answer) == QUAY_END;
+}
+
+static int keep(const struct server *s, const char *path)
+{
+    FILE *f = fopen(path, "wb");
+    if (!f)
+        return 0;
+    size_t n = fwrite(s->image, 1, sizeof s->image, f);
+    return fclose(f) == 0 && n == sizeof s->image;
+}
+
+/* Comes back from the file. What was on the link is lost with the process, so every open fetch is closed. */
+static int resume(struct server *s, const char *path)
+{
+    memset(s, 0, sizeof *s);
+    FILE *f = fopen(path, "rb");
+    if (!f)
+        return 0;
+    size_t n = fread(s->image, 1, sizeof s->image, f);
+    fclose(f);
+    if (n != sizeof s->image)
+        return 0;
+    for (unsigned page = 1; page <= FILE_PAGES; page++) {
+        uint64_t answer = quay_lost(s->image, sizeof s->image, 0, page);
+        if (answer == QUAY_BAD_IMAGE)
+            return 0;
+        if (answer != QUAY_NOT_IN_FETCH)
+            printf("     fetch of page %u closed\n", page);
+    }
+    return 1;
+}
+
+int main(int argc, char **argv)
+{
+    struct server s;
+    int done[2] = {0, 0};
+    if (argc != 2) {
+        fprintf(stderr, "usage: server IMAGE-FILE\n");
+        return 2;
+    }
+    start(&s);
+    show(0, "dock 0", quay_attach(s.image, sizeof s.image, 0, 0, PACE));
+    show(0, "dock 0", quay_attach(s.image, sizeof s.image, 0, 0, PACE));
+    for (unsigned tick = 1; tick < LAST_TICK && !(done[0] && done[1]); tick++) {
+        if (tick == 6)
+            show(tick, "dock 1", quay_attach(s.image, sizeof s.image, 1, 0, PACE));
+        if (tick == STOP_TICK) {
+            if (!keep(&s, argv[1]) || !resume(&s, argv[1])) {
+                fprintf(stderr, "server: the image could not be kept in %s\n", argv[1]);
+                return 1;
+            }
+            printf("     back from the file\n");
+        }
+        deliver(&s, tick);
+        for (unsigned slot = 0; slot < 2; slot++)
+            if (!done[slot] && serve(&s, tick, slot)) {
+                done[slot] = 1;
+                show(tick, slot ? "undock 1" : "undock 0", quay_detach(s.image, sizeof s.image, slot));
+            }
+        if (s.on_link == 0) {
+            uint64_t answer = quay_prefetch(s.image, sizeof s.image);
+            if (quay_letter(answer) == QUAY_FETCH) {
+                show(tick, "early", answer);
+                ask(&s, tick, answer);
+            }
+        }
+    }
+    show(LAST_TICK, "steal", quay_steal(s.image, sizeof s.image));
+    return done[0] && done[1] ? 0 : 1;
+}

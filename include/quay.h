@@ -1,0 +1,126 @@
+/* quay.h: the quay box, for a server in C.
+ *
+ * The box decides which page of a passage file keeps its frame in the shared cache and which page is fetched early. Its whole
+ * state is an image of QUAY_IMAGE_SIZE bytes that the caller owns. Each call below takes the image, carries the call out and
+ * leaves the image of the new state in the same buffer. There is no other state, nothing is allocated, and a call on one image
+ * does not touch another.
+ *
+ * Every call may be made with any numbers and any bytes. It is carried out, or refused under one number; a refusal leaves the
+ * buffer byte for byte as it was. Link with -lquay. */
+#ifndef QUAY_H
+#define QUAY_H
+
+#include <stddef.h>
+#include <stdint.h>
+
+#ifdef __cplusplus
+extern "C" {
+#endif
+
+/* ---- the image ---------------------------------------------------------------------------------------------------------
+ *
+ * Little-endian. A first image (no readers, no pages, no fetches) is QUAY_IMAGE_SIZE zero bytes with frames, look-ahead, fetch
+ * time and sizes filled in.
+ *
+ *   offset  bytes  what                                                     in range
+ *        0      2  frames                                                   1 to 1,024
+ *        2      1  turn                                                     0 to 15
+ *        3      1  0
+ *        4      4  look-ahead L, ticks                                      1 to 2,000,000
+ *        8      4  fetch time T, ticks                                      0 to 2,000,000
+ *       12    8x2  sizes of the files 0 to 7, pages (0: no such file)       0 to 1,024
+ *       28   16x8  readers: condition (0 empty, 1 running, 2 waiting), file, pace (2), position (2), 0 (2)
+ *      156      4  0
+ *      160   1024  cached pages, 128 bytes a file, page 1 in the lowest bit of the first
+ *     1184   1024  pages in fetch, likewise
+ */
+#define QUAY_IMAGE_SIZE 2208
+#define QUAY_AT_FRAMES 0
+#define QUAY_AT_TURN 2
+#define QUAY_AT_LOOK_AHEAD 4
+#define QUAY_AT_FETCH_TIME 8
+#define QUAY_AT_SIZES 12
+#define QUAY_AT_READERS 28
+#define QUAY_AT_CACHED 160
+#define QUAY_AT_FETCHING 1184
+
+/* ---- refusals -----------------------------------------------------------------------------------------------------------
+ * Where several apply, the one that stands first at the call below is given. */
+#define QUAY_NO_SLOT 2          /* slot above 15 */
+#define QUAY_NO_FILE 3          /* file above 7 or of size 0 */
+#define QUAY_BAD_PACE 4         /* pace not 1 to 1,000 */
+#define QUAY_SLOT_TAKEN 5       /* slot not empty */
+#define QUAY_SLOT_EMPTY 6       /* slot empty */
+#define QUAY_READER_WAITS 7     /* reader waiting */
+#define QUAY_NO_PAGE 8          /* page 0 or above the size */
+#define QUAY_NOT_IN_FETCH 9     /* page not in fetch */
+#define QUAY_FETCH_OPEN 10      /* a page is in fetch */
+#define QUAY_TOO_MANY_TURNS 11  /* turns above 16,384 */
+#define QUAY_BAD_IMAGE 13       /* another length than QUAY_IMAGE_SIZE, or no image of the box; tested first by every call */
+
+/* ---- answers ------------------------------------------------------------------------------------------------------------
+ * A refusal's number is below 65,536. Any other answer has a letter, and some name a page. Run's answer has no letter but two
+ * counts. */
+#define QUAY_DONE 'O'     /* attach, detach, lost: done */
+#define QUAY_HIT 'H'      /* read: the page was cached, and is read */
+#define QUAY_WAIT 'W'     /* read: the page is in fetch; the reader waits for it */
+#define QUAY_FETCH 'F'    /* read, prefetch: fetch this page now; a reader that asked waits for it */
+#define QUAY_END 'Z'      /* read: the reader has read its whole file */
+#define QUAY_NOTHING 'U'  /* steal: nothing is cached; prefetch: nothing to fetch */
+#define QUAY_STOLEN 'S'   /* steal: this page was dropped */
+#define QUAY_ARRIVED 'I'  /* arrive: the page is cached; the page that was dropped for it, if any */
+
+static inline int quay_refused(uint64_t answer) { return answer < 65536; }
+
+/* The letter of an answer that is neither a refusal nor Run's. */
+static inline char quay_letter(uint64_t answer) { return (char)(answer >> 16); }
+
+/* Does the answer name a page? If so, its file and its page, which counts from 1. */
+static inline int quay_has_page(uint64_t answer) { return (answer & 0xffff) != 0; }
+static inline unsigned quay_file(uint64_t answer) { return (unsigned)(((answer & 0xffff) - 1) / 1024); }
+static inline unsigned quay_page(uint64_t answer) { return (unsigned)(((answer & 0xffff) - 1) % 1024 + 1); }
+
+/* The counts of Run's answer. */
+static inline unsigned quay_fetches(uint64_t answer) { return (unsigned)(answer >> 16 & 0xffff); }
+static inline unsigned quay_reads(uint64_t answer) { return (unsigned)(answer & 0xffff); }
+
+/* ---- the calls ----------------------------------------------------------------------------------------------------------
+ * Each takes the image and its length, which must be QUAY_IMAGE_SIZE. */
+
+/* A tablet docks: the empty slot holds a reader of the file, at position 0, with that pace in ticks a page.
+ * QUAY_DONE. Refusals: 13, 2, 3, 4, 5. */
+uint64_t quay_attach(uint8_t *image, size_t length, uint64_t slot, uint64_t file, uint64_t pace);
+
+/* The tablet is taken off; a fetch that it waited for stays open.
+ * QUAY_DONE. Refusals: 13, 2, 6. */
+uint64_t quay_detach(uint8_t *image, size_t length, uint64_t slot);
+
+/* The reader in the slot asks for its next page.
+ * QUAY_END, or QUAY_HIT, QUAY_WAIT or QUAY_FETCH with the page. Refusals: 13, 2, 6, 7. */
+uint64_t quay_read(uint8_t *image, size_t length, uint64_t slot);
+
+/* A page that was in fetch has come: it is cached, in the frame of another page if none is free, and its waiters run.
+ * QUAY_ARRIVED, with the page dropped for it, if any. Refusals: 13, 3, 8, 9. */
+uint64_t quay_arrive(uint8_t *image, size_t length, uint64_t file, uint64_t page);
+
+/* A fetch has failed: it is closed, and its waiters run, so that their next read asks for the page again.
+ * QUAY_DONE. Refusals: 13, 3, 8, 9. */
+uint64_t quay_lost(uint8_t *image, size_t length, uint64_t file, uint64_t page);
+
+/* The link is idle: which page is worth fetching early?
+ * QUAY_FETCH with the page, or QUAY_NOTHING. Refusal: 13. */
+uint64_t quay_prefetch(uint8_t *image, size_t length);
+
+/* A frame is wanted back: the page that is needed last is dropped.
+ * QUAY_STOLEN with the page, or QUAY_NOTHING. Refusal: 13. */
+uint64_t quay_steal(uint8_t *image, size_t length);
+
+/* So many turns at once, each the next slot's read with its fetch, if it needs one, made on the spot.
+ * 4,294,967,296 + fetches x 65,536 + reads: take it apart by quay_fetches and quay_reads. Refusals: 13, 11, 10. */
+uint64_t quay_run(uint8_t *image, size_t length, uint64_t turns);
+
+#ifdef __cplusplus
+}
+#endif
+
+#endif
