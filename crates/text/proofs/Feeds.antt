@@ -1,0 +1,263 @@
+-- Cutting depends on the bytes alone: however an input comes in chunks, its lines and their answers are the same. Assumes nothing.
+use Prim.Native.Nat.{ℕ, suc, _+_, _<_, _≤_}
+use Prim.Native.Char.{code as ascii}
+use mathlib.Core.Path.{_≡_, refl, sym, _∙_, ap}
+use mathlib.Core.Bool.{true, false}
+use mathlib.Core.List.{List, [], _∷_, _++_, append-assoc, append-nil}
+use native.Mathlib.Omega.{arith}
+use borrow.Author.Tests.{lt-leb, ltb-true, ltb-false, eq-eqb, ne-eqb}
+use lib.ListN.{length, drop}
+use lib.Seq.{drop-drop}
+use lib.Dec.{eqb}
+use Rattle.rules.specs.Lists.{each}
+use Rattle.rules.specs.Calls.{refused}
+use Rattle.rules.specs.Lines.{split, wellFormed, told, respondOf, linesOf, answers, programOf}
+use Rattle.rules.specs.declared.State.{State}
+use Rattle.text.specs.Commands.{firstPiece}
+use Rattle.text.specs.Cuts.{lineIn, hasEnd}
+use Rattle.text.specs.Streams.{complete, rest, stateAfter, Fed, obeying, answered, feed, feedAll, unfed, outputOf}
+use Rattle.text.proofs.Pieces.{by-test, onto, onto-onto, onto-none, split-some, split-at, split-on, first-on}
+
+-- ---- the pieces of two inputs, one after the other
+
+complete-more : (x : List ℕ) (sep : ℕ) (l : List ℕ) → complete (x ∷ split sep l) ≡ x ∷ complete (split sep l)
+unfolding complete
+complete-more x sep l = rw (split-some sep l)
+
+rest-more : (x : List ℕ) (sep : ℕ) (l : List ℕ) → rest (x ∷ split sep l) ≡ rest (split sep l)
+unfolding rest
+rest-more x sep l = rw (split-some sep l)
+
+onto-join : (b : ℕ) (piece : List ℕ) (pieces others : List (List ℕ))
+    → onto (b ∷ []) (complete (piece ∷ pieces) ++ onto (rest (piece ∷ pieces)) others)
+    ≡ complete ((b ∷ piece) ∷ pieces) ++ onto (rest ((b ∷ piece) ∷ pieces)) others
+unfolding complete rest
+onto-join b piece [] others = onto-onto (b ∷ []) piece others
+onto-join b piece (next ∷ pieces) others = refl
+
+-- the rest of the first input goes to the front of the second
+pub split-join : (sep : ℕ) (a b : List ℕ) → split sep (a ++ b) ≡ complete (split sep a) ++ onto (rest (split sep a)) (split sep b)
+unfolding split complete rest
+split-join sep [] b = sym (onto-none sep b)
+split-join sep (x ∷ xs) b =
+    by-test (eqb x sep)
+    (λ e. split-at sep x (xs ++ b) e ∙ ap (λ ps. [] ∷ ps) (split-join sep xs b) ∙ rw (split-at sep x xs e, complete-more, rest-more))
+    (λ e.
+    split-on sep x (xs ++ b) e
+    ∙ ap (onto (x ∷ [])) (split-join sep xs b)
+    ∙ rw (split-on sep x xs e, split-some sep xs) (onto-join x (firstPiece sep xs) (drop 1 (split sep xs)) (split sep b)))
+
+-- a text without a separator is one piece
+abbrev pub OnePiece : ℕ → List ℕ → Type 0
+OnePiece sep text = split sep text ≡ text ∷ []
+
+-- such a text goes to the front of what follows
+pub one-join : (sep : ℕ) (text b : List ℕ) → OnePiece sep text → split sep (text ++ b) ≡ onto text (split sep b)
+unfolding complete rest
+one-join sep text b e = split-join sep text b ∙ rw e
+
+one-on : (sep b : ℕ) (piece : List ℕ) (pieces : List (List ℕ)) → eqb b sep ≡ false → OnePiece sep (rest (piece ∷ pieces))
+    → OnePiece sep (rest ((b ∷ piece) ∷ pieces))
+unfolding rest
+one-on sep b piece [] e h = split-on sep b piece e ∙ rw h
+one-on sep b piece (next ∷ pieces) e h = h
+
+-- the rest is such a text
+pub rest-one : (sep : ℕ) (l : List ℕ) → OnePiece sep (rest (split sep l))
+unfolding split rest
+rest-one sep [] = refl
+rest-one sep (b ∷ bs) =
+    by-test (eqb b sep)
+    (λ e. rw (split-at sep b bs e, rest-more) (rest-one sep bs))
+    (λ e.
+    rw (split-on sep b bs e, split-some sep bs)
+    (one-on sep b (firstPiece sep bs) (drop 1 (split sep bs)) e (rw (split-some sep bs) at (rest-one sep bs))))
+
+-- what takes a piece that others follow as it is, takes all such pieces so
+front-append : (f : List (List ℕ) → List (List ℕ)) → ((x y : List ℕ) (ys : List (List ℕ)) → f (x ∷ (y ∷ ys)) ≡ x ∷ f (y ∷ ys))
+    → (xs : List (List ℕ)) (p : List ℕ) (ps : List (List ℕ)) → f (xs ++ p ∷ ps) ≡ xs ++ f (p ∷ ps)
+front-append f step [] p ps = refl
+front-append f step (x ∷ []) p ps = step x p ps
+front-append f step (x ∷ (y ∷ ys)) p ps = step x y (ys ++ p ∷ ps) ∙ ap (λ zs. x ∷ zs) (front-append f step (y ∷ ys) p ps)
+
+complete-append : (xs : List (List ℕ)) (p : List ℕ) (ps : List (List ℕ)) → complete (xs ++ p ∷ ps) ≡ xs ++ complete (p ∷ ps)
+unfolding complete
+complete-append = front-append complete (λ x y ys. refl)
+
+lines-append : (xs : List (List ℕ)) (p : List ℕ) (ps : List (List ℕ)) → linesOf (xs ++ p ∷ ps) ≡ xs ++ linesOf (p ∷ ps)
+unfolding linesOf
+lines-append = front-append linesOf (λ x y ys. refl)
+
+rest-append : (xs : List (List ℕ)) (p : List ℕ) (ps : List (List ℕ)) → rest (xs ++ p ∷ ps) ≡ rest (p ∷ ps)
+unfolding rest
+rest-append [] p ps = refl
+rest-append (x ∷ []) p ps = refl
+rest-append (x ∷ (y ∷ ys)) p ps = rest-append (y ∷ ys) p ps
+
+module _ (sep : ℕ) (a b : List ℕ) where
+  -- the pieces of a whole are the complete ones of its first part, then those of the rest with the second part behind it
+  pub split-two : split sep (a ++ b) ≡ complete (split sep a) ++ split sep (rest (split sep a) ++ b)
+  split-two = split-join sep a b ∙ rw (one-join sep (rest (split sep a)) b (rest-one sep a))
+
+  two : split sep (a ++ b) ≡ complete (split sep a) ++ firstPiece sep (rest (split sep a) ++ b) ∷ drop 1 (split sep (rest (split sep a) ++ b))
+  two = split-two ∙ ap (λ ps. complete (split sep a) ++ ps) (split-some sep (rest (split sep a) ++ b))
+
+  -- so are the complete pieces
+  pub complete-two : complete (split sep (a ++ b)) ≡ complete (split sep a) ++ complete (split sep (rest (split sep a) ++ b))
+  complete-two = rw (two, complete-append, ← split-some)
+
+  -- the rest of a whole
+  pub rest-two : rest (split sep (a ++ b)) ≡ rest (split sep (rest (split sep a) ++ b))
+  rest-two = rw (two, rest-append, ← split-some)
+
+  -- the lines of a whole are the complete lines of its first part, then those of the rest with the second part behind it
+  pub lines-two : linesOf (split sep (a ++ b)) ≡ complete (split sep a) ++ linesOf (split sep (rest (split sep a) ++ b))
+  lines-two = rw (two, lines-append, ← split-some)
+
+-- ---- lines one after the other
+
+-- the answers to more lines
+pub answers-append : (s : State) (xs ys : List (List ℕ)) → answers s (xs ++ ys) ≡ answers s xs ++ answers (stateAfter s xs) ys
+unfolding answers stateAfter
+answers-append s [] ys = refl
+answers-append s (x ∷ xs) ys = rw (answers-append (respondOf s x .state) xs ys, append-assoc)
+
+-- the state after more lines
+pub state-append : (s : State) (xs ys : List (List ℕ)) → stateAfter s (xs ++ ys) ≡ stateAfter (stateAfter s xs) ys
+unfolding stateAfter
+state-append s [] ys = refl
+state-append s (x ∷ xs) ys = state-append (respondOf s x .state) xs ys
+
+obeying-two : (f : Fed) (xs ys : List (List ℕ)) (t u : List ℕ) → obeying (obeying f xs t) ys u ≡ obeying f (xs ++ ys) u
+obeying-two f xs ys t u = rw (state-append, answers-append, append-assoc)
+
+-- ---- chunks one after the other
+
+-- two chunks, or both in one
+pub feed-two : (f : Fed) (a b : List ℕ) → feed (feed f a) b ≡ feed f (a ++ b)
+unfolding feed
+feed-two f a b =
+    rw (← append-assoc (f .text) a b, complete-two (ascii "\n") (f .text ++ a) b, rest-two (ascii "\n") (f .text ++ a) b)
+    (obeying-two f (complete (split (ascii "\n") (f .text ++ a))) _ [] _)
+
+-- what the output will be if so many more bytes are all that comes
+wholeOutput : Fed → List ℕ → List ℕ
+wholeOutput f more = f .output ++ answers (f .state) (linesOf (split (ascii "\n") (f .text ++ more)))
+
+whole-feed : (f : Fed) (a b : List ℕ) → wholeOutput (feed f a) b ≡ wholeOutput f (a ++ b)
+unfolding feed wholeOutput
+whole-feed f a b =
+    append-assoc (f .output) _ _
+    ∙ ap (λ out. f .output ++ out)
+    (sym (answers-append (f .state) (complete (split (ascii "\n") (f .text ++ a))) _)
+    ∙ ap (answers (f .state)) (sym (lines-two (ascii "\n") (f .text ++ a) b) ∙ rw append-assoc))
+
+whole-feeds : (f : Fed) (chunks : List (List ℕ)) → wholeOutput (feedAll f chunks) [] ≡ wholeOutput f (each (λ c. c) chunks)
+unfolding feedAll each
+whole-feeds f [] = refl
+whole-feeds f (chunk ∷ chunks) = whole-feeds (feed f chunk) chunks ∙ whole-feed f chunk (each (λ c. c) chunks)
+
+-- the text that is kept holds no line end
+pub feed-one : (f : Fed) (chunk : List ℕ) → OnePiece (ascii "\n") (feed f chunk .text)
+unfolding feed
+feed-one f chunk = rest-one (ascii "\n") (f .text ++ chunk)
+
+feeds-one : (f : Fed) (chunks : List (List ℕ)) → OnePiece (ascii "\n") (f .text) → OnePiece (ascii "\n") (feedAll f chunks .text)
+unfolding feedAll
+feeds-one f [] e = e
+feeds-one f (chunk ∷ chunks) e = feeds-one (feed f chunk) chunks (feed-one f chunk)
+
+whole-none : (f : Fed) → OnePiece (ascii "\n") (f .text) → wholeOutput f [] ≡ outputOf f
+unfolding wholeOutput outputOf
+whole-none f e = rw (append-nil, e)
+
+whole-all : (input : List ℕ) → wholeOutput unfed input ≡ programOf input
+unfolding wholeOutput programOf
+whole-all input = refl
+
+-- no text is one piece
+pub none-one : (sep : ℕ) → OnePiece sep []
+unfolding split
+none-one sep = refl
+
+-- however the input comes in chunks, the output is the program's for the whole
+pub fed-whole : (chunks : List (List ℕ)) → outputOf (feedAll unfed chunks) ≡ programOf (each (λ c. c) chunks)
+fed-whole chunks =
+    sym (whole-none (feedAll unfed chunks) (feeds-one unfed chunks (none-one (ascii "\n"))))
+    ∙ whole-feeds unfed chunks
+    ∙ whole-all (each (λ c. c) chunks)
+
+-- ---- a chunk line by line
+
+-- no byte changes nothing
+pub feed-none : (f : Fed) → OnePiece (ascii "\n") (f .text) → feed f [] ≡ f
+unfolding feed complete rest stateAfter answers
+feed-none f e = rw (append-nil (f .text), e, append-nil)
+
+ended-on : (sep b : ℕ) (bs : List ℕ) → eqb b sep ≡ false → (others : List (List ℕ)) → split sep bs ≡ firstPiece sep bs ∷ others → split sep (b ∷ bs) ≡ firstPiece sep (b ∷ bs) ∷ others
+ended-on sep b bs e others h = split-on sep b bs e ∙ rw (h, first-on sep b bs e)
+
+on-count : (sep b : ℕ) (bs : List ℕ) → eqb b sep ≡ false → length (split sep (b ∷ bs)) ≡ length (split sep bs)
+on-count sep b bs e = rw (split-on sep b bs e, split-some sep bs)
+
+at-count : (sep b : ℕ) (bs : List ℕ) → eqb b sep ≡ true → 2 ≤ length (split sep (b ∷ bs))
+at-count sep b bs e = rw (split-at sep b bs e, split-some sep bs) (omega arith)
+
+-- the bytes after the first separator
+pub split-ended : (sep : ℕ) (l : List ℕ) → 1 < length (split sep l) → split sep l ≡ firstPiece sep l ∷ split sep (drop (suc (length (firstPiece sep l))) l)
+unfolding split
+split-ended sep [] h = absurd (omega arith)
+split-ended sep (b ∷ bs) h =
+    by-test (eqb b sep)
+    (λ e. split-at sep b bs e ∙ rw (split-at sep b bs e))
+    (λ e.
+    let more : 1 < length (split sep bs) = rw (on-count sep b bs e) at h in
+    ended-on sep b bs e _ (split-ended sep bs more) ∙ rw (first-on sep b bs e))
+
+-- with no separator there is one piece, all of it
+pub split-whole : (sep : ℕ) (l : List ℕ) → length (split sep l) ≤ 1 → OnePiece sep l
+unfolding split
+split-whole sep [] h = refl
+split-whole sep (b ∷ bs) h =
+    by-test (eqb b sep)
+    (λ e. let z : ⊥ = omega (arith, at-count sep b bs e, h) in absurd z)
+    (λ e. split-on sep b bs e ∙ rw (split-whole sep bs (rw (on-count sep b bs e) at h)))
+
+-- a chunk with a line end: the line is answered, and the bytes after it are left
+pub feed-line : (f : Fed) (chunk : List ℕ) (from : ℕ) → OnePiece (ascii "\n") (f .text) → hasEnd (drop from chunk) ≡ true
+    → feed f (drop from chunk) ≡ feed (answered f (f .text ++ lineIn (drop from chunk))) (drop (from + length (lineIn (drop from chunk)) + 1) chunk)
+unfolding feed stateAfter answers
+feed-line f chunk from e h =
+    let r = drop from chunk in
+    let n = length (lineIn r) in
+    let line = f .text ++ lineIn r in
+    let sums : from + suc n ≡ from + n + 1 = omega arith in
+    let place : drop (suc n) r ≡ drop (from + n + 1) chunk = drop-drop (suc n) from chunk ∙ rw sums in
+    let pieces : split (ascii "\n") (f .text ++ r) ≡ line ∷ split (ascii "\n") (drop (from + n + 1) chunk)
+    = one-join (ascii "\n") (f .text) r e ∙ ap (onto (f .text)) (split-ended (ascii "\n") r (ltb-true _ _ h)) ∙ rw place in
+    rw (pieces, complete-more, rest-more)
+    (sym (obeying-two f (line ∷ []) (complete (split (ascii "\n") (drop (from + n + 1) chunk))) [] (rest (split (ascii "\n") (drop (from + n + 1) chunk)))))
+
+-- a chunk without one: its bytes go behind the text
+pub feed-part : (f : Fed) (chunk : List ℕ) → OnePiece (ascii "\n") (f .text) → hasEnd chunk ≡ false → feed f chunk ≡ record { state = f .state; text = f .text ++ lineIn chunk; output = f .output }
+unfolding feed complete rest stateAfter answers
+feed-part f chunk e h =
+    let one = split-whole (ascii "\n") chunk (ltb-false _ _ h) in
+    rw (one-join (ascii "\n") (f .text) chunk e, one, append-nil)
+
+-- at the end, with no text
+pub output-none : (f : Fed) → length (f .text) ≡ 0 → outputOf f ≡ f .output
+unfolding outputOf linesOf answers
+output-none f e = rw (eq-eqb _ _ e, append-nil)
+
+-- at the end, with a text: it is one last line
+pub output-last : (f : Fed) → (length (f .text) ≡ 0 → ⊥) → outputOf f ≡ answered f (f .text) .output
+unfolding outputOf linesOf answers
+output-last f n = rw (ne-eqb _ _ n)
+
+-- ---- long lines
+
+-- a line of more than 200 bytes is refused, whatever its bytes
+pub long-refused : (s : State) (line : List ℕ) → 200 < length line → respondOf s line ≡ told (refused s 14)
+unfolding respondOf wellFormed
+long-refused s line h = rw (lt-leb _ _ h)

@@ -1,0 +1,4 @@
+pub mod Commands
+pub mod Written
+pub mod Cuts
+pub mod Streams
