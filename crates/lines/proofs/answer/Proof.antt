@@ -1,0 +1,53 @@
+use mathlib.Core.Path.{_≡_, sym}
+use native.Mathlib.Omega.{arith}
+use lib.ListN.{length}
+use lib.Seq.{length-take-le}
+use borrow.Author.Needs.{needs}
+use Rattle.lines.proofs.Stands.{answers-long, answers-short}
+use Rattle.lines.proofs.answer.Statement.{statement}
+use Rattle.lines.proofs.answer.Tie as tie
+
+refuse-requires : tie.Need-refuse-requires
+refuse-requires c κs = search needs
+
+same-length : tie.Need-same-length
+same-length c = search needs
+
+returns : tie.Need-returns
+returns c =
+    let s = c .before .before .before .before .before .before in
+    answers-long _ (s .args .p) _ _ _ (s .pre .0) (search needs) (search needs) (c .before .before .before .before .if1 .taken) (c .before .before .refuse .ensures)
+
+array-share-prefix-bytes : tie.Need-array-share-prefix-bytes
+array-share-prefix-bytes c =
+    let full : length (c .before .before .before .args .p .bytes) ≡ 200 = search needs in
+    omega arith
+
+slice-aggregate-respond : tie.Need-slice-aggregate-respond
+slice-aggregate-respond c =
+    let full : length (c .before .before .before .before .args .p .bytes) ≡ 200 = search needs in
+    sym (length-take-le _ _ (omega arith))
+
+respond-requires : tie.Need-respond-requires
+respond-requires c κs = search needs
+
+same-length-2 : tie.Need-same-length-2
+same-length-2 c = search needs
+
+returns-2 : tie.Need-returns-2
+returns-2 c =
+    let s = c .before .before .before .before .before .before .before .before in
+    answers-short _ (s .args .p) _ _ _ (s .pre .0) (search needs) (search needs) (c .before .before .before .before .before .before .if1 .left) (c .before .before .respond .ensures)
+
+pub answer-spec : {M : Type 1} → statement M
+answer-spec =
+    tie.close
+    (tie.spec
+    refuse-requires
+    same-length
+    returns
+    array-share-prefix-bytes
+    slice-aggregate-respond
+    respond-requires
+    same-length-2
+    returns-2)

@@ -1,0 +1,52 @@
+-- A line's answer in a buffer. Assumes nothing: these are definitions.
+use Prim.Native.Nat.{ℕ, _≤_}
+use Prim.Native.Char.{code as ascii}
+use mathlib.Core.Path.{_≡_}
+use mathlib.Core.Bool.{Bool, true, false, cond}
+use mathlib.Core.List.{List, [], _∷_, _++_}
+use lib.ListN.{length, take}
+use Rattle.rules.specs.Pages.{fileOf, pageOf, clusters}
+use Rattle.rules.specs.Orders.{stealOrder, fetchOrder}
+use Rattle.rules.specs.Calls.{noFile, refused}
+use Rattle.rules.specs.Lines.{clustersLine, Response, told, shown}
+use Rattle.rules.specs.declared.State.{State}
+use Rattle.rules.specs.declared.Listing.{Listing}
+use Rattle.rules.specs.declared.Listing.the-variants.{Count, Declined}
+use Rattle.text.specs.Written.{Put}
+use Rattle.lines.specs.declared.Answered.{Answered}
+
+-- the longest answer, that of 8,192 pairs, has 57,351 bytes with its line end
+abbrev pub Roomy : List ℕ → Type 0
+Roomy buffer = 65536 ≤ length buffer
+
+-- behind every answer line
+abbrev pub lineEnd : List ℕ
+lineEnd = ascii "\n" ∷ []
+
+-- a key as the numbers of its file and its page
+abbrev pub pairOf : ℕ → List ℕ
+pairOf k = fileOf k ∷ pageOf k ∷ []
+
+-- the count of what a call wrote into a lent list; 0 where it was refused
+abbrev pub countIn : Listing → ℕ
+countIn (Count n) = n
+countIn (Declined number) = 0
+
+-- a response given: its state, and its line with the line end at the front of a buffer, all else of which stays
+pub record Gives (response : Response) (before after : List ℕ) (a : Answered) : Type 0 where
+  pub state : a .state ≡ response .state
+  pub line : Put before 0 (response .line ++ lineEnd) after (a .len)
+
+-- the steal order or the fetch order
+abbrev pub orderOf : Bool → State → List ℕ
+orderOf true s = stealOrder s
+orderOf false s = fetchOrder s
+
+-- the first n of a list are these numbers
+pub record Front (numbers list : List ℕ) (n : ℕ) : Type 0 where
+  pub room : n ≤ length list
+  pub is : take n list ≡ numbers
+
+-- what Clusters answers
+abbrev pub clustersShown : State → ℕ → Response
+clustersShown s file = cond (noFile s file) (told (refused s 3)) (shown s (clustersLine (clusters s file)))

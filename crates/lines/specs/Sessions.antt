@@ -1,0 +1,72 @@
+-- The program's input in chunks, step by step. Assumes nothing: these are definitions.
+use Prim.Native.Nat.{ℕ, _+_, _≤_, _<_}
+use mathlib.Core.Path.{_≡_}
+use mathlib.Core.Bool.{cond}
+use mathlib.Core.List.{List, [], _∷_, _++_}
+use lib.ListN.{length, drop}
+use Rattle.rules.specs.Valid.{Valid}
+use Rattle.rules.specs.Lines.{respondOf, linesOf, answers}
+use Rattle.rules.specs.declared.State.{State}
+use Rattle.text.specs.Written.{Put}
+use Rattle.text.specs.Cuts.{StandsFor, lineIn, hasEnd, passed}
+use Rattle.text.specs.Streams.{Fed, answered, feed}
+use Rattle.text.specs.declared.Pending.{Pending}
+use Rattle.text.proofs.Chunks.{Holds}
+use Rattle.lines.specs.Responses.{lineEnd, Gives}
+use Rattle.lines.specs.declared.Answered.{Answered}
+use Rattle.lines.specs.declared.Session.{Session}
+use Rattle.lines.specs.declared.Stepped.{Stepped}
+
+-- a session stands for the program after some input
+pub record StandsAt (session : Session) (f : Fed) : Type 0 where
+  pub state : session .state ≡ f .state
+  pub text : Holds (session .pending) f
+
+-- a pending text answered as a line, whatever text it stands for
+pub record Answers (s : State) (p : Pending) (before after : List ℕ) (a : Answered) : Type 0 where
+  pub gives : (text : List ℕ) → StandsFor p text → Gives (respondOf s text) before after a
+  pub fits : a .len ≤ length before
+  pub valid : Valid (a .state)
+
+-- the program after a step from a place of a chunk: the line that ends is answered; where none does, the bytes go behind the text
+unfoldable pub stepOf : Fed → List ℕ → ℕ → Fed
+stepOf f chunk from =
+    cond (hasEnd (drop from chunk)) (answered f (f .text ++ lineIn (drop from chunk)))
+    (record { state = f .state; text = f .text ++ lineIn (drop from chunk); output = f .output })
+
+-- what a step adds to the output
+unfoldable pub addedBy : Fed → List ℕ → ℕ → List ℕ
+addedBy f chunk from = cond (hasEnd (drop from chunk)) (respondOf (f .state) (f .text ++ lineIn (drop from chunk)) .line ++ lineEnd) []
+
+-- a step from a place of a chunk, with its answer, if any, at the front of a buffer
+pub record Steps (session : Session) (chunk : List ℕ) (from : ℕ) (before after : List ℕ) (r : Stepped) : Type 0 where
+  pub next : r .next ≡ from + length (lineIn (drop from chunk)) + passed (hasEnd (drop from chunk))
+  pub stands : (f : Fed) → StandsAt session f → StandsAt (r .session) (stepOf f chunk from)
+  pub put : (f : Fed) → StandsAt session f → Put before 0 (addedBy f chunk from) after (r .len)
+  pub fits : r .len ≤ length before
+  pub valid : Valid (r .session .state)
+
+-- from one program to another: the output has grown by the bytes put, and the rest of the chunk is still to be fed
+pub record Grown (f : Fed) (chunk : List ℕ) (from : ℕ) (before after : List ℕ) (r : Stepped) : Type 0 where
+  pub to : Fed
+  pub added : List ℕ
+  pub stands : StandsAt (r .session) to
+  pub output : to .output ≡ f .output ++ added
+  pub put : Put before 0 added after (r .len)
+  pub rest : feed f (drop from chunk) ≡ feed to (drop (r .next) chunk)
+
+-- steps from a place of a chunk on
+pub record Feeds (session : Session) (chunk : List ℕ) (from : ℕ) (before after : List ℕ) (r : Stepped) : Type 0 where
+  pub grown : (f : Fed) → StandsAt session f → Grown f chunk from before after r
+  pub on : from < length chunk → from < r .next
+  pub fits : r .len ≤ length before
+  pub valid : Valid (r .session .state)
+
+-- what is answered at the end of the input: a text that is not empty is one last line
+unfoldable pub lastOf : Fed → List ℕ
+lastOf f = answers (f .state) (linesOf (f .text ∷ []))
+
+-- it is put at the front of a buffer
+pub record Finishes (session : Session) (before after : List ℕ) (len : ℕ) : Type 0 where
+  pub put : (f : Fed) → StandsAt session f → Put before 0 (lastOf f) after len
+  pub fits : len ≤ length before
