@@ -1,13 +1,21 @@
 PREFIX ?= /usr/local
 LIB = target/lib
+QUAY = target/bin/quay
 
-.PHONY: run test lib bench install
+# what `make run` reads: a file, or - for the terminal or a pipe
+INPUT ?= examples/handover.txt
 
-run:
-	@echo 'The program quay is not here yet: this repository holds the box, proved, with its C entries. Try: make test'
+.PHONY: run test program lib bench install
+
+run: program
+	@cat $(INPUT) | $(QUAY)
 
 test:
 	@scripts/test
+
+# the program, in target/bin
+program:
+	@scripts/prove quay
 
 # the archive and the header for a server in C, in target/lib
 lib:
@@ -17,12 +25,15 @@ lib:
 	@cp include/quay.h $(LIB)/quay.h
 	@echo '$(LIB) has libquay.a and quay.h'
 
-# the C entries beside the checker's quick version, in one run
-bench: lib
-	@cd checker && QUAY_LIB=../$(LIB) cargo run --offline --quiet --release --features box --bin bench
+# the C entries and the program beside the checker's own, in one run
+bench: lib program
+	@cd checker && cargo build --offline --quiet --release --bin lines
+	@cd checker && QUAY_LIB=../$(LIB) QUAY_PROGRAM=../$(QUAY) cargo run --offline --quiet --release --features box --bin bench
 
-install: lib
-	install -d $(DESTDIR)$(PREFIX)/lib/pkgconfig $(DESTDIR)$(PREFIX)/include
+install: lib program
+	install -d $(DESTDIR)$(PREFIX)/bin $(DESTDIR)$(PREFIX)/lib/pkgconfig $(DESTDIR)$(PREFIX)/include $(DESTDIR)$(PREFIX)/share/man/man1
+	install -m 755 $(QUAY) $(DESTDIR)$(PREFIX)/bin/quay
+	install -m 644 quay.1 $(DESTDIR)$(PREFIX)/share/man/man1/quay.1
 	install -m 644 $(LIB)/libquay.a $(DESTDIR)$(PREFIX)/lib/libquay.a
 	install -m 644 include/quay.h $(DESTDIR)$(PREFIX)/include/quay.h
 	sed 's|@PREFIX@|$(PREFIX)|' quay.pc.in > $(DESTDIR)$(PREFIX)/lib/pkgconfig/quay.pc

@@ -34,4 +34,19 @@ impl Call {
             Call::Run { .. } => "Run",
         }
     }
+
+    /// The call as a line of the program. One whose numbers are above
+    /// 4,294,967,295 is a line too, but not one of the paper's.
+    pub fn line(self) -> String {
+        match self {
+            Call::Attach { slot, file, pace } => format!("A,{slot},{file},{pace}"),
+            Call::Detach { slot } => format!("D,{slot}"),
+            Call::Read { slot } => format!("R,{slot}"),
+            Call::Arrive { file, page } => format!("I,{file},{page}"),
+            Call::Lost { file, page } => format!("X,{file},{page}"),
+            Call::Prefetch => "P".to_string(),
+            Call::Steal => "T".to_string(),
+            Call::Run { turns } => format!("N,{turns}"),
+        }
+    }
 }

@@ -8,17 +8,25 @@
 //!   first; this is what everything else is held to.
 //! * [`quick`]: the same rules on flat arrays, the yardstick of the benchmarks.
 //! * `ffi` (feature `box`): the box itself, through its C entries.
-//! * [`scene`]: random valid states and random calls, from [`random`] dice.
-//! * [`trial`]: what holds an [`Entry`](call::Entry) to the model.
+//! * [`process`]: the program `quay` itself, as a process that gets a [`feed`].
+//! * [`scene`]: random valid states, random calls and random streams of lines,
+//!   from [`random`] dice.
+//! * [`trial`]: what holds an [`Entry`](call::Entry) or a
+//!   [`Program`](feed::Program) to the model.
+//! * [`explain`]: a state as a picture and two tables, for people to read.
 
 #![deny(unsafe_code)]
 #![warn(missing_docs)]
 
 pub mod call;
+pub mod explain;
+pub mod feed;
 #[cfg(feature = "box")]
 pub mod ffi;
+pub mod layout;
 pub mod limits;
 pub mod model;
+pub mod process;
 pub mod quick;
 pub mod random;
 pub mod scene;

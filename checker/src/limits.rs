@@ -38,3 +38,11 @@ pub const LINE_BYTES: usize = 200;
 
 /// The program's fields: "each at most 4,294,967,295".
 pub const MOST_IN_FIELD: u64 = 4_294_967_295;
+
+/// Whether no value of a setup is out of range.
+pub fn setup_fits(frames: u64, look_ahead: u64, fetch_time: u64, sizes: &[u64]) -> bool {
+    FRAMES.contains(&frames)
+        && LOOK_AHEAD.contains(&look_ahead)
+        && FETCH_TIME.contains(&fetch_time)
+        && sizes.iter().all(|size| SIZE.contains(size))
+}

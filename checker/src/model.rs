@@ -16,5 +16,5 @@ mod state;
 pub use answer::{Answer, Refusal};
 pub use entry::entry;
 pub use orders::UseKey;
-pub use program::{respond, run_program};
+pub use program::{follow, respond, run_program};
 pub use state::{Page, Reader, State};

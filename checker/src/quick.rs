@@ -3,10 +3,15 @@
 //! This is the yardstick of the benchmarks: plain, good Rust without tricks. A
 //! decision walks every reader's look-ahead once into an array of use keys and
 //! then scans the pages. Nothing is allocated. Tests hold it to the model.
+//!
+//! [`entry`] takes calls on an image, [`Lines`] takes the program's lines.
 
 mod calls;
 mod decide;
 mod image;
+mod lines;
+
+pub use lines::Lines;
 
 use crate::call::Call;
 

@@ -4,7 +4,7 @@ use checker::call::{Call, Entry};
 use checker::limits::IMAGE_BYTES;
 use checker::quick;
 use checker::random::Dice;
-use checker::trial::{calls, damage, fewest, rules, soundings, Report};
+use checker::trial::{calls, damage, fewest, rules, soundings, Report, CALL_OUTCOMES};
 
 fn failed(trial: impl FnOnce(&mut Report, &mut Dice)) -> u64 {
     let mut report = Report::default();
@@ -77,7 +77,7 @@ fn a_prefetch_that_finds_nothing_is_found() {
 fn an_answer_never_met_is_found() {
     let unmet = failed(|report, dice| {
         calls::random_calls(report, quick::entry, dice, 1);
-        report.check_every_outcome_met();
+        report.check_every_outcome_met(CALL_OUTCOMES);
     });
     assert!(unmet > 0);
 }

@@ -78,3 +78,11 @@ fn every_answer_has_its_form() {
                   O\nF,7,1\nI\nF,7,2\nI,7,1\nS,7,2\nU\nO\nO\nO\nN,2,2\nZ\nC,1,2,2\n";
     assert_eq!(answers(input), output);
 }
+
+/// The repository's example, with the answers that go with it.
+#[test]
+fn the_example_is_answered_as_written() {
+    let input = include_str!("../../examples/handover.txt");
+    let output = include_str!("../../examples/handover.expected");
+    assert_eq!(answers(input), output);
+}

@@ -1,7 +1,7 @@
 //! The model against the paper's twelve soundings and its listing, and a
 //! look-ahead written once more, word for word.
 
-use checker::model::{Page, Reader, State};
+use checker::model::{run_program, Page, Reader, State};
 use checker::quick;
 use checker::random::Dice;
 use checker::scene::any_state;
@@ -24,7 +24,7 @@ fn quick_meets_the_heads_of_the_soundings() {
 #[test]
 fn program_meets_the_listing() {
     let mut report = Report::default();
-    soundings::listing(&mut report);
+    soundings::listing(&mut report, run_program);
     assert_eq!(report.failed(), 0);
 }
 

@@ -4,7 +4,7 @@
 
 use super::answer::{Answer, Refusal};
 use super::state::{Page, Reader, State};
-use crate::limits::{FETCH_TIME, FILES, FRAMES, LOOK_AHEAD, MOST_TURNS, PACE, SIZE, SLOTS};
+use crate::limits::{setup_fits, FILES, MOST_TURNS, PACE, SLOTS};
 
 type Outcome = Result<Answer, Refusal>;
 
@@ -17,11 +17,7 @@ impl State {
         fetch_time: u64,
         sizes: [u64; FILES as usize],
     ) -> (State, Outcome) {
-        let in_range = FRAMES.contains(&frames)
-            && LOOK_AHEAD.contains(&look_ahead)
-            && FETCH_TIME.contains(&fetch_time)
-            && sizes.iter().all(|size| SIZE.contains(size));
-        if !in_range {
+        if !setup_fits(frames, look_ahead, fetch_time, &sizes) {
             return (State::idle(), Err(Refusal::Setup));
         }
         let state = State {

@@ -2,7 +2,7 @@
 
 use super::answer::Refusal;
 use super::state::{Page, Reader, State};
-use crate::limits::{FETCH_TIME, FILES, FRAMES, IMAGE_BYTES, LOOK_AHEAD, PACE, SIZE, SLOTS};
+use crate::limits::{setup_fits, FILES, IMAGE_BYTES, PACE, SLOTS};
 use std::collections::{BTreeMap, BTreeSet};
 
 /// "A file has 128 map bytes".
@@ -66,11 +66,8 @@ impl State {
     fn is_sound(&self) -> bool {
         let within_size = |page: &Page| page.number <= self.size(page.file);
         let mut readers = self.readers.values();
-        FRAMES.contains(&self.frames)
+        setup_fits(self.frames, self.look_ahead, self.fetch_time, &self.sizes)
             && self.turn < SLOTS
-            && LOOK_AHEAD.contains(&self.look_ahead)
-            && FETCH_TIME.contains(&self.fetch_time)
-            && self.sizes.iter().all(|size| SIZE.contains(size))
             && readers.all(|reader| self.is_sound_reader(reader))
             && self.cached.iter().all(within_size)
             && self.in_fetch.iter().all(within_size)

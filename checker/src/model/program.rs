@@ -7,22 +7,29 @@ use crate::limits::{FILES, FILE_PAGES, LINE_BYTES, MOST_IN_FIELD};
 /// A list long enough for any answer: every page of every file.
 const LIST: usize = (FILES * FILE_PAGES) as usize;
 
-/// The program's whole output for a whole input. "It starts idle". A line is
-/// what stands between line ends; "A last line may lack its line end."
+/// The program's whole output for a whole input.
 pub fn run_program(input: &[u8]) -> Vec<u8> {
+    let (_, answers) = follow(input);
+    let lines = answers.into_iter().map(|answer| answer + "\n");
+    lines.collect::<String>().into_bytes()
+}
+
+/// The state that an input leads to, and the answer to each of its lines. "It
+/// starts idle". A line is what stands between line ends; "A last line may lack
+/// its line end."
+pub fn follow(input: &[u8]) -> (State, Vec<String>) {
     let mut lines: Vec<&[u8]> = input.split(|&byte| byte == b'\n').collect();
     if lines.last().is_some_and(|behind| behind.is_empty()) {
         lines.pop(); // nothing stands behind the last line end
     }
     let mut state = State::idle();
-    let mut output = Vec::new();
+    let mut answers = Vec::new();
     for line in lines {
         let answer;
         (state, answer) = respond(state, line);
-        output.extend(answer.bytes());
-        output.push(b'\n');
+        answers.push(answer);
     }
-    output
+    (state, answers)
 }
 
 /// One line and its answer, both without their line end.

@@ -1,6 +1,6 @@
 //! The two decisions: the page to give up and the next page to fetch.
 
-use super::{has, Flat, EMPTY, PAGES, SLOTS};
+use super::{has, Flat, Reader, EMPTY, PAGES, SLOTS};
 
 /// The use key of a page in no look-ahead.
 const NONE: u32 = u32::MAX;
@@ -42,42 +42,41 @@ impl Flat {
     }
 
     /// Walks every reader's look-ahead once and leaves each page's smallest use
-    /// key, time × 16 + seat distance. A time is below 4,000,001, so the key
-    /// fits.
+    /// key.
     fn walk(&self, use_keys: &mut [u32; PAGES]) {
         for (slot, reader) in self.readers.iter().enumerate() {
-            if reader.condition == EMPTY {
-                continue;
-            }
-            let seat = ((slot + SLOTS - self.turn) % SLOTS) as u32;
-            let left = self.sizes[reader.file] - reader.position;
-            let reach = left.min(self.look_ahead / reader.pace) as usize;
-            let first = reader.next();
-            let ahead = &mut use_keys[first..first + reach];
-            if self.fetch_time == 0 {
-                walk_at_pace(ahead, reader.pace, seat);
-            } else {
-                self.walk_with_fetches(ahead, first, reader.pace, seat);
+            if reader.condition != EMPTY {
+                let seat = (slot + SLOTS - self.turn) % SLOTS;
+                self.walk_ahead_of(reader, seat as u32, use_keys);
             }
         }
     }
 
-    /// One reader's look-ahead with T above 0: pages not cached cost time, and
-    /// at most m of them are looked past.
-    fn walk_with_fetches(&self, ahead: &mut [u32], first: usize, pace: u32, seat: u32) {
-        let most_missing = self.look_ahead / self.fetch_time;
+    /// Walks one look-ahead. A use key is time × 16 + seat distance; a time is
+    /// below 4,000,001, so the key fits.
+    fn walk_ahead_of(&self, reader: &Reader, seat: u32, use_keys: &mut [u32; PAGES]) {
+        let most_missing = self.most_missing();
+        let left = self.sizes[reader.file] - reader.position;
+        let reach = left.min(self.look_ahead / reader.pace) as usize;
+        let first = reader.next();
         let (mut time, mut missing) = (0, 0);
-        for (key, smallest) in (first..).zip(ahead) {
+        for (key, smallest) in (first..).zip(&mut use_keys[first..first + reach]) {
             if missing >= most_missing {
                 break;
             }
-            time += pace;
+            time += reader.pace;
             *smallest = (*smallest).min(time * 16 + seat);
             if !has(&self.cached, key) {
                 missing += 1;
                 time += self.fetch_time;
             }
         }
+    }
+
+    /// m, the pages not cached that end a look-ahead. With T 0 none do.
+    fn most_missing(&self) -> u32 {
+        let m = self.look_ahead.checked_div(self.fetch_time);
+        m.unwrap_or(u32::MAX)
     }
 
     /// For each file the lowest position of its readers: pages above it are
@@ -88,13 +87,6 @@ impl Flat {
             lowest[reader.file] = lowest[reader.file].min(reader.position);
         }
         lowest
-    }
-}
-
-/// One reader's look-ahead with T 0: what is cached does not matter.
-fn walk_at_pace(ahead: &mut [u32], pace: u32, seat: u32) {
-    for (j, smallest) in (1..).zip(ahead) {
-        *smallest = (*smallest).min(j * pace * 16 + seat);
     }
 }
 

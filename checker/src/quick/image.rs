@@ -1,14 +1,10 @@
 //! Restore and Save on the flat state.
 
 use super::{Flat, Reader, EMPTY, FILES, SLOTS, WAITING, WORDS};
-
-/// Where the pieces of the image start.
-const SIZES: usize = 12;
-const READERS: usize = 28;
-const ZEROS: usize = 156;
-const CACHED: usize = 160;
-const IN_FETCH: usize = 1_184;
-const END: usize = 2_208;
+use crate::layout::{
+    CACHED, END, FETCH_TIME, FOUR_ZEROS, FRAMES, IN_FETCH, LOOK_AHEAD, READERS, READER_BYTES,
+    SIZES, TURN, ZERO_BYTE,
+};
 
 fn u16_at(image: &[u8], at: usize) -> u32 {
     u16::from_le_bytes([image[at], image[at + 1]]).into()
@@ -45,10 +41,10 @@ impl Flat {
             return None;
         }
         let mut flat = Flat {
-            frames: u16_at(image, 0),
-            turn: image[2].into(),
-            look_ahead: u32_at(image, 4),
-            fetch_time: u32_at(image, 8),
+            frames: u16_at(image, FRAMES),
+            turn: image[TURN].into(),
+            look_ahead: u32_at(image, LOOK_AHEAD),
+            fetch_time: u32_at(image, FETCH_TIME),
             sizes: [0; FILES],
             readers: [Reader::default(); SLOTS],
             cached: read_map(&image[CACHED..IN_FETCH]),
@@ -57,10 +53,10 @@ impl Flat {
         };
         let numbers_fit = (1..=1_024).contains(&flat.frames)
             && flat.turn < SLOTS
-            && image[3] == 0
+            && image[ZERO_BYTE] == 0
             && (1..=2_000_000).contains(&flat.look_ahead)
             && flat.fetch_time <= 2_000_000
-            && image[ZEROS..CACHED] == [0; 4];
+            && image[FOUR_ZEROS..CACHED] == [0; 4];
         if !numbers_fit {
             return None;
         }
@@ -72,8 +68,8 @@ impl Flat {
         }
         flat.count_maps()?;
         for slot in 0..SLOTS {
-            let at = READERS + 8 * slot;
-            flat.readers[slot] = flat.reader_from(&image[at..at + 8])?;
+            let at = READERS + READER_BYTES * slot;
+            flat.readers[slot] = flat.reader_from(&image[at..at + READER_BYTES])?;
         }
         Some(flat)
     }
@@ -118,22 +114,23 @@ impl Flat {
 
     /// Writes the state back over an image of the right length.
     pub(super) fn save(&self, image: &mut [u8]) {
-        image[0..2].copy_from_slice(&(self.frames as u16).to_le_bytes());
-        image[2] = self.turn as u8;
-        image[3] = 0;
-        image[4..8].copy_from_slice(&self.look_ahead.to_le_bytes());
-        image[8..SIZES].copy_from_slice(&self.fetch_time.to_le_bytes());
+        image[FRAMES..TURN].copy_from_slice(&(self.frames as u16).to_le_bytes());
+        image[TURN] = self.turn as u8;
+        image[ZERO_BYTE] = 0;
+        image[LOOK_AHEAD..FETCH_TIME].copy_from_slice(&self.look_ahead.to_le_bytes());
+        image[FETCH_TIME..SIZES].copy_from_slice(&self.fetch_time.to_le_bytes());
         for (field, size) in image[SIZES..READERS].chunks_exact_mut(2).zip(self.sizes) {
             field.copy_from_slice(&(size as u16).to_le_bytes());
         }
-        for (record, reader) in image[READERS..ZEROS].chunks_exact_mut(8).zip(&self.readers) {
+        let records = image[READERS..FOUR_ZEROS].chunks_exact_mut(READER_BYTES);
+        for (record, reader) in records.zip(&self.readers) {
             record[0] = reader.condition;
             record[1] = reader.file as u8;
             record[2..4].copy_from_slice(&(reader.pace as u16).to_le_bytes());
             record[4..6].copy_from_slice(&(reader.position as u16).to_le_bytes());
             record[6..8].fill(0);
         }
-        image[ZEROS..CACHED].fill(0);
+        image[FOUR_ZEROS..CACHED].fill(0);
         write_map(&mut image[CACHED..IN_FETCH], &self.cached);
         write_map(&mut image[IN_FETCH..END], &self.in_fetch);
     }

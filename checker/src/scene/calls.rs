@@ -137,12 +137,27 @@ fn usual_pace(dice: &mut Dice) -> u64 {
 
 /// Turns, or a refused number of them. What the model would take long for is
 /// cut short here; long runs have a trial of their own.
-fn usual_turns(dice: &mut Dice, state: &State) -> u64 {
+pub(super) fn usual_turns(dice: &mut Dice, state: &State) -> u64 {
     let turns = match dice.below(6) {
         0 => dice.pick(&EDGES),
         1 => dice.pick(&[0, 1, 15, 16, 17, 32]),
         _ => dice.below(400),
     };
+    cut_short(state, turns)
+}
+
+/// Any one of the calls at bounds, a Run cut short.
+pub(super) fn any_call_at_bounds(dice: &mut Dice, state: &State) -> Call {
+    let calls = calls_at_bounds(dice, state);
+    match dice.pick(&calls) {
+        Call::Run { turns } => Call::Run {
+            turns: cut_short(state, turns),
+        },
+        call => call,
+    }
+}
+
+fn cut_short(state: &State, turns: u64) -> u64 {
     if turns > MOST_TURNS {
         turns
     } else {

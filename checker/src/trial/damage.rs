@@ -3,6 +3,7 @@
 
 use super::{hold, Report};
 use crate::call::Entry;
+use crate::layout::{CACHED, END, FOUR_ZEROS, IN_FETCH, READERS, SIZES};
 use crate::limits::IMAGE_BYTES;
 use crate::random::Dice;
 use crate::scene::{any_call, any_state};
@@ -10,12 +11,12 @@ use std::ops::Range;
 
 /// The whole image; then numbers, sizes, readers, cached map, fetch map.
 const PIECES: [Range<usize>; 6] = [
-    0..IMAGE_BYTES,
-    0..12,
-    12..28,
-    28..156,
-    160..1_184,
-    1_184..IMAGE_BYTES,
+    0..END,
+    0..SIZES,
+    SIZES..READERS,
+    READERS..FOUR_ZEROS,
+    CACHED..IN_FETCH,
+    IN_FETCH..END,
 ];
 
 /// "The buffer must be exactly 2,208 bytes, else 13".

@@ -1,9 +1,22 @@
 //! One call through an entry, held to the model.
 
-use super::Report;
+use super::{Outcomes, Report};
 use crate::call::{Call, Entry};
 use crate::model::{self, State};
 use std::ops::Range;
+
+/// Every answer and refusal that the paper gives the calls of the C boundary.
+/// An I or an N may come with or without a page dropped or fetched.
+pub const CALL_OUTCOMES: &Outcomes = &[
+    ("Attach", &["O", "E,2", "E,3", "E,4", "E,5", "E,13"]),
+    ("Detach", &["O", "E,2", "E,6", "E,13"]),
+    ("Read", &["Z", "H", "W", "F", "E,2", "E,6", "E,7", "E,13"]),
+    ("Arrive", &["I", "I dropping", "E,3", "E,8", "E,9", "E,13"]),
+    ("Lost", &["O", "E,3", "E,8", "E,9", "E,13"]),
+    ("Prefetch", &["F", "U", "E,13"]),
+    ("Steal", &["S", "U", "E,13"]),
+    ("Run", &["N", "N fetching", "E,11", "E,10", "E,13"]),
+];
 
 /// Bytes around the buffer that no call may touch.
 const GUARD: usize = 96;
@@ -13,14 +26,15 @@ const GUARD_BYTE: u8 = 0xA5;
 /// every alignment in turn. Number and image must be the model's, and the guards
 /// must stand. Returns number and image by the model.
 pub fn hold(report: &mut Report, entry: Entry, image: &[u8], call: Call) -> (u64, Vec<u8>) {
-    let shift = report.calls() as usize % 8;
+    let shift = report.compared() as usize % 8;
     let inside = GUARD + shift..GUARD + shift + image.len();
     let mut memory = vec![GUARD_BYTE; inside.end + GUARD];
     memory[inside.clone()].copy_from_slice(image);
     let number = entry(&mut memory[inside.clone()], call);
 
     let (expected_number, expected_image) = model::entry(image, call);
-    report.note_call(call, expected_number);
+    report.count(1);
+    report.note(call.name(), outcome(expected_number));
     let wrong_byte = (0..image.len()).find(|&at| memory[inside.start + at] != expected_image[at]);
     let guarded = guards_stand(&memory, &inside);
     let good = number == expected_number && wrong_byte.is_none() && guarded;
@@ -56,4 +70,16 @@ fn describe(image: &[u8]) -> String {
         state.in_fetch.len(),
         state.readers
     )
+}
+
+/// A returned number in words.
+fn outcome(number: u64) -> String {
+    let (letter, low) = (number >> 16, number & 0xFFFF);
+    match letter {
+        0 => format!("E,{low}"),
+        0x1_0000 => "N".to_string(),
+        0x1_0001.. => "N fetching".to_string(),
+        _ if letter == u64::from(b'I') && low > 0 => "I dropping".to_string(),
+        _ => char::from(letter as u8).to_string(),
+    }
 }

@@ -1,30 +1,21 @@
 //! The count of what passed and failed, and of the answers that were met.
 
-use crate::call::Call;
 use std::collections::BTreeMap;
+use std::process::ExitCode;
+use std::time::Instant;
 
 /// Faults beyond this many are counted, not printed.
 const FAULTS_PRINTED: u64 = 12;
 
-/// Every answer and refusal that the paper gives the calls of the C boundary.
-/// An I or an N may come with or without a page dropped or fetched.
-const OUTCOMES: [(&str, &[&str]); 8] = [
-    ("Attach", &["O", "E,2", "E,3", "E,4", "E,5", "E,13"]),
-    ("Detach", &["O", "E,2", "E,6", "E,13"]),
-    ("Read", &["Z", "H", "W", "F", "E,2", "E,6", "E,7", "E,13"]),
-    ("Arrive", &["I", "I dropping", "E,3", "E,8", "E,9", "E,13"]),
-    ("Lost", &["O", "E,3", "E,8", "E,9", "E,13"]),
-    ("Prefetch", &["F", "U", "E,13"]),
-    ("Steal", &["S", "U", "E,13"]),
-    ("Run", &["N", "N fetching", "E,11", "E,10", "E,13"]),
-];
+/// What can be met: for each call or line its answers and refusals.
+pub type Outcomes = [(&'static str, &'static [&'static str])];
 
 /// What the trials have found so far.
 #[derive(Debug, Default)]
 pub struct Report {
     passed: u64,
     failed: u64,
-    calls: u64,
+    compared: u64,
     met: BTreeMap<(&'static str, String), u64>,
 }
 
@@ -41,15 +32,19 @@ impl Report {
         }
     }
 
-    /// Notes that a call was compared and what it should have answered.
-    pub fn note_call(&mut self, call: Call, number: u64) {
-        self.calls += 1;
-        *self.met.entry((call.name(), outcome(number))).or_default() += 1;
+    /// Counts calls or lines that were compared with the model.
+    pub fn count(&mut self, compared: u64) {
+        self.compared += compared;
     }
 
-    /// How many calls were compared.
-    pub fn calls(&self) -> u64 {
-        self.calls
+    /// Notes that this outcome was met.
+    pub fn note(&mut self, name: &'static str, outcome: String) {
+        *self.met.entry((name, outcome)).or_default() += 1;
+    }
+
+    /// How many calls or lines were compared.
+    pub fn compared(&self) -> u64 {
+        self.compared
     }
 
     /// How many checks failed.
@@ -57,23 +52,32 @@ impl Report {
         self.failed
     }
 
-    /// Fails for each answer and each refusal that no call has met.
-    pub fn check_every_outcome_met(&mut self) {
-        for (call, outcomes) in OUTCOMES {
+    /// Does one part of the trials and says how long it took.
+    pub fn part(&mut self, name: &str, trials: impl FnOnce(&mut Report)) {
+        let (start, before) = (Instant::now(), self.compared);
+        trials(self);
+        let seconds = start.elapsed().as_secs_f64();
+        let (compared, so_far) = (self.compared - before, self.summary());
+        println!("{name}: {compared} compared, {seconds:.1} s; so far {so_far}");
+    }
+
+    /// Fails for each of these outcomes that was not met.
+    pub fn check_every_outcome_met(&mut self, outcomes: &Outcomes) {
+        for &(name, outcomes) in outcomes {
             for outcome in outcomes {
-                let met = self.met.contains_key(&(call, outcome.to_string()));
-                self.check(met, || format!("no {call} has met {outcome}"));
+                let met = self.met.contains_key(&(name, outcome.to_string()));
+                self.check(met, || format!("no {name} has met {outcome}"));
             }
         }
     }
 
-    /// The answers met, a line for each call.
-    pub fn outcomes(&self) -> String {
+    /// How often each of these outcomes was met, a line for each call.
+    pub fn outcomes(&self, outcomes: &Outcomes) -> String {
         let mut lines = String::new();
-        for (call, outcomes) in OUTCOMES {
-            lines += &format!("  {call:9}");
+        for &(name, outcomes) in outcomes {
+            lines += &format!("  {name:13}");
             for outcome in outcomes {
-                let times = self.met.get(&(call, outcome.to_string())).unwrap_or(&0);
+                let times = self.met.get(&(name, outcome.to_string())).unwrap_or(&0);
                 lines += &format!(" {outcome}: {times};");
             }
             lines += "\n";
@@ -85,16 +89,17 @@ impl Report {
     pub fn summary(&self) -> String {
         format!("{} passed, {} failed", self.passed, self.failed)
     }
-}
 
-/// A returned number in words.
-fn outcome(number: u64) -> String {
-    let (letter, low) = (number >> 16, number & 0xFFFF);
-    match letter {
-        0 => format!("E,{low}"),
-        0x1_0000 => "N".to_string(),
-        0x1_0001.. => "N fetching".to_string(),
-        _ if letter == u64::from(b'I') && low > 0 => "I dropping".to_string(),
-        _ => char::from(letter as u8).to_string(),
+    /// Ends the trials: every outcome must have been met. Prints what was found
+    /// and gives the exit status.
+    pub fn close(&mut self, name: &str, compared: &str, outcomes: &Outcomes) -> ExitCode {
+        self.check_every_outcome_met(outcomes);
+        print!("answers met:\n{}", self.outcomes(outcomes));
+        println!("{} {compared} compared with the model", self.compared);
+        println!("{name}: {}", self.summary());
+        match self.failed {
+            0 => ExitCode::SUCCESS,
+            _ => ExitCode::FAILURE,
+        }
     }
 }

@@ -1,22 +1,14 @@
 //! Restore's rules, each broken alone, and bounds met exactly.
 //!
-//! This file has its own reading of the image, so that it also tries the model.
+//! It changes images byte by byte, and so tries the model's reading of them too.
 
 use super::{hold, Report};
 use crate::call::{Call, Entry};
+use crate::layout::{
+    CACHED, FETCH_TIME, FOUR_ZEROS, FRAMES, IN_FETCH, LOOK_AHEAD, READERS, READER_BYTES, SIZES,
+    TURN, ZERO_BYTE,
+};
 use crate::model::{Page, Reader, State};
-
-/// Where the pieces of an image start, by the paper's list of them.
-const FRAMES: usize = 0;
-const TURN: usize = 2;
-const ZERO_BYTE: usize = 3;
-const LOOK_AHEAD: usize = 4;
-const FETCH_TIME: usize = 8;
-const SIZES: usize = 12;
-const READERS: usize = 28;
-const FOUR_ZEROS: usize = 156;
-const CACHED: usize = 160;
-const IN_FETCH: usize = 1_184;
 
 /// Each rule broken alone: every call answers 13. The bounds met exactly: none
 /// does. (Every entry restores for itself, so every call is tried.)
@@ -101,7 +93,7 @@ fn record(slot: usize, condition: u8, file: u8, pace: u16, position: u16) -> (us
     let mut bytes = vec![condition, file];
     bytes.extend(pace.to_le_bytes());
     bytes.extend(position.to_le_bytes());
-    (READERS + 8 * slot, bytes)
+    (READERS + READER_BYTES * slot, bytes)
 }
 
 fn nothing_cached() -> (usize, Vec<u8>) {
@@ -162,10 +154,10 @@ fn broken() -> Vec<(String, Changes)> {
             vec![bit(IN_FETCH, page(1, 6))],
         ),
     ];
-    let zeros = (FOUR_ZEROS..CACHED).chain(READERS + 6..READERS + 8);
+    let zeros = (FOUR_ZEROS..CACHED).chain(READERS + 6..READERS + READER_BYTES);
     list.extend(zeros.map(|at| ("a 0 byte that is not 0", vec![(at, vec![1])])));
-    let empty_slot = READERS + 8 * 3;
-    let record_bytes = empty_slot + 1..empty_slot + 8;
+    let empty_slot = READERS + READER_BYTES * 3;
+    let record_bytes = empty_slot + 1..empty_slot + READER_BYTES;
     list.extend(record_bytes.map(|at| ("an empty slot not all 0", vec![(at, vec![128])])));
     let named = |(rule, changes): (&str, Changes)| (format!("{rule} {changes:?}"), changes);
     list.into_iter().map(named).collect()

@@ -2,7 +2,7 @@
 
 use super::{hold, Report};
 use crate::call::{Call, Entry};
-use crate::model::{run_program, Answer, Page, Reader, State};
+use crate::model::{Answer, Page, Reader, State};
 
 /// One sounding: a state and what the paper says of it.
 struct Sounding {
@@ -142,11 +142,12 @@ const INPUT: &str = "S,3,100,0,6,0,0,0,0,0,0,0 / A,0,0,10 / R,0 / R,0 / I,0,1 / 
 const OUTPUT: &str = "O / O / F,0,1 / E,7 / I / H,0,1 / O / N,2,4 / L,3,0,2,0,1,0,3 / F,0,4 / \
     S,0,2 / I / C,2,1,1,3,4 / E,9 / N,0,2 / L,3,0,3,0,1,0,4";
 
-/// Holds the model's program to the paper's listing.
-pub fn listing(report: &mut Report) {
+/// Holds a program, which gives the output to an input, to the paper's listing.
+pub fn listing(report: &mut Report, program: impl Fn(&[u8]) -> Vec<u8>) {
     let lines = |listing: &str| listing.replace(" / ", "\n") + "\n";
-    let output = String::from_utf8(run_program(lines(INPUT).as_bytes())).unwrap();
-    report.check(output == lines(OUTPUT), || {
+    let output = program(lines(INPUT).as_bytes());
+    report.check(output == lines(OUTPUT).as_bytes(), || {
+        let output = String::from_utf8_lossy(&output);
         format!("the listing's output is\n{output}")
     });
 }

@@ -1,6 +1,7 @@
 ghost use mathlib.Core.Path.{_≡_};
 ghost use mathlib.Core.List.{[], _∷_};
 ghost use Prim.Native.Nat.{_+_, _-_, _*_, _<_, _≤_, _%_};
+ghost use lib.ListN.{replicate};
 ghost use lib.Dec.{eqb};
 ghost use Rattle.bits.specs.Map.{bit, putBit, ones, nextBit, lastBit};
 
@@ -154,4 +155,11 @@ pub fn last_set(words: &[u64; 128], from: usize, n: usize) -> usize
         }
     }
     0
+}
+
+// Clears every bit.
+pub fn clear_all(words: &mut [u64; 128])
+    ensures { λ _. ⌜ now (words .exit) ≡ replicate 128 0 ⌝ }
+{
+    *words = [0u64; 128];
 }

@@ -12,12 +12,10 @@ use Rattle.rules.specs.Calls.{reply, remade, without, stealOf, dropped, landed,
 use Rattle.rules.specs.declared.State.{State}
 use Rattle.rules.specs.declared.Answer.{Answer}
 use Rattle.rules.specs.declared.Answer.the-variants.{Stolen, Fetch}
-use Rattle.rules.specs.declared.Reply.{Reply}
 use Rattle.rules.proofs.Cases.{option-some, option-none}
 use Rattle.rules.proofs.Distinct.{victim-cached, wanted-page, fetch-wanted}
 use Rattle.rules.proofs.Landings.{dropped-some}
-use Rattle.order.specs.Views.{stateOf, viewOf, chosen}
-use Rattle.order.specs.declared.View.{View}
+use Rattle.order.specs.Choices.{chosen}
 use Rattle.order.specs.declared.Choice.{Choice}
 use Rattle.order.specs.declared.Choice.the-variants.{Key, Nothing}
 use Rattle.calls.specs.Parts.{fetchRefusal, InMap, landedWith, arrivalOf}
@@ -35,62 +33,54 @@ is-key g k f x r e = option-some (λ q. r ≡ q) (chosen g) f x k (chosen-key g 
 is-nothing : {A : Type 0} (g : Choice) (f : ℕ → A) (x r : A) → g ≡ Nothing → r ≡ x → r ≡ onOption (chosen g) f x
 is-nothing g f x r e = option-none (λ q. r ≡ q) (chosen g) f x (ap chosen e)
 
--- ---- a choice g from the view w of the state s and its maps
+-- ---- a choice g of what a rule chooses of the state s
 
--- the state of the view and the maps is as valid
-pub view-valid : (s : State) (w : View) → w ≡ viewOf s → Valid s → Valid (stateOf w (s .cached) (s .fetching))
-view-valid s w e v = rw e v
-
-module _ (rule : State → Option ℕ) (s : State) (w : View) (g : Choice) (a : w ≡ viewOf s) (b : chosen g ≡ rule (stateOf w (s .cached) (s .fetching))) where
-  -- what a rule chooses there it chooses of the state
-  rule-choice : chosen g ≡ rule s
-  rule-choice = b ∙ ap (λ x. rule (stateOf x (s .cached) (s .fetching))) a
-
+module _ (rule : State → Option ℕ) (s : State) (g : Choice) (b : chosen g ≡ rule s) where
   -- a key
   rule-key : (k : ℕ) → g ≡ Key k → rule s ≡ some k
-  rule-key k e = sym rule-choice ∙ chosen-key g k e
+  rule-key k e = sym b ∙ chosen-key g k e
 
   -- what a call makes of it
   by-key : {A : Type 0} (k : ℕ) (f : ℕ → A) (x r : A) → g ≡ Key k → r ≡ f k → r ≡ onOption (rule s) f x
-  by-key k f x r e h = rw (← rule-choice) (is-key g k f x r e h)
+  by-key k f x r e h = rw (← b) (is-key g k f x r e h)
 
   -- what it makes of none
   pub by-nothing : {A : Type 0} (f : ℕ → A) (x r : A) → g ≡ Nothing → r ≡ x → r ≡ onOption (rule s) f x
-  by-nothing f x r e h = rw (← rule-choice) (is-nothing g f x r e h)
+  by-nothing f x r e h = rw (← b) (is-nothing g f x r e h)
 
 -- ---- the keys chosen are a map's
 
-module _ (s : State) (v : Valid s) (w : View) (g : Choice) (a : w ≡ viewOf s) where
+module _ (s : State) (v : Valid s) (g : Choice) where
   -- the page to give up
-  pub victim-low : chosen g ≡ victim (stateOf w (s .cached) (s .fetching)) → (k : ℕ) → g ≡ Key k → k < 8192
-  victim-low b k e = v .cached-in k (victim-cached s v k (rule-key victim s w g a b k e)) .low
+  pub victim-low : chosen g ≡ victim s → (k : ℕ) → g ≡ Key k → k < 8192
+  victim-low b k e = v .cached-in k (victim-cached s v k (rule-key victim s g b k e)) .low
 
   -- the page to fetch
-  pub next-low : chosen g ≡ head (fetchOrder (stateOf w (s .cached) (s .fetching))) → (k : ℕ) → g ≡ Key k → k < 8192
-  next-low b k e = wanted-page s v k (fetch-wanted s v k (rule-key (λ t. head (fetchOrder t)) s w g a b k e)) .low
+  pub next-low : chosen g ≡ head (fetchOrder s) → (k : ℕ) → g ≡ Key k → k < 8192
+  next-low b k e = wanted-page s v k (fetch-wanted s v k (rule-key (λ t. head (fetchOrder t)) s g b k e)) .low
 
   -- the page that gives up its frame, if one does
-  pub dropped-low : chosen g ≡ dropped (stateOf w (s .cached) (s .fetching)) → InMap (chosen g)
-  dropped-low b k e = v .cached-in k (dropped-some s v k (sym (rule-choice dropped s w g a b) ∙ e)) .low
+  pub dropped-low : chosen g ≡ dropped s → InMap (chosen g)
+  dropped-low b k e = v .cached-in k (dropped-some s v k (sym b ∙ e)) .low
 
 -- ---- Steal, Prefetch and Arrive by the choice made
 
-module _ (s : State) (w : View) (g : Choice) (a : w ≡ viewOf s) where
+module _ (s : State) (g : Choice) (k file page : ℕ) (f : file ≡ fileOf k) (p : page ≡ pageOf k) where
   -- Steal with a page to give up
-  pub stole : chosen g ≡ victim (stateOf w (s .cached) (s .fetching)) → (k file page : ℕ) (held : List ℕ) (r : Reply) → g ≡ Key k → held ≡ without (s .cached) k
-      → file ≡ fileOf k → page ≡ pageOf k → r ≡ reply (remade s (s .turn) (s .readers) held (s .fetching)) (Stolen file page) → r ≡ stealOf s
+  pub stole : chosen g ≡ victim s → (left : List ℕ) → left ≡ without (s .cached) k → g ≡ Key k
+      → reply (remade s (s .turn) (s .readers) left (s .fetching)) (Stolen file page) ≡ stealOf s
   unfolding stealOf
-  stole b k file page held r e c f p h = by-key victim s w g a b k _ _ r e (rw (h, c, f, p))
+  stole b left c e = by-key victim s g b k _ _ _ e (rw (c, f, p))
 
   -- Prefetch with a page to fetch
-  pub opened : chosen g ≡ head (fetchOrder (stateOf w (s .cached) (s .fetching))) → (k file page : ℕ) (fetching : List ℕ) (r : Reply) → g ≡ Key k
-      → fetching ≡ putBit (s .fetching) k 1 → file ≡ fileOf k → page ≡ pageOf k → r ≡ reply (remade s (s .turn) (s .readers) (s .cached) fetching) (Fetch file page) → r ≡ prefetchOf s
+  pub opened : chosen g ≡ head (fetchOrder s) → (still : List ℕ) → still ≡ putBit (s .fetching) k 1 → g ≡ Key k
+      → reply (remade s (s .turn) (s .readers) (s .cached) still) (Fetch file page) ≡ prefetchOf s
   unfolding prefetchOf
-  opened b k file page fetching r e c f p h = by-key (λ t. head (fetchOrder t)) s w g a b k _ _ r e (rw (h, c, f, p))
+  opened b still c e = by-key (λ t. head (fetchOrder t)) s g b k _ _ _ e (rw (c, f, p))
 
 -- where the page is not refused, the reply by the choice of the page to drop
-pub arrived : (s : State) (file page q : ℕ) (w : View) (g : Choice) (answer : Answer) (k : ℕ) (after : State) (r : Reply)
-    → q ≡ fetchRefusal (s .sizes) (s .fetching) file page → q ≡ 0 → w ≡ viewOf s → chosen g ≡ dropped (stateOf w (s .cached) (s .fetching))
-    → answer ≡ arrivalOf (chosen g) → k ≡ keyOf file page → after ≡ landedWith s (chosen g) k → r ≡ reply after answer → r ≡ arriveOf s file page
+pub arrived : (s : State) (file page q : ℕ) (g : Choice) (k : ℕ) (after : State) (answer : Answer)
+    → q ≡ fetchRefusal (s .sizes) (s .fetching) file page → q ≡ 0 → chosen g ≡ dropped s → k ≡ keyOf file page
+    → after ≡ landedWith s (chosen g) k → answer ≡ arrivalOf (chosen g) → reply after answer ≡ arriveOf s file page
 unfolding arriveOf landed
-arrived s file page q w g answer k after r e z a b c d l h = does q s file page r _ e z (rw (h, l, d, c, rule-choice dropped s w g a b))
+arrived s file page q g k after answer e z b d l c = does q s file page _ _ e z (rw (l, d, c, b))

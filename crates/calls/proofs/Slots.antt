@@ -1,30 +1,47 @@
 -- Attach, Read and Detach: the reader of a slot, and the other slots' records. Assumes nothing.
 use Prim.Native.Nat.{ℕ, _≤_, _<_}
-use mathlib.Core.Path.{_≡_}
+use mathlib.Core.Path.{_≡_, ap, _∙_}
 use mathlib.Core.Bool.{Bool, true, false, not}
+use mathlib.Core.List.{List, []}
 use lib.Dec.{T}
 use Rattle.rules.specs.Lists.{within}
 use Rattle.rules.specs.Readers.{readerAt, byCondition}
 use Rattle.rules.specs.Valid.{Valid, Placed}
-use Rattle.rules.specs.Calls.{reply, refused, withReader, docked, attachOf}
+use Rattle.rules.specs.Calls.{reply, refused, withReader, docked, attachOf, readOf, detachOf}
 use Rattle.rules.specs.Entries.{callOf}
 use Rattle.rules.specs.declared.State.{State}
 use Rattle.rules.specs.declared.Reply.{Reply}
+use Rattle.rules.specs.declared.View.{View}
+use Rattle.rules.specs.declared.Outcome.{Outcome}
+use Rattle.rules.specs.Views.{stateOf, replyOf}
 use Rattle.rules.specs.declared.Answer.the-variants.{Done}
 use Rattle.rules.specs.declared.Condition.the-variants.{Running}
 use Rattle.rules.proofs.Cases.{condition-running}
 use Rattle.rules.proofs.Valids.{placed-at}
-use Rattle.rules.proofs.OneRecord.{SlotCall, attaching, callAt, one-record}
+use Rattle.rules.proofs.OneRecord.{SlotCall, attaching, detaching, reading, callAt, one-record}
 use Rattle.calls.specs.Parts.{noFileIn, OthersStay}
 use Rattle.calls.proofs.Outcomes.{answers}
 
--- a reply as the rules have it leaves the other slots' records
-pub others-stay : (c : SlotCall) (s : State) (slot : ℕ) (r : Reply) → r ≡ callOf (callAt c slot) s → (r ≡ callOf (callAt c slot) s) × OthersStay s slot (r .state)
-others-stay c s slot r e = (e, rw e (one-record c s slot .others))
+-- a call of a slot leaves the other slots' records, with these maps before and those after
+stay : (c : SlotCall) (v : View) (slot : ℕ) (r : Outcome) (cached fetching left still : List ℕ)
+    → replyOf r left still ≡ callOf (callAt c slot) (stateOf v cached fetching) → OthersStay v slot (r .view)
+stay c v slot r cached fetching left still e j n =
+    ap (λ q. readerAt (q .state) j) e ∙ one-record c (stateOf v cached fetching) slot .others j n
 
--- so does Attach's
-pub attach-stays : (s : State) (slot file pace : ℕ) (r : Reply) → r ≡ attachOf s slot file pace → (r ≡ attachOf s slot file pace) × OthersStay s slot (r .state)
-attach-stays s slot file pace = others-stay (attaching file pace) s slot
+-- both, as Read has them
+pub read-stays : (v : View) (slot : ℕ) (r : Outcome) (cached fetching left still : List ℕ) → replyOf r left still ≡ readOf (stateOf v cached fetching) slot
+    → (replyOf r left still ≡ readOf (stateOf v cached fetching) slot) × OthersStay v slot (r .view)
+read-stays v slot r cached fetching left still e = (e, stay reading v slot r cached fetching left still e)
+
+-- as Detach has them, whatever the maps
+pub detach-stays : (v : View) (slot : ℕ) (r : Outcome) → ((a b : List ℕ) → replyOf r a b ≡ detachOf (stateOf v a b) slot)
+    → ((a b : List ℕ) → replyOf r a b ≡ detachOf (stateOf v a b) slot) × OthersStay v slot (r .view)
+detach-stays v slot r e = (e, stay detaching v slot r [] [] [] [] (e [] []))
+
+-- as Attach has them
+pub attach-stays : (v : View) (slot file pace : ℕ) (r : Outcome) → ((a b : List ℕ) → replyOf r a b ≡ attachOf (stateOf v a b) slot file pace)
+    → ((a b : List ℕ) → replyOf r a b ≡ attachOf (stateOf v a b) slot file pace) × OthersStay v slot (r .view)
+attach-stays v slot file pace r e = (e, stay (attaching file pace) v slot r [] [] [] [] (e [] []))
 
 -- ---- Attach by the results f of `no_file` and w of `within`
 

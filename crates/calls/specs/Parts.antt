@@ -5,15 +5,26 @@ use mathlib.Core.Bool.{Bool, cond}
 use mathlib.Core.List.{List, map}
 use mathlib.Core.Logic.{_≢_}
 use mathlib.Core.Option.{Option, some}
+use lib.ListN.{getD}
 use lib.Dec.{eqb}
 use Rattle.bits.specs.Map.{bit, putBit}
 use Rattle.rules.specs.Lists.{onOption}
 use Rattle.rules.specs.Pages.{fileOf, pageOf, keyOf}
-use Rattle.rules.specs.Readers.{readerAt}
+use Rattle.rules.specs.Readers.{noReader}
 use Rattle.rules.specs.Calls.{remade, noFile, noPage, fresh, without, woken}
 use Rattle.rules.specs.declared.State.{State}
 use Rattle.rules.specs.declared.Answer.{Answer}
-use Rattle.rules.specs.declared.Answer.the-variants.{Arrived, Replaced}
+use Rattle.rules.specs.declared.View.{View}
+use Rattle.rules.specs.declared.Outcome.{Outcome}
+use Rattle.rules.specs.declared.Answer.the-variants.{Refused, Arrived, Replaced}
+
+-- a view and an answer
+abbrev pub outcomeOf : View → Answer → Outcome
+outcomeOf v a = record { view = v; answer = a }
+
+-- a refusal, which leaves the view
+abbrev pub refusal : View → ℕ → Outcome
+refusal v number = outcomeOf v (Refused number)
 
 -- any state with these sizes: what the rules' tests of files and pages read
 abbrev pub sized : List ℕ → State
@@ -38,8 +49,8 @@ fetchRefusal sizes fetching file page =
     cond (noFileIn sizes file) 3 (cond (noPageIn sizes file page) 8 (cond (eqb (bit fetching (keyOf file page)) 1) 0 9))
 
 -- every slot but this one has the record that it had
-abbrev pub OthersStay : State → ℕ → State → Type 0
-OthersStay s slot t = (j : ℕ) → j ≢ slot → readerAt t j ≡ readerAt s j
+abbrev pub OthersStay : View → ℕ → View → Type 0
+OthersStay v slot w = (j : ℕ) → j ≢ slot → getD (w .readers) j noReader ≡ getD (v .readers) j noReader
 
 -- the page leaves fetch, and every reader waiting for it runs
 abbrev pub closed : State → ℕ → State

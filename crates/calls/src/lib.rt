@@ -1,23 +1,22 @@
-// The calls of the box, each as its rule has it.
+// The calls of the box, each as its rule has it. The state's two maps are lent; the rest, a view, is passed and returned.
 
 use order::Choice;
-use order::View;
 use rules::Answer;
 use rules::Condition;
+use rules::Outcome;
 use rules::Reader;
-use rules::Reply;
-use rules::State;
+use rules::View;
 ghost use mathlib.Core.Path.{_≡_};
 ghost use mathlib.Core.Bool.{true};
-ghost use mathlib.Core.List.{map};
-ghost use Prim.Native.Nat.{_≤_, _<_};
+ghost use mathlib.Core.List.{List, map};
+ghost use Prim.Native.Nat.{ℕ, _≤_, _<_};
 ghost use lib.ListN.{getD};
+ghost use Rattle.rules.specs.Views.{stateOf, noPages, replyOf};
 ghost use Rattle.rules.specs.Lists.{within, every};
-ghost use Rattle.rules.specs.Pages.{size, fileOf, pageOf, keyOf};
+ghost use Rattle.rules.specs.Pages.{fileOf, pageOf, keyOf};
 ghost use Rattle.rules.specs.Valid.{Valid, Placed};
 ghost use Rattle.rules.specs.Calls.{
   reply,
-  refused,
   settingsIn,
   fresh,
   idle,
@@ -33,22 +32,22 @@ ghost use Rattle.rules.specs.Calls.{
   lostOf,
   prefetchOf,
 };
-ghost use Rattle.order.specs.Views.{stateOf, chosen};
-ghost use Rattle.calls.specs.Parts.{noFileIn, noPageIn, Small, fetchRefusal, OthersStay, closed, InMap, eased, landedWith, arrivalOf};
+ghost use Rattle.order.specs.Choices.{chosen};
+ghost use Rattle.calls.specs.Parts.{outcomeOf, refusal, noFileIn, noPageIn, Small, fetchRefusal, OthersStay, closed, InMap, eased, landedWith, arrivalOf};
 
-// ---- replies and refusals
+// ---- outcomes and refusals
 
-fn reply(state: State, answer: Answer) -> Reply
-    ensures { λ r. ⌜ r ≡ reply state answer ⌝ }
+fn outcome(view: View, answer: Answer) -> Outcome
+    ensures { λ r. ⌜ r ≡ outcomeOf view answer ⌝ }
 {
-    Reply { state, answer }
+    Outcome { view, answer }
 }
 
-// A refusal gives the state back.
-pub fn refuse(s: State, number: u8) -> Reply
-    ensures { λ r. ⌜ r ≡ refused s number ⌝ }
+// A refusal gives the view back.
+pub fn refuse(v: View, number: u8) -> Outcome
+    ensures { λ r. ⌜ r ≡ refusal v number ⌝ }
 {
-    reply(s, Answer::Refused(number))
+    outcome(v, Answer::Refused(number))
 }
 
 // Is n from low to high, both included?
@@ -144,10 +143,10 @@ fn stored_sizes(sizes: [u64; 8]) -> [u16; 8]
     stored
 }
 
-// A state without readers, pages or fetches.
-fn fresh(frames: u64, look_ahead: u64, fetch_time: u64, sizes: [u64; 8]) -> State
+// The view of a state without readers, pages or fetches.
+fn fresh(frames: u64, look_ahead: u64, fetch_time: u64, sizes: [u64; 8]) -> View
     requires { ⌜ settingsIn frames «look_ahead» «fetch_time» sizes ≡ true ⌝ }
-    ensures { λ r. ⌜ r ≡ fresh frames «look_ahead» «fetch_time» sizes ⌝ }
+    ensures { λ r. ⌜ stateOf r noPages noPages ≡ fresh frames «look_ahead» «fetch_time» sizes ⌝ }
 {
     let empty = Reader {
         condition: Condition::Empty,
@@ -157,142 +156,143 @@ fn fresh(frames: u64, look_ahead: u64, fetch_time: u64, sizes: [u64; 8]) -> Stat
     };
     let stored = stored_sizes(sizes);
     let readers = [empty; 16];
-    let cached = [0u64; 128];
-    let fetching = [0u64; 128];
-    State {
+    View {
         frames: frames as u16,
         turn: 0,
         look_ahead: look_ahead as u32,
         fetch_time: fetch_time as u32,
         sizes: stored,
         readers,
-        cached,
-        fetching,
     }
 }
 
-// The idle state.
-pub fn idle() -> State
-    ensures { λ r. ⌜ r ≡ idle ⌝ }
+// The view of the idle state.
+pub fn idle() -> View
+    ensures { λ r. ⌜ stateOf r noPages noPages ≡ idle ⌝ }
 {
     fresh(1, 1, 0, [0u64; 8])
 }
 
-pub fn setup(frames: u64, look_ahead: u64, fetch_time: u64, sizes: [u64; 8]) -> Reply
-    ensures { λ r. ⌜ r ≡ setupOf frames «look_ahead» «fetch_time» sizes ⌝ }
+// No page is cached or in fetch after Setup: no maps are lent.
+pub fn setup(frames: u64, look_ahead: u64, fetch_time: u64, sizes: [u64; 8]) -> Outcome
+    ensures { λ r. ⌜ replyOf r noPages noPages ≡ setupOf frames «look_ahead» «fetch_time» sizes ⌝ }
 {
     if settings_in(frames, look_ahead, fetch_time, sizes) {
-        return reply(fresh(frames, look_ahead, fetch_time, sizes), Answer::Done);
+        return outcome(fresh(frames, look_ahead, fetch_time, sizes), Answer::Done);
     }
     refuse(idle(), 1)
 }
 
 // ---- the calls of a slot: one record changes, and the others stay
 
-pub fn attach(s: State, slot: u64, file: u64, pace: u64) -> Reply
-    ensures { λ r. ⌜ r ≡ attachOf s slot file pace ⌝ }
-    ensures one_record { λ r. ⌜ OthersStay s slot (r .state) ⌝ }
+pub fn attach(mut v: View, slot: u64, file: u64, pace: u64) -> Outcome
+    ensures { λ r. ⌜ ((c f : List ℕ) → replyOf r c f ≡ attachOf (stateOf v c f) slot file pace) ⌝ }
+    ensures one_record { λ r. ⌜ OthersStay v slot (r .view) ⌝ }
 {
     if 15 < slot {
-        return refuse(s, 2);
+        return refuse(v, 2);
     }
-    let sizes = s.sizes;
+    let sizes = v.sizes;
     if no_file(sizes, file) {
-        return refuse(s, 3);
+        return refuse(v, 3);
     }
     if !within(1, 1000, pace) {
-        return refuse(s, 4);
+        return refuse(v, 4);
     }
     let i = slot as usize;
-    let old = s.readers[i];
+    let old = v.readers[i];
     let condition = old.condition;
     match condition {
         Condition::Empty => {
-            let mut t = s;
-            t.readers[i] = Reader {
+            v.readers[i] = Reader {
                 condition: Condition::Running,
                 file: file as u8,
                 pace: pace as u16,
                 position: 0,
             };
-            reply(t, Answer::Done)
+            outcome(v, Answer::Done)
         }
-        Condition::Running | Condition::Waiting => refuse(s, 5),
+        Condition::Running | Condition::Waiting => refuse(v, 5),
     }
 }
 
 // The Read of a running reader, whose record is `old`.
-fn read_running(mut s: State, i: usize, old: Reader) -> Reply
-    requires { ⌜ Placed s old ⌝ }
-    requires { ⌜ size s (old .file) ≤ 1024 ⌝ }
+fn read_running(
+    mut v: View,
+    cached: &[u64; 128],
+    fetching: &mut [u64; 128],
+    i: usize,
+    old: Reader,
+) -> Outcome
+    requires { ⌜ Placed (stateOf v (now cached) (now fetching)) old ⌝ }
+    requires { ⌜ getD (v .sizes) (old .file) 0 ≤ 1024 ⌝ }
     requires { ⌜ i < 16 ⌝ }
-    ensures { λ r. ⌜ r ≡ readRunning s i old ⌝ }
+    ensures { λ r. ⌜ replyOf r (now (cached .entry)) (now (fetching .exit)) ≡ readRunning (stateOf v (now (cached .entry)) (now (fetching .entry))) i old ⌝ }
 {
     let file = old.file;
     let position = old.position;
-    if position == s.sizes[file as usize] {
-        return reply(s, Answer::End);
+    if position == v.sizes[file as usize] {
+        return outcome(v, Answer::End);
     }
     let page = position + 1;
     let key = page_key(file as u64, page as u64);
-    if bits::has_bit(&s.cached, key) {
+    if bits::has_bit(cached, key) {
         let mut next = old;
         next.position = page;
-        s.readers[i] = next;
-        return reply(s, Answer::Hit { file, page });
+        v.readers[i] = next;
+        return outcome(v, Answer::Hit { file, page });
     }
-    s.readers[i] = Reader {
+    v.readers[i] = Reader {
         condition: Condition::Waiting,
         file,
         pace: old.pace,
         position,
     };
-    if bits::has_bit(&s.fetching, key) {
-        return reply(s, Answer::Wait { file, page });
+    if bits::has_bit(fetching, key) {
+        return outcome(v, Answer::Wait { file, page });
     }
-    bits::set_bit(&mut s.fetching, key);
-    reply(s, Answer::Fetch { file, page })
+    bits::set_bit(fetching, key);
+    outcome(v, Answer::Fetch { file, page })
 }
 
-pub fn read(s: State, slot: u64) -> Reply
-    requires { ⌜ Valid s ⌝ }
-    ensures { λ r. ⌜ r ≡ readOf s slot ⌝ }
-    ensures one_record { λ r. ⌜ OthersStay s slot (r .state) ⌝ }
+pub fn read(v: View, cached: &[u64; 128], fetching: &mut [u64; 128], slot: u64) -> Outcome
+    requires { ⌜ Valid (stateOf v (now cached) (now fetching)) ⌝ }
+    ensures { λ r. ⌜ replyOf r (now (cached .entry)) (now (fetching .exit)) ≡ readOf (stateOf v (now (cached .entry)) (now (fetching .entry))) slot ⌝ }
+    ensures one_record { λ r. ⌜ OthersStay v slot (r .view) ⌝ }
 {
     if 15 < slot {
-        return refuse(s, 2);
+        return refuse(v, 2);
     }
     let i = slot as usize;
-    let old = s.readers[i];
+    let old = v.readers[i];
     let condition = old.condition;
     match condition {
-        Condition::Empty => refuse(s, 6),
-        Condition::Running => read_running(s, i, old),
-        Condition::Waiting => refuse(s, 7),
+        Condition::Empty => refuse(v, 6),
+        Condition::Running => read_running(v, cached, fetching, i, old),
+        Condition::Waiting => refuse(v, 7),
     }
 }
 
-pub fn detach(s: State, slot: u64) -> Reply
-    ensures { λ r. ⌜ r ≡ detachOf s slot ⌝ }
-    ensures one_record { λ r. ⌜ OthersStay s slot (r .state) ⌝ }
+pub fn detach(mut v: View, slot: u64) -> Outcome
+    ensures { λ r. ⌜ ((c f : List ℕ) → replyOf r c f ≡ detachOf (stateOf v c f) slot) ⌝ }
+    ensures one_record { λ r. ⌜ OthersStay v slot (r .view) ⌝ }
 {
     if 15 < slot {
-        return refuse(s, 2);
+        return refuse(v, 2);
     }
     let i = slot as usize;
-    let old = s.readers[i];
+    let old = v.readers[i];
     let condition = old.condition;
     match condition {
-        Condition::Empty => refuse(s, 6),
+        Condition::Empty => refuse(v, 6),
         Condition::Running | Condition::Waiting => {
-            let mut t = s;
-            t.readers[i] = Reader {
+            v.readers[i] = Reader {
                 condition: Condition::Empty,
                 file: 0,
                 pace: 0,
                 position: 0,
             };
-            reply(t, Answer::Done)
+            outcome(v, Answer::Done)
         }
     }
 }
@@ -335,27 +335,27 @@ pub fn wake(readers: [Reader; 16], key: usize) -> [Reader; 16]
 }
 
 // The page leaves fetch, and every reader that waits for it runs.
-fn close_fetch(mut s: State, key: usize) -> State
+fn close_fetch(mut v: View, fetching: &mut [u64; 128], key: usize) -> View
     requires { ⌜ key < 8192 ⌝ }
-    ensures { λ r. ⌜ r ≡ closed s key ⌝ }
+    ensures { λ r. ⌜ ((c : List ℕ) → stateOf r c (now (fetching .exit)) ≡ closed (stateOf v c (now (fetching .entry))) key) ⌝ }
 {
-    let waiting = s.readers;
+    bits::clear_bit(fetching, key);
+    let waiting = v.readers;
     let readers = wake(waiting, key);
-    s.readers = readers;
-    bits::clear_bit(&mut s.fetching, key);
-    s
+    v.readers = readers;
+    v
 }
 
-pub fn lost(s: State, file: u64, page: u64) -> Reply
-    requires { ⌜ size s file ≤ 1024 ⌝ }
-    ensures { λ r. ⌜ r ≡ lostOf s file page ⌝ }
+pub fn lost(v: View, fetching: &mut [u64; 128], file: u64, page: u64) -> Outcome
+    requires { ⌜ getD (v .sizes) file 0 ≤ 1024 ⌝ }
+    ensures { λ r. ⌜ ((c : List ℕ) → replyOf r c (now (fetching .exit)) ≡ lostOf (stateOf v c (now (fetching .entry))) file page) ⌝ }
 {
-    let sizes = s.sizes;
-    let number = fetch_refusal(sizes, &s.fetching, file, page);
+    let sizes = v.sizes;
+    let number = fetch_refusal(sizes, fetching, file, page);
     if number != 0 {
-        return refuse(s, number);
+        return refuse(v, number);
     }
-    reply(close_fetch(s, page_key(file, page)), Answer::Done)
+    outcome(close_fetch(v, fetching, page_key(file, page)), Answer::Done)
 }
 
 // The file of a key.
@@ -384,15 +384,20 @@ fn make_room(cached: &mut [u64; 128], gone: Choice)
 }
 
 // A page arrives: one that is chosen gives up its frame, the page leaves fetch, is cached, and every reader that waits for it runs.
-pub fn land(s: State, key: usize, gone: Choice) -> State
+fn land(
+    v: View,
+    cached: &mut [u64; 128],
+    fetching: &mut [u64; 128],
+    key: usize,
+    gone: Choice,
+) -> View
     requires { ⌜ key < 8192 ⌝ }
     requires { ⌜ InMap (chosen gone) ⌝ }
-    ensures { λ r. ⌜ r ≡ landedWith s (chosen gone) key ⌝ }
+    ensures { λ r. ⌜ stateOf r (now (cached .exit)) (now (fetching .exit)) ≡ landedWith (stateOf v (now (cached .entry)) (now (fetching .entry))) (chosen gone) key ⌝ }
 {
-    let mut t = close_fetch(s, key);
-    make_room(&mut t.cached, gone);
-    bits::set_bit(&mut t.cached, key);
-    t
+    make_room(cached, gone);
+    bits::set_bit(cached, key);
+    close_fetch(v, fetching, key)
 }
 
 // Arrive's answer, which names the page that gave up its frame.
@@ -419,57 +424,58 @@ fn give_up<'a>(v: View, cached: &'a [u64; 128], fetching: &'a [u64; 128]) -> Cho
     order::victim(v, cached, fetching)
 }
 
-pub fn arrive(s: State, file: u64, page: u64) -> Reply
-    requires { ⌜ Valid s ⌝ }
-    ensures { λ r. ⌜ r ≡ arriveOf s file page ⌝ }
+pub fn arrive(
+    v: View,
+    cached: &mut [u64; 128],
+    fetching: &mut [u64; 128],
+    file: u64,
+    page: u64,
+) -> Outcome
+    requires { ⌜ Valid (stateOf v (now cached) (now fetching)) ⌝ }
+    ensures { λ r. ⌜ replyOf r (now (cached .exit)) (now (fetching .exit)) ≡ arriveOf (stateOf v (now (cached .entry)) (now (fetching .entry))) file page ⌝ }
 {
-    let sizes = s.sizes;
-    let number = fetch_refusal(sizes, &s.fetching, file, page);
+    let sizes = v.sizes;
+    let number = fetch_refusal(sizes, fetching, file, page);
     if number != 0 {
-        return refuse(s, number);
+        return refuse(v, number);
     }
-    let before = order::view_of(s);
-    let gone = give_up(before, &s.cached, &s.fetching);
-    let answer = arrival(gone);
-    reply(land(s, page_key(file, page), gone), answer)
+    let gone = give_up(v, cached, fetching);
+    let after = land(v, cached, fetching, page_key(file, page), gone);
+    outcome(after, arrival(gone))
 }
 
-// ---- Steal and Prefetch: the heads of the two orders
+// ---- Steal and Prefetch: the heads of the two orders. The view stays.
 
-pub fn steal(mut s: State) -> Reply
-    requires { ⌜ Valid s ⌝ }
-    ensures { λ r. ⌜ r ≡ stealOf s ⌝ }
+pub fn steal(v: View, cached: &mut [u64; 128], fetching: &[u64; 128]) -> Answer
+    requires { ⌜ Valid (stateOf v (now cached) (now fetching)) ⌝ }
+    ensures { λ r. ⌜ reply (stateOf v (now (cached .exit)) (now (fetching .entry))) r ≡ stealOf (stateOf v (now (cached .entry)) (now (fetching .entry))) ⌝ }
 {
-    let view = order::view_of(s);
-    let gone = order::victim(view, &s.cached, &s.fetching);
+    let gone = order::victim(v, cached, fetching);
     match gone {
         Choice::Key(k) => {
-            bits::clear_bit(&mut s.cached, k as usize);
-            let stolen = Answer::Stolen {
+            bits::clear_bit(cached, k as usize);
+            Answer::Stolen {
                 file: file_of(k),
                 page: page_of(k),
-            };
-            reply(s, stolen)
+            }
         }
-        Choice::Nothing => reply(s, Answer::Nothing),
+        Choice::Nothing => Answer::Nothing,
     }
 }
 
-pub fn prefetch(mut s: State) -> Reply
-    requires { ⌜ Valid s ⌝ }
-    ensures { λ r. ⌜ r ≡ prefetchOf s ⌝ }
+pub fn prefetch(v: View, cached: &[u64; 128], fetching: &mut [u64; 128]) -> Answer
+    requires { ⌜ Valid (stateOf v (now cached) (now fetching)) ⌝ }
+    ensures { λ r. ⌜ reply (stateOf v (now (cached .entry)) (now (fetching .exit))) r ≡ prefetchOf (stateOf v (now (cached .entry)) (now (fetching .entry))) ⌝ }
 {
-    let view = order::view_of(s);
-    let next = order::next_fetch(view, &s.cached, &s.fetching);
+    let next = order::next_fetch(v, cached, fetching);
     match next {
         Choice::Key(k) => {
-            bits::set_bit(&mut s.fetching, k as usize);
-            let fetch = Answer::Fetch {
+            bits::set_bit(fetching, k as usize);
+            Answer::Fetch {
                 file: file_of(k),
                 page: page_of(k),
-            };
-            reply(s, fetch)
+            }
         }
-        Choice::Nothing => reply(s, Answer::Nothing),
+        Choice::Nothing => Answer::Nothing,
     }
 }

@@ -8,13 +8,10 @@ use borrow.Author.Tests.{not-true, not-false}
 use lib.ListN.{getD, length}
 use mir.Syntax.{w8}
 use mir.Val.{Fits}
-use lib.Dec.{eqb, eqb→eq}
 use Rattle.rules.specs.Valid.{Valid}
 use Rattle.rules.specs.Image.{imageOf, restoreOf}
 use Rattle.rules.specs.Entries.{code, carriedOut, Call, callOf, Entered, entered, enter}
-use Rattle.rules.proofs.Tests.{and-first}
-use Rattle.rules.proofs.Numbers.{Bytes}
-use Rattle.rules.proofs.Images.{done-taken, done-or-not, restore-refused, restored-valid}
+use Rattle.rules.proofs.Images.{done-length, done-or-not, restore-refused, lent-valid}
 use Rattle.rules.proofs.Enters.{enter-unrestored, enter-restored}
 use Rattle.rules.proofs.Kept.{kept}
 use Rattle.rules.specs.declared.Reply.{Reply}
@@ -33,14 +30,10 @@ module _ (image : List ℕ) (r : Reply) (ok : Bool) (told : ok ≡ carriedOut (r
 abbrev Lent : List ℕ → Type 0
 Lent image = (i : ℕ) → Fits w8 (getD image i 0)
 
--- they are bytes
-lent-bytes : (image : List ℕ) → Lent image → Bytes image
-lent-bytes image lent i = lent i .fits
-
 module _ (image : List ℕ) (r : Reply) (restored : r ≡ restoreOf image) where
   -- the state that a call is done on is valid
   pub entry-valid : Lent image → Valid (r .state)
-  entry-valid lent = rw restored (restored-valid image (lent-bytes image lent))
+  entry-valid lent = lent-valid image lent r restored
 
   module _ (ok : Bool) (told : ok ≡ carriedOut (r .answer)) where
     -- the test tells whether Restore is done
@@ -58,7 +51,7 @@ module _ (image : List ℕ) (r : Reply) (restored : r ≡ restoreOf image) where
       module _ (t : not ok ≡ false) (q : Reply) (called : q ≡ callOf c (r .state)) where
         -- what the end of the entry asks for
         pub entry-ready : Lent image → Valid (q .state) × (length image ≡ 2208)
-        entry-ready lent = (rw called (kept c (r .state) (entry-valid lent)), eqb→eq (length image) 2208 (and-first (eqb (length image) 2208) _ (done-taken image (done t))))
+        entry-ready lent = (rw called (kept c (r .state) (entry-valid lent)), done-length image (done t))
 
         -- the end of the entry gives what the rule says
         pub entry-restored : (e : Entered) → e ≡ entered image q → e ≡ enter c image

@@ -1,9 +1,10 @@
 // The entries for the server in C: on numbers and an image, which C passes as the address of its first byte and their count.
 use rules::Answer;
-use rules::Reply;
+use rules::Outcome;
 ghost use mathlib.Core.Path.{_≡_};
 ghost use Prim.Native.Nat.{_+_, _*_};
 ghost use lib.ListN.{length};
+ghost use Rattle.rules.specs.Views.{stateOf, replyOf};
 ghost use Rattle.rules.specs.Pages.{keyOf};
 ghost use Rattle.rules.specs.Valid.{Valid};
 ghost use Rattle.rules.specs.Entries.{code, carriedOut, attach, detach, read, arrive, lost, prefetch, steal, run, entered, enter};
@@ -63,16 +64,16 @@ fn carried_out(a: Answer) -> bool
 // ---- the end of an entry
 
 // A refusal leaves the buffer; after any other answer it holds the state.
-fn finish(r: Reply, image: &mut [u8]) -> u64
-    requires { ⌜ Valid (r .state) × (length (now image) ≡ 2208) ⌝ }
-    ensures { λ n. ⌜ record { number = n; image = now (image .exit) } ≡ entered (now (image .entry)) r ⌝ }
+fn finish<'a>(r: Outcome, cached: &'a [u64; 128], fetching: &'a [u64; 128], image: &mut [u8]) -> u64
+    requires { ⌜ Valid (stateOf (r .view) (now cached) (now fetching)) × (length (now image) ≡ 2208) ⌝ }
+    ensures { λ n. ⌜ record { number = n; image = now (image .exit) } ≡ entered (now (image .entry)) (replyOf r (now (cached .entry)) (now (fetching .entry))) ⌝ }
 {
     let answer = r.answer;
     let n = number(answer);
     if !carried_out(answer) {
         return n;
     }
-    image::save_whole(r.state, image);
+    image::save_whole(r.view, cached, fetching, image);
     n
 }
 
@@ -82,94 +83,128 @@ fn finish(r: Reply, image: &mut [u8]) -> u64
 pub extern "C" fn quay_attach(image: &mut [u8], slot: u64, file: u64, pace: u64) -> u64
     ensures { λ n. ⌜ record { number = n; image = now (image .exit) } ≡ enter (attach slot file pace) (now (image .entry)) ⌝ }
 {
-    let restored = image::restore(image);
-    let answer = restored.answer;
-    if !carried_out(answer) {
+    let mut cached = [0u64; 128];
+    let mut fetching = [0u64; 128];
+    let restored = image::restore(image, &mut cached, &mut fetching);
+    let done = restored.answer;
+    if !carried_out(done) {
         return NO_IMAGE;
     }
-    finish(calls::attach(restored.state, slot, file, pace), image)
+    finish(
+        calls::attach(restored.view, slot, file, pace),
+        &cached,
+        &fetching,
+        image,
+    )
 }
 
 #[no_mangle]
 pub extern "C" fn quay_detach(image: &mut [u8], slot: u64) -> u64
     ensures { λ n. ⌜ record { number = n; image = now (image .exit) } ≡ enter (detach slot) (now (image .entry)) ⌝ }
 {
-    let restored = image::restore(image);
-    let answer = restored.answer;
-    if !carried_out(answer) {
+    let mut cached = [0u64; 128];
+    let mut fetching = [0u64; 128];
+    let restored = image::restore(image, &mut cached, &mut fetching);
+    let done = restored.answer;
+    if !carried_out(done) {
         return NO_IMAGE;
     }
-    finish(calls::detach(restored.state, slot), image)
+    finish(
+        calls::detach(restored.view, slot),
+        &cached,
+        &fetching,
+        image,
+    )
 }
 
 #[no_mangle]
 pub extern "C" fn quay_read(image: &mut [u8], slot: u64) -> u64
     ensures { λ n. ⌜ record { number = n; image = now (image .exit) } ≡ enter (read slot) (now (image .entry)) ⌝ }
 {
-    let restored = image::restore(image);
-    let answer = restored.answer;
-    if !carried_out(answer) {
+    let mut cached = [0u64; 128];
+    let mut fetching = [0u64; 128];
+    let restored = image::restore(image, &mut cached, &mut fetching);
+    let done = restored.answer;
+    if !carried_out(done) {
         return NO_IMAGE;
     }
-    finish(calls::read(restored.state, slot), image)
+    let r = calls::read(restored.view, &cached, &mut fetching, slot);
+    finish(r, &cached, &fetching, image)
 }
 
 #[no_mangle]
 pub extern "C" fn quay_arrive(image: &mut [u8], file: u64, page: u64) -> u64
     ensures { λ n. ⌜ record { number = n; image = now (image .exit) } ≡ enter (arrive file page) (now (image .entry)) ⌝ }
 {
-    let restored = image::restore(image);
-    let answer = restored.answer;
-    if !carried_out(answer) {
+    let mut cached = [0u64; 128];
+    let mut fetching = [0u64; 128];
+    let restored = image::restore(image, &mut cached, &mut fetching);
+    let done = restored.answer;
+    if !carried_out(done) {
         return NO_IMAGE;
     }
-    finish(calls::arrive(restored.state, file, page), image)
+    let r = calls::arrive(restored.view, &mut cached, &mut fetching, file, page);
+    finish(r, &cached, &fetching, image)
 }
 
 #[no_mangle]
 pub extern "C" fn quay_lost(image: &mut [u8], file: u64, page: u64) -> u64
     ensures { λ n. ⌜ record { number = n; image = now (image .exit) } ≡ enter (lost file page) (now (image .entry)) ⌝ }
 {
-    let restored = image::restore(image);
-    let answer = restored.answer;
-    if !carried_out(answer) {
+    let mut cached = [0u64; 128];
+    let mut fetching = [0u64; 128];
+    let restored = image::restore(image, &mut cached, &mut fetching);
+    let done = restored.answer;
+    if !carried_out(done) {
         return NO_IMAGE;
     }
-    finish(calls::lost(restored.state, file, page), image)
+    let r = calls::lost(restored.view, &mut fetching, file, page);
+    finish(r, &cached, &fetching, image)
 }
 
 #[no_mangle]
 pub extern "C" fn quay_prefetch(image: &mut [u8]) -> u64
     ensures { λ n. ⌜ record { number = n; image = now (image .exit) } ≡ enter prefetch (now (image .entry)) ⌝ }
 {
-    let restored = image::restore(image);
-    let answer = restored.answer;
-    if !carried_out(answer) {
+    let mut cached = [0u64; 128];
+    let mut fetching = [0u64; 128];
+    let restored = image::restore(image, &mut cached, &mut fetching);
+    let done = restored.answer;
+    if !carried_out(done) {
         return NO_IMAGE;
     }
-    finish(calls::prefetch(restored.state), image)
+    let view = restored.view;
+    let answer = calls::prefetch(view, &cached, &mut fetching);
+    finish(Outcome { view, answer }, &cached, &fetching, image)
 }
 
 #[no_mangle]
 pub extern "C" fn quay_steal(image: &mut [u8]) -> u64
     ensures { λ n. ⌜ record { number = n; image = now (image .exit) } ≡ enter steal (now (image .entry)) ⌝ }
 {
-    let restored = image::restore(image);
-    let answer = restored.answer;
-    if !carried_out(answer) {
+    let mut cached = [0u64; 128];
+    let mut fetching = [0u64; 128];
+    let restored = image::restore(image, &mut cached, &mut fetching);
+    let done = restored.answer;
+    if !carried_out(done) {
         return NO_IMAGE;
     }
-    finish(calls::steal(restored.state), image)
+    let view = restored.view;
+    let answer = calls::steal(view, &mut cached, &fetching);
+    finish(Outcome { view, answer }, &cached, &fetching, image)
 }
 
 #[no_mangle]
 pub extern "C" fn quay_run(image: &mut [u8], turns: u64) -> u64
     ensures { λ n. ⌜ record { number = n; image = now (image .exit) } ≡ enter (run turns) (now (image .entry)) ⌝ }
 {
-    let restored = image::restore(image);
-    let answer = restored.answer;
-    if !carried_out(answer) {
+    let mut cached = [0u64; 128];
+    let mut fetching = [0u64; 128];
+    let restored = image::restore(image, &mut cached, &mut fetching);
+    let done = restored.answer;
+    if !carried_out(done) {
         return NO_IMAGE;
     }
-    finish(run::run(restored.state, turns), image)
+    let r = run::run(restored.view, &mut cached, &mut fetching, turns);
+    finish(r, &cached, &fetching, image)
 }

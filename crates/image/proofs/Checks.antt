@@ -11,7 +11,7 @@ use lib.Dec.{T}
 use Rattle.rules.specs.Lists.{range, every}
 use Rattle.rules.proofs.Cases.{outcomes, passed, failed}
 use Rattle.rules.proofs.Tests.{is-true}
-use Rattle.rules.proofs.Members.{All, range-in, range-at}
+use Rattle.rules.proofs.Members.{range-in, range-at}
 use Rattle.rules.proofs.Parts.{all-always, always-all, every-all, all-every}
 
 -- two tests that pass together
@@ -63,7 +63,15 @@ pub ruleset stops = (and-stop, and-later, call-stop, nor-left, nor-right, outcom
 -- where all before the last passed
 pub ruleset passes = (and-pass, call-pass, nor-both, outcomes)
 
--- ---- one for each of n numbers
+-- ---- one for each of some numbers
+
+-- each of them passes
+pub every-in : (P : ℕ → Bool) (a n : ℕ) → ((k : ℕ) → a ≤ k → k < a + n → T (P k)) → T (every P (range a n))
+every-in P a n h = all-every P (range a n) (range-in (λ k. T (P k)) a n h)
+
+-- one of those that all pass
+pub every-at : (P : ℕ → Bool) (a n : ℕ) → T (every P (range a n)) → (k : ℕ) → a ≤ k → k < a + n → T (P k)
+every-at P a n h k l m = range-at (λ i. T (P i)) a n k (every-all P (range a n) h) l m
 
 module _ (P : ℕ → Bool) where
   -- no number yet
@@ -74,18 +82,18 @@ module _ (P : ℕ → Bool) where
   -- one more
   pub every-more : (k : ℕ) (t : Bool) → every P (range 0 k) ≡ true → t ≡ P k → not t ≡ false → every P (range 0 (k + 1)) ≡ true
   every-more k t e f n =
-      let before = every-all P (range 0 k) (passed (every P (range 0 k)) e) in
+      let before = every-at P 0 k (passed (every P (range 0 k)) e) in
       let here : T (P k) = passed (P k) (sym f ∙ not-false t n) in
-      is-true (every P (range 0 (k + 1))) (all-every P (range 0 (k + 1)) (range-in (λ i. T (P i)) 0 (k + 1) (λ i _ l. by i l (ℕ-discrete i k) before here)))
+      is-true (every P (range 0 (k + 1))) (every-in P 0 (k + 1) (λ i _ l. by i l (ℕ-discrete i k) before here))
     where
-      by : (i : ℕ) → i < 0 + (k + 1) → Dec (i ≡ k) → All (λ j. T (P j)) (range 0 k) → T (P k) → T (P i)
+      by : (i : ℕ) → i < 0 + (k + 1) → Dec (i ≡ k) → ((j : ℕ) → 0 ≤ j → j < 0 + k → T (P j)) → T (P k) → T (P i)
       by i l (yes q) b h = rw q h
-      by i l (no d) b h = range-at (λ j. T (P j)) 0 k i b (omega arith) (omega arith)
+      by i l (no d) b h = b i (omega arith) (omega arith)
 
   -- one fails
   pub every-stop : (k n : ℕ) (t : Bool) → k < n → t ≡ P k → not t ≡ true → false ≡ every P (range 0 n)
   every-stop k n t l f m =
-      sym (same-test (every P (range 0 n)) false (λ h. failed (P k) (sym f ∙ not-true t m) (range-at (λ i. T (P i)) 0 n k (every-all P (range 0 n) h) (omega arith) (omega arith))) (λ z. absurd z))
+      sym (same-test (every P (range 0 n)) false (λ h. failed (P k) (sym f ∙ not-true t m) (every-at P 0 n h k (omega arith) (omega arith))) (λ z. absurd z))
 
   -- all pass
   pub every-end : (k n : ℕ) → every P (range 0 k) ≡ true → n ≤ k → k ≤ n → true ≡ every P (range 0 n)
@@ -95,12 +103,12 @@ module _ (P : ℕ → Bool) where
   pub every-listed : (l : List ℕ) (n : ℕ) → T (P 0) → length l ≡ n → every P l ≡ every (λ i. P (getD l i 0)) (range 0 n)
   every-listed l n p long =
       same-test (every P l) (every Q (range 0 n))
-      (λ h. all-every Q (range 0 n) (range-in (λ i. T (Q i)) 0 n (λ i _ _. all-always (λ x. T (P x)) 0 p l (every-all P l h) i)))
+      (λ h. every-in Q 0 n (λ i _ _. all-always (λ x. T (P x)) 0 p l (every-all P l h) i))
       (λ h. all-every P l (always-all (λ x. T (P x)) 0 l (λ i. by h i (decLt i n))))
     where
       Q : ℕ → Bool
       Q i = P (getD l i 0)
 
       by : T (every Q (range 0 n)) → (i : ℕ) → Dec (i < n) → T (P (getD l i 0))
-      by h i (yes q) = range-at (λ j. T (Q j)) 0 n i (every-all Q (range 0 n) h) (omega arith) (omega arith)
+      by h i (yes q) = every-at Q 0 n h i (omega arith) (omega arith)
       by h i (no q) = rw (List·getD-eq-default l 0 {n = i} (omega arith)) p

@@ -5,5 +5,6 @@ pub mod Fills
 pub mod States
 pub mod Checks
 pub mod Slots
-pub mod WordTests
+pub mod Clears
+pub mod MapTests
 pub mod Restores

@@ -1,13 +1,12 @@
 -- Restore's verdict from the tests that its code makes. Assumes nothing.
 use mathlib.Core.Path.{_≡_, refl, sym, ap, ap₂, _∙_}
-use mathlib.Core.Bool.{Bool, true, false, not, _&&_}
+use mathlib.Core.Bool.{Bool, true, false, not, _&&_, and-assoc}
 use mathlib.Core.List.{List}
-use Prim.Native.Nat.{ℕ, zero, suc, _+_, _*_, _^_, _≤_, _<_}
-use native.Mathlib.Nat.{one-le-pow, pow-le-pow-right, lt-of-lt-of-le}
+use Prim.Native.Nat.{ℕ, zero, suc, _+_, _≤_, _<_}
 use native.Mathlib.Decide.{decLt}
 use native.Mathlib.Omega.{arith}
 use borrow.Author.Tests.{not-true, not-false, ne-eqb, le-leb, lt-leb}
-use lib.ListN.{length, getD, take, drop, length-take, List·getD-eq-default}
+use lib.ListN.{length, List·getD-eq-default}
 use lib.Dec.{T, leb, eqb}
 use Rattle.bits.specs.Map.{bit, ones}
 use Rattle.bits.proofs.Bits.{bit-le}
@@ -20,15 +19,14 @@ use Rattle.rules.specs.Image.{stateFrom, slotHolds, keyHolds, accepts, restoreO
 use Rattle.rules.proofs.Cases.{passed}
 use Rattle.rules.proofs.Tests.{or-left}
 use Rattle.rules.proofs.Members.{range-at}
-use Rattle.rules.proofs.Parts.{Always, always-map, always-take, always-drop, every-all, length-listed}
+use Rattle.rules.proofs.Parts.{every-all}
 use Rattle.rules.proofs.Counts.{pages-count}
-use Rattle.rules.proofs.Numbers.{Bytes, number-low}
 use Rattle.rules.proofs.Accepts.{settings-in, key-in, unset}
-use Rattle.rules.proofs.Offsets.{setting-at, size-at, gap-at, cached-at, fetching-at}
-use Rattle.image.specs.Bytes.{numberAt, numberFrom, numbersAt, numbers, stateIn}
-use Rattle.image.specs.Tests.{FromImage, SizesLow, settingsFrom, gapsHold, holdsAt}
-use Rattle.image.proofs.States.{part-at}
-use Rattle.image.proofs.WordTests.{words-keys}
+use Rattle.rules.proofs.Offsets.{setting-at, gap-at}
+use Rattle.image.specs.Bytes.{numberAt, numbersAt, numbers, stateIn}
+use Rattle.image.specs.Tests.{SizesLow, settingsFrom, gapsHold, apartAt, sizeHolds}
+use Rattle.image.proofs.States.{sizes-read, cached-long}
+use Rattle.image.proofs.MapTests.{maps-keys}
 use Rattle.rules.specs.declared.State.{State}
 use Rattle.rules.specs.declared.Answer.the-variants.{Done}
 
@@ -55,34 +53,6 @@ pages-ones s long small keys = pages-count s small (cached s) (λ k h. by k h (d
     by k h (yes l) = record { low = l; there = key-in s k (range-at (λ i. T (keyHolds s i)) 0 8192 k (every-all (keyHolds s) (range 0 8192) keys) (omega arith) (omega arith)) .there (or-left (cached s k) _ h) }
     by k h (no n) = absurd (unset (s .cached) k (List·getD-eq-default (s .cached) 0 (omega arith)) h)
 
--- ---- the maps of an image
-
-module _ (image : List ℕ) (bytes : Bytes image) where
-  number-fits : (w at : ℕ) → numberAt w image at < 256 ^ w
-  number-fits w at =
-      let part = take w (drop at image) in
-      let short : length part ≤ w = omega (arith, length-take w (drop at image)) in
-      lt-of-lt-of-le (number-low part (always-take (λ b. b < 256) 0 (omega arith) w (drop at image) (always-drop (λ b. b < 256) 0 at image bytes))) (pow-le-pow-right (omega arith) short)
-
-  numbers-fit : (w at n : ℕ) → Always (λ x. x < 256 ^ w) 0 (numbersAt w image at n)
-  numbers-fit w at n = always-map (λ x. x < 256 ^ w) 0 (one-le-pow w 256 (omega arith)) 0 (numberFrom w image at) (range 0 n) (λ j. number-fits w (at + w * getD (range 0 n) j 0))
-
-  map-fits : (place o : ℕ) → ((k : ℕ) → k < 128 → getD (numbers image) (o + k) 0 ≡ numberFrom 8 image place k) → o + 128 ≤ 350 → Always (λ x. x < 2 ^ 64) 0 (take 128 (drop o (numbers image)))
-  map-fits place o at fits = rw (part-at image 8 place o 128 at fits) at (numbers-fit 8 place 128)
-
-  -- the words of both maps fit, and those of the cached map are 128
-  cached-fits : Always (λ x. x < 2 ^ 64) 0 (stateIn image .cached)
-  unfolding stateFrom
-  cached-fits = map-fits 160 94 (cached-at image) (omega arith)
-
-  fetching-fits : Always (λ x. x < 2 ^ 64) 0 (stateIn image .fetching)
-  unfolding stateFrom
-  fetching-fits = map-fits 1184 222 (fetching-at image) (omega arith)
-
-  cached-long : length (stateIn image .cached) ≡ 128
-  unfolding stateFrom
-  cached-long = ap length (sym (part-at image 8 160 94 128 (cached-at image) (omega arith))) ∙ length-listed (numberFrom 8 image 160) 128
-
 -- ---- the verdict
 
 and-same : (a b c : Bool) → (T a → b ≡ c) → (a && b) ≡ (a && c)
@@ -95,12 +65,13 @@ verdict image sizes cached fetching =
     settingsFrom image sizes
     && (within 0 15 (numberAt 1 image 2)
     && (every (slotHolds (numbers image)) (range 0 16)
-    && (every (holdsAt sizes cached fetching) (range 0 128)
+    && (every (apartAt cached fetching) (range 0 8192)
+    && (every (sizeHolds sizes cached fetching) (range 0 8)
     && (leb (ones cached 0 8192) (numberAt 2 image 0)
-    && gapsHold image))))
+    && gapsHold image)))))
 
--- the numbers before the sizes
 module _ (image : List ℕ) where
+  -- the numbers before the sizes
   frames-same : numberAt 2 image 0 ≡ stateIn image .frames
   unfolding stateFrom
   frames-same = sym (setting-at image 0 (omega arith))
@@ -113,12 +84,6 @@ module _ (image : List ℕ) where
   unfolding stateFrom
   settings-same sizes = λ i. settingsIn (sym (setting-at image 0 (omega arith)) i) (sym (setting-at image 3 (omega arith)) i) (sym (setting-at image 4 (omega arith)) i) sizes
 
-  -- the sizes are 8
-  pub sizes-eight : (sizes fetching : List ℕ) → FromImage image sizes fetching → length sizes ≡ 8
-  unfolding stateFrom
-  sizes-eight sizes fetching h = ap length (h .sizes-read ∙ sym (part-at image 2 12 5 8 (size-at image) (omega arith))) ∙ length-listed (numberFrom 2 image 12) 8
-
-module _ (image : List ℕ) (bytes : Bytes image) where
   verdict-accepts : verdict image (stateIn image .sizes) (stateIn image .cached) (stateIn image .fetching) ≡ accepts (numbers image)
   unfolding accepts
   verdict-accepts =
@@ -126,16 +91,17 @@ module _ (image : List ℕ) (bytes : Bytes image) where
       let keys = every (keyHolds s) (range 0 8192) in
       let gap = ap (λ n. eqb n 0) (sym (setting-at image 2 (omega arith))) in
       let gap-maps = ap (λ n. eqb n 0) (sym (gap-at image)) in
-      rw (settings-same image (s .sizes), turn-same image, frames-same image, words-keys s (cached-fits image bytes) (fetching-fits image bytes))
+      rw (settings-same (s .sizes), turn-same, frames-same)
       (and-same (settingsIn (s .frames) (s .«look_ahead») (s .«fetch_time») (s .sizes)) _ _ (λ h. ap (λ r. within 0 15 (s .turn) && (every (slotHolds (numbers image)) (range 0 16) && r))
-      (and-same keys _ _ (λ k. ap₂ _&&_
-      (ap (λ n. leb n (s .frames)) (sym (pages-ones s (cached-long image bytes) (settings-in (s .frames) (s .«look_ahead») (s .«fetch_time») (s .sizes) h .sizes-in) k)))
-      (ap₂ _&&_ gap gap-maps)))))
+      (sym (and-assoc (every (apartAt (s .cached) (s .fetching)) (range 0 8192)) (every (sizeHolds (s .sizes) (s .cached) (s .fetching)) (range 0 8)) (leb (ones (s .cached) 0 8192) (s .frames) && gapsHold image))
+      ∙ rw (maps-keys s) (and-same keys _ _ (λ k. ap₂ _&&_
+      (ap (λ n. leb n (s .frames)) (sym (pages-ones s (cached-long image) (settings-in (s .frames) (s .«look_ahead») (s .«fetch_time») (s .sizes) h .sizes-in) k)))
+      (ap₂ _&&_ gap gap-maps))))))
 
   -- the tests are those of the rule
-  pub verdict-is : (sizes cached fetching : List ℕ) → FromImage image sizes fetching → cached ≡ stateIn image .cached → (t : Bool) → t ≡ verdict image sizes cached fetching
-      → t ≡ accepts (numbers image)
-  verdict-is sizes cached fetching h c t e = e ∙ rw (h .sizes-read, h .fetching-read, c) verdict-accepts
+  pub verdict-is : (sizes cached fetching : List ℕ) → sizes ≡ numbersAt 2 image 12 8 → cached ≡ stateIn image .cached → fetching ≡ stateIn image .fetching
+      → (t : Bool) → t ≡ verdict image sizes cached fetching → t ≡ accepts (numbers image)
+  verdict-is sizes cached fetching z c f t e = e ∙ rw (z, sizes-read image, c, f) verdict-accepts
 
 -- the sizes are low where the test of the settings passes
 pub sizes-low : (image sizes : List ℕ) (t : Bool) → t ≡ settingsFrom image sizes → not t ≡ false → SizesLow sizes

@@ -7,12 +7,13 @@ use lib.ListN.{length, getD, take, drop}
 use lib.Seq.{ext-getD}
 use Rattle.rules.specs.Lists.{range, each}
 use Rattle.rules.specs.Calls.{idle}
+use Rattle.rules.specs.Views.{stateOf, viewOf}
 use Rattle.rules.specs.Image.{layout, conditionOf, readerFrom, stateFrom}
 use Rattle.rules.proofs.Parts.{part-listed, length-listed, getD-listed}
 use Rattle.rules.proofs.Tables.{numbers-length}
 use Rattle.rules.proofs.Offsets.{setting-at, size-at, slot-at, cached-at, fetching-at}
 use Rattle.image.specs.Bytes.{numberAt, numberFrom, numbersAt, numbers, stateIn}
-use Rattle.rules.specs.declared.State.{State}
+use Rattle.rules.specs.declared.View.{View}
 use Rattle.rules.specs.declared.Reader.{Reader}
 use Rattle.rules.specs.declared.Condition.{Condition}
 use Rattle.rules.specs.declared.Condition.the-variants.{Waiting}
@@ -58,26 +59,44 @@ module _ (image : List ℕ) where
         position = (e₃ ∙ sym (slot-at image j 3 l (omega arith))) i;
       }
 
-  -- the state
-  pub state-read : (frames turn look time : ℕ) (sizes : List ℕ) (readers : List Reader) (cached fetching : List ℕ)
+  -- the sizes and the maps
+  pub sizes-read : numbersAt 2 image 12 8 ≡ stateIn image .sizes
+  unfolding stateFrom
+  sizes-read = part-at 2 12 5 8 (size-at image) (omega arith)
+
+  pub cached-read : numbersAt 8 image 160 128 ≡ stateIn image .cached
+  unfolding stateFrom
+  cached-read = part-at 8 160 94 128 (cached-at image) (omega arith)
+
+  pub fetching-read : numbersAt 8 image 1184 128 ≡ stateIn image .fetching
+  unfolding stateFrom
+  fetching-read = part-at 8 1184 222 128 (fetching-at image) (omega arith)
+
+  -- the cached map has 128 words
+  pub cached-long : length (stateIn image .cached) ≡ 128
+  cached-long = ap length (sym cached-read) ∙ length-listed (numberFrom 8 image 160) 128
+
+  -- the state but its maps
+  pub view-read : (frames turn look time : ℕ) (sizes : List ℕ) (readers : List Reader)
       → frames ≡ numberAt 2 image 0
       → turn ≡ numberAt 1 image 2
       → look ≡ numberAt 4 image 4
       → time ≡ numberAt 4 image 8
       → sizes ≡ numbersAt 2 image 12 8
       → readers ≡ map (readerFrom (numbers image)) (range 0 16)
-      → cached ≡ numbersAt 8 image 160 128
-      → fetching ≡ numbersAt 8 image 1184 128
-      → _≡_ {A = State} (record { frames = frames; turn = turn; «look_ahead» = look; «fetch_time» = time; sizes = sizes; readers = readers; cached = cached; fetching = fetching }) (stateIn image)
+      → _≡_ {A = View} (record { frames = frames; turn = turn; «look_ahead» = look; «fetch_time» = time; sizes = sizes; readers = readers }) (viewOf (stateIn image))
   unfolding stateFrom
-  state-read frames turn look time sizes readers cached fetching e₀ e₁ e₃ e₄ e₅ r c f = λ i.
+  view-read frames turn look time sizes readers e₀ e₁ e₃ e₄ e₅ r = λ i.
       record {
         frames = (e₀ ∙ sym (setting-at image 0 (omega arith))) i;
         turn = (e₁ ∙ sym (setting-at image 1 (omega arith))) i;
         «look_ahead» = (e₃ ∙ sym (setting-at image 3 (omega arith))) i;
         «fetch_time» = (e₄ ∙ sym (setting-at image 4 (omega arith))) i;
-        sizes = (e₅ ∙ part-at 2 12 5 8 (size-at image) (omega arith)) i;
+        sizes = (e₅ ∙ sizes-read) i;
         readers = r i;
-        cached = (c ∙ part-at 8 160 94 128 (cached-at image) (omega arith)) i;
-        fetching = (f ∙ part-at 8 1184 222 128 (fetching-at image) (omega arith)) i;
       }
+
+  -- with its maps it is whole
+  pub state-read : (v : View) (cached fetching : List ℕ) → v ≡ viewOf (stateIn image) → cached ≡ numbersAt 8 image 160 128 → fetching ≡ numbersAt 8 image 1184 128
+      → stateOf v cached fetching ≡ stateIn image
+  state-read v cached fetching e c f = λ i. stateOf (e i) ((c ∙ cached-read) i) ((f ∙ fetching-read) i)

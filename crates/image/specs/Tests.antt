@@ -1,11 +1,12 @@
 -- Restore's tests as its code makes them. Assumes nothing: these are definitions.
 use mathlib.Core.Path.{_≡_}
-use Prim.Native.Nat.{ℕ, min, _≤_, _*_, _-_, _/_, _%_, _^_}
-use mathlib.Core.Bool.{Bool, _&&_}
+use Prim.Native.Nat.{ℕ, _≤_, _+_, _*_, _-_}
+use mathlib.Core.Bool.{Bool, not, _&&_, _||_}
 use mathlib.Core.List.{List}
-use lib.Bits.{bitAnd, bitOr}
 use lib.ListN.{length, getD}
 use lib.Dec.{eqb}
+use Rattle.bits.specs.Map.{bit}
+use Rattle.rules.specs.Lists.{range, every}
 use Rattle.rules.specs.Calls.{settingsIn, idle}
 use Rattle.image.specs.Bytes.{numberAt, stateIn}
 use Rattle.rules.specs.declared.State.{State}
@@ -42,14 +43,18 @@ settingsFrom image sizes = settingsIn (numberAt 2 image 0) (numberAt 4 image 4) 
 abbrev pub gapsHold : List ℕ → Bool
 gapsHold image = eqb (numberAt 1 image 3) 0 && eqb (numberAt 4 image 156) 0
 
--- how many pages of its file the word i of a map has
-abbrev pub roomIn : List ℕ → ℕ → ℕ
-roomIn sizes i = min 64 (getD sizes (i / 16) 0 - 64 * (i % 16))
+-- the page of key k is not in both maps
+abbrev pub apartAt : List ℕ → List ℕ → ℕ → Bool
+apartAt cached fetching k = not (eqb (bit cached k) 1 && eqb (bit fetching k) 1)
 
--- a word of the cached map and the same of the fetch map: no page in both, and no bit above so many
-unfoldable pub wordHolds : ℕ → ℕ → ℕ → Bool
-wordHolds room c f = eqb (bitAnd c f) 0 && eqb (bitOr c f / 2 ^ room) 0
+-- it is in neither
+abbrev pub clearAt : List ℕ → List ℕ → ℕ → Bool
+clearAt cached fetching k = not (eqb (bit cached k) 1 || eqb (bit fetching k) 1)
 
--- word i of both maps
-unfoldable pub holdsAt : List ℕ → List ℕ → List ℕ → ℕ → Bool
-holdsAt sizes cached fetching i = wordHolds (roomIn sizes i) (getD cached i 0) (getD fetching i 0)
+-- no page above so many of file f is in a map
+unfoldable pub clearAbove : List ℕ → List ℕ → ℕ → ℕ → Bool
+clearAbove cached fetching f size = every (clearAt cached fetching) (range (f * 1024 + size) (1024 - size))
+
+-- no page above the size of file f is
+abbrev pub sizeHolds : List ℕ → List ℕ → List ℕ → ℕ → Bool
+sizeHolds sizes cached fetching f = clearAbove cached fetching f (getD sizes f 0)

@@ -2,21 +2,23 @@
 ghost use mathlib.Core.Path.{_≡_};
 ghost use mathlib.Core.Bool.{_&&_};
 ghost use mathlib.Core.List.{[], map};
-ghost use Prim.Native.Nat.{min, _+_, _*_, _-_, _<_, _≤_};
+ghost use Prim.Native.Nat.{_+_, _*_, _-_, _<_, _≤_};
+ghost use lib.Bits.{bitAnd, bitOr};
 ghost use lib.ListN.{length, replicate};
 ghost use lib.Dec.{eqb};
 ghost use Rattle.rules.specs.Lists.{range, each, every, within};
 ghost use Rattle.rules.specs.Valid.{Valid};
+ghost use Rattle.rules.specs.Views.{stateOf, viewOf, replyOf};
 ghost use Rattle.rules.specs.Calls.{refused, idle as idleState};
 ghost use Rattle.rules.specs.Readers.{noReader, awaits};
 ghost use Rattle.rules.specs.Image.{bytesOf, conditionNumber, conditionOf, readerFrom, imageOf, saveOf, readerPlaced, readerHolds, slotHolds, accepts, restoreOf};
 ghost use Rattle.image.specs.Bytes.{written, encoded, readerBytes, settingsFields, numberAt, numbersAt, numbers, stateIn};
-ghost use Rattle.image.specs.Tests.{among, FromImage, SizesLow, settingsFrom, gapsHold, roomIn, wordHolds, holdsAt};
+ghost use Rattle.image.specs.Tests.{among, FromImage, SizesLow, settingsFrom, gapsHold, apartAt, clearAt, clearAbove, sizeHolds};
 use rules::Answer;
 use rules::Condition;
+use rules::Outcome;
 use rules::Reader;
-use rules::Reply;
-use rules::State;
+use rules::View;
 
 // ---- numbers as bytes, the lowest first
 
@@ -150,27 +152,32 @@ fn put_settings(buffer: &mut [u8], frames: u16, turn: u8, look_ahead: u32, fetch
 }
 
 // Save into a buffer that is as long as an image.
-pub fn save_whole(s: State, buffer: &mut [u8])
-    requires { ⌜ Valid s × (length (now buffer) ≡ 2208) ⌝ }
-    ensures { λ _. ⌜ now (buffer .exit) ≡ imageOf s ⌝ }
+pub fn save_whole<'a>(v: View, cached: &'a [u64; 128], fetching: &'a [u64; 128], buffer: &mut [u8])
+    requires { ⌜ Valid (stateOf v (now cached) (now fetching)) × (length (now buffer) ≡ 2208) ⌝ }
+    ensures { λ _. ⌜ now (buffer .exit) ≡ imageOf (stateOf v (now (cached .entry)) (now (fetching .entry))) ⌝ }
 {
-    put_settings(buffer, s.frames, s.turn, s.look_ahead, s.fetch_time);
-    put_sizes(buffer, 12, &s.sizes);
-    let readers = s.readers;
+    put_settings(buffer, v.frames, v.turn, v.look_ahead, v.fetch_time);
+    put_sizes(buffer, 12, &v.sizes);
+    let readers = v.readers;
     put_readers(buffer, 28, readers);
     put_u32(buffer, 156, 0);
-    put_words(buffer, 160, &s.cached);
-    put_words(buffer, 1184, &s.fetching);
+    put_words(buffer, 160, cached);
+    put_words(buffer, 1184, fetching);
 }
 
-pub fn save(s: State, buffer: &mut [u8]) -> Answer
-    requires { ⌜ Valid s ⌝ }
-    ensures { λ r. ⌜ record { answer = r; buffer = now (buffer .exit) } ≡ saveOf s (now (buffer .entry)) ⌝ }
+pub fn save<'a>(
+    v: View,
+    cached: &'a [u64; 128],
+    fetching: &'a [u64; 128],
+    buffer: &mut [u8],
+) -> Answer
+    requires { ⌜ Valid (stateOf v (now cached) (now fetching)) ⌝ }
+    ensures { λ r. ⌜ record { answer = r; buffer = now (buffer .exit) } ≡ saveOf (stateOf v (now (cached .entry)) (now (fetching .entry))) (now (buffer .entry)) ⌝ }
 {
     if buffer.len() < 2208 {
         return Answer::Refused(12);
     }
-    save_whole(s, &mut buffer[..2208]);
+    save_whole(v, cached, fetching, &mut buffer[..2208]);
     Answer::Done
 }
 
@@ -241,8 +248,8 @@ fn sizes_in(image: &[u8]) -> [u16; 8]
     sizes
 }
 
-// Reads a map into its place.
-fn read_words(words: &mut [u64; 128], image: &[u8], at: usize)
+// Reads a map into its place. It is lent as a slice, whose length is told.
+fn read_words(words: &mut [u64], image: &[u8], at: usize)
     requires { ⌜ (length (now words) ≡ 128) × (at + 1024 ≤ length (now image)) ⌝ }
     ensures { λ _. ⌜ now (words .exit) ≡ numbersAt 8 (now (image .entry)) at 128 ⌝ }
 {
@@ -254,38 +261,35 @@ fn read_words(words: &mut [u64; 128], image: &[u8], at: usize)
     }
 }
 
-fn idle() -> State
-    ensures { λ r. ⌜ r ≡ idleState ⌝ }
+fn idle() -> View
+    ensures { λ r. ⌜ r ≡ viewOf idleState ⌝ }
 {
     let readers = no_readers();
-    State {
+    View {
         frames: 1,
         turn: 0,
         look_ahead: 1,
         fetch_time: 0,
         sizes: [0u16; 8],
         readers,
-        cached: [0u64; 128],
-        fetching: [0u64; 128],
     }
 }
 
-fn state_in(image: &[u8]) -> State
+// All of an image's state but the maps.
+fn view_in(image: &[u8]) -> View
     requires { ⌜ length (now image) ≡ 2208 ⌝ }
-    ensures { λ r. ⌜ r ≡ stateIn (now (image .entry)) ⌝ }
+    ensures { λ r. ⌜ r ≡ viewOf (stateIn (now (image .entry))) ⌝ }
 {
-    let mut s = idle();
-    s.frames = get_u16(image, 0);
-    s.turn = get_u8(image, 2);
-    s.look_ahead = get_u32(image, 4);
-    s.fetch_time = get_u32(image, 8);
     let sizes = sizes_in(image);
-    s.sizes = sizes;
     let readers = readers_in(image);
-    s.readers = readers;
-    read_words(&mut s.cached, image, 160);
-    read_words(&mut s.fetching, image, 1184);
-    s
+    View {
+        frames: get_u16(image, 0),
+        turn: get_u8(image, 2),
+        look_ahead: get_u32(image, 4),
+        fetch_time: get_u32(image, 8),
+        sizes,
+        readers,
+    }
 }
 
 // ---- Restore: its tests
@@ -355,7 +359,7 @@ fn reader_placed(r: Reader, sizes: &[u16; 8]) -> bool
 }
 
 // A reader's next page is in fetch.
-fn reader_awaits<'a>(r: Reader, sizes: &'a [u16; 8], fetching: &'a [u64; 128]) -> bool
+fn reader_awaits(r: Reader, sizes: &[u16; 8], fetching: &[u64; 128]) -> bool
     requires { ⌜ (r .file < 8) × SizesLow (now sizes) ⌝ }
     ensures { λ t. ⌜ t ≡ awaits (among (now (sizes .entry)) (now (fetching .entry))) r ⌝ }
 {
@@ -378,7 +382,7 @@ fn is_blank(r: Reader) -> bool
     r.position == 0
 }
 
-fn reader_holds<'a>(r: Reader, sizes: &'a [u16; 8], fetching: &'a [u64; 128]) -> bool
+fn reader_holds(r: Reader, sizes: &[u16; 8], fetching: &[u64; 128]) -> bool
     requires { ⌜ SizesLow (now sizes) ⌝ }
     ensures { λ t. ⌜ t ≡ readerHolds (among (now (sizes .entry)) (now (fetching .entry))) r ⌝ }
 {
@@ -396,7 +400,7 @@ fn reader_holds<'a>(r: Reader, sizes: &'a [u16; 8], fetching: &'a [u64; 128]) ->
 }
 
 // A slot: its condition is in range, its record holds, its two 0 bytes are 0.
-fn slot_holds<'a>(image: &[u8], slot: usize, sizes: &'a [u16; 8], fetching: &'a [u64; 128]) -> bool
+fn slot_holds(image: &[u8], slot: usize, sizes: &[u16; 8], fetching: &[u64; 128]) -> bool
     requires { ⌜ FromImage (now image) (now sizes) (now fetching) × SizesLow (now sizes) × (slot < 16) ⌝ }
     ensures { λ r. ⌜ r ≡ slotHolds (numbers (now (image .entry))) slot ⌝ }
 {
@@ -410,7 +414,7 @@ fn slot_holds<'a>(image: &[u8], slot: usize, sizes: &'a [u16; 8], fetching: &'a 
     get_u16(image, at + 6) == 0
 }
 
-fn slots_hold<'a>(image: &[u8], sizes: &'a [u16; 8], fetching: &'a [u64; 128]) -> bool
+fn slots_hold(image: &[u8], sizes: &[u16; 8], fetching: &[u64; 128]) -> bool
     requires { ⌜ FromImage (now image) (now sizes) (now fetching) × SizesLow (now sizes) ⌝ }
     ensures { λ r. ⌜ r ≡ every (slotHolds (numbers (now (image .entry)))) (range 0 16) ⌝ }
 {
@@ -425,51 +429,70 @@ fn slots_hold<'a>(image: &[u8], sizes: &'a [u16; 8], fetching: &'a [u64; 128]) -
     true
 }
 
-// How many pages of its file a word of a map has: the words of a file are 16.
-fn room_in(sizes: &[u16; 8], i: usize) -> usize
-    requires { ⌜ i < 128 ⌝ }
-    ensures { λ r. ⌜ r ≡ roomIn (now (sizes .entry)) i ⌝ }
+// The pages that a word has in both maps.
+fn in_both(c: u64, f: u64) -> u64
+    ensures { λ r. ⌜ r ≡ bitAnd c f ⌝ }
 {
-    room_from(sizes[i / 16], 64 * (i % 16))
+    c & f
 }
 
-fn room_from(pages: u16, first: usize) -> usize
-    ensures { λ r. ⌜ r ≡ min 64 (pages - first) ⌝ }
+// The pages that a word has in either map.
+fn in_either(c: u64, f: u64) -> u64
+    ensures { λ r. ⌜ r ≡ bitOr c f ⌝ }
 {
-    let size = pages as usize;
-    if size <= first {
-        return 0;
-    }
-    if 64 <= size - first {
-        return 64;
-    }
-    size - first
+    c | f
 }
 
-// A word of the cached map and the same of the fetch map: no page in both, and no bit above the room.
-fn word_holds(room: usize, c: u64, f: u64) -> bool
-    requires { ⌜ room ≤ 64 ⌝ }
-    ensures { λ r. ⌜ r ≡ wordHolds room c f ⌝ }
+// No page is in both maps. The loop has no exit on its way, so that it takes several words at a time.
+fn is_apart<'a>(cached: &'a [u64; 128], fetching: &'a [u64; 128]) -> bool
+    ensures { λ r. ⌜ r ≡ every (apartAt (now (cached .entry)) (now (fetching .entry))) (range 0 8192) ⌝ }
 {
-    if c & f != 0 {
-        return false;
-    }
-    if room == 64 {
-        return true;
-    }
-    (c | f) >> room == 0
-}
-
-fn maps_hold<'a>(sizes: &'a [u16; 8], cached: &'a [u64; 128], fetching: &'a [u64; 128]) -> bool
-    ensures { λ r. ⌜ r ≡ every (holdsAt (now (sizes .entry)) (now (cached .entry)) (now (fetching .entry))) (range 0 128) ⌝ }
-{
+    let mut both: u64 = 0;
     let mut i: usize = 0;
     while i < 128 {
-        let ok = word_holds(room_in(sizes, i), cached[i], fetching[i]);
+        both = both | in_both(cached[i], fetching[i]);
+        i += 1;
+    }
+    both == 0
+}
+
+// No page is in either map from key `from` on to the end of word `end` - 1.
+fn is_clear<'a>(cached: &'a [u64; 128], fetching: &'a [u64; 128], from: usize, end: usize) -> bool
+    requires { ⌜ (from < end * 64) × (end ≤ 128) ⌝ }
+    ensures { λ r. ⌜ r ≡ every (clearAt (now (cached .entry)) (now (fetching .entry))) (range from (end * 64 - from)) ⌝ }
+{
+    let first = from / 64;
+    let mut any = in_either(cached[first], fetching[first]) >> (from % 64);
+    let mut i = first + 1;
+    while i < end {
+        any = any | in_either(cached[i], fetching[i]);
+        i += 1;
+    }
+    any == 0
+}
+
+// No bit stands above the size of file f. A file of 1,024 pages has no such bits.
+fn file_holds<'a>(f: usize, size: u16, cached: &'a [u64; 128], fetching: &'a [u64; 128]) -> bool
+    requires { ⌜ (f < 8) × (size ≤ 1024) ⌝ }
+    ensures { λ r. ⌜ r ≡ clearAbove (now (cached .entry)) (now (fetching .entry)) f size ⌝ }
+{
+    if size == 1024 {
+        return true;
+    }
+    is_clear(cached, fetching, f * 1024 + size as usize, f * 16 + 16)
+}
+
+fn files_hold<'a>(sizes: &[u16; 8], cached: &'a [u64; 128], fetching: &'a [u64; 128]) -> bool
+    requires { ⌜ SizesLow (now sizes) ⌝ }
+    ensures { λ r. ⌜ r ≡ every (sizeHolds (now (sizes .entry)) (now (cached .entry)) (now (fetching .entry))) (range 0 8) ⌝ }
+{
+    let mut f: usize = 0;
+    while f < 8 {
+        let ok = file_holds(f, sizes[f], cached, fetching);
         if !ok {
             return false;
         }
-        i += 1;
+        f += 1;
     }
     true
 }
@@ -485,26 +508,25 @@ fn gaps_hold(image: &[u8]) -> bool
     get_u32(image, 156) == 0
 }
 
-// None of the grounds for 13 but the length. The sizes and the maps are those of the image.
-fn accepted<'a>(
-    image: &[u8],
-    sizes: &'a [u16; 8],
-    cached: &'a [u64; 128],
-    fetching: &'a [u64; 128],
-) -> bool
-    requires { ⌜ FromImage (now image) (now sizes) (now fetching) × (now cached ≡ stateIn (now image) .cached) ⌝ }
+// None of the grounds for 13 but the length. The maps are those of the image.
+fn accepted<'a>(image: &[u8], cached: &'a [u64; 128], fetching: &'a [u64; 128]) -> bool
+    requires { ⌜ (length (now image) ≡ 2208) × (now cached ≡ stateIn (now image) .cached) × (now fetching ≡ stateIn (now image) .fetching) ⌝ }
     ensures { λ r. ⌜ r ≡ accepts (numbers (now (image .entry))) ⌝ }
 {
-    if !settings_hold(image, sizes) {
+    let sizes = sizes_in(image);
+    if !settings_hold(image, &sizes) {
         return false;
     }
     if !is_within(0, 15, get_u8(image, 2) as u32) {
         return false;
     }
-    if !slots_hold(image, sizes, fetching) {
+    if !slots_hold(image, &sizes, fetching) {
         return false;
     }
-    if !maps_hold(sizes, cached, fetching) {
+    if !is_apart(cached, fetching) {
+        return false;
+    }
+    if !files_hold(&sizes, cached, fetching) {
         return false;
     }
     if (get_u16(image, 0) as u32) < bits::count(cached, 0, 8192) {
@@ -515,28 +537,33 @@ fn accepted<'a>(
 
 // ---- Restore
 
-fn refuse() -> Reply
-    ensures { λ r. ⌜ r ≡ refused idleState 13 ⌝ }
+fn refuse(cached: &mut [u64; 128], fetching: &mut [u64; 128]) -> Outcome
+    ensures { λ r. ⌜ replyOf r (now (cached .exit)) (now (fetching .exit)) ≡ refused idleState 13 ⌝ }
 {
-    let s = idle();
-    Reply {
-        state: s,
+    bits::clear_all(cached);
+    bits::clear_all(fetching);
+    let view = idle();
+    Outcome {
+        view,
         answer: Answer::Refused(13),
     }
 }
 
-pub fn restore(image: &[u8]) -> Reply
-    ensures { λ r. ⌜ r ≡ restoreOf (now (image .entry)) ⌝ }
+// The lent maps become those of the image, whatever they held; where it is refused, those of the idle state.
+pub fn restore(image: &[u8], cached: &mut [u64; 128], fetching: &mut [u64; 128]) -> Outcome
+    ensures { λ r. ⌜ replyOf r (now (cached .exit)) (now (fetching .exit)) ≡ restoreOf (now (image .entry)) ⌝ }
 {
     if image.len() != 2208 {
-        return refuse();
+        return refuse(cached, fetching);
     }
-    let s = state_in(image);
-    if !accepted(image, &s.sizes, &s.cached, &s.fetching) {
-        return refuse();
+    read_words(cached, image, 160);
+    read_words(fetching, image, 1184);
+    if !accepted(image, cached, fetching) {
+        return refuse(cached, fetching);
     }
-    Reply {
-        state: s,
+    let view = view_in(image);
+    Outcome {
+        view,
         answer: Answer::Done,
     }
 }

@@ -1,5 +1,5 @@
 -- A response given in a buffer: its line put, then the line end. Assumes nothing.
-use Prim.Native.Nat.{ℕ, _+_, _≤_, _<_}
+use Prim.Native.Nat.{ℕ, _≤_, _<_}
 use mathlib.Core.Path.{_≡_, refl, _∙_, ap}
 use mathlib.Core.Bool.{true, false}
 use mathlib.Core.List.{List, [], _∷_, _++_}
@@ -9,7 +9,7 @@ use denote.Enum.Declared.{tagOf}
 use borrow.Author.Tests.{le-ltb}
 use lib.ListN.{length, take, drop, length-append}
 use lib.Seq.{take-at}
-use Rattle.rules.specs.Lines.{numbersOf, answerLine, Response, told, toldSetup}
+use Rattle.rules.specs.Lines.{numbersOf, answerLine, told, toldSetup}
 use Rattle.rules.specs.Entries.{letter, carriedOut}
 use Rattle.rules.specs.Listings.{Written, listed}
 use Rattle.rules.specs.declared.State.{State}
@@ -22,11 +22,10 @@ use Rattle.rules.proofs.Answer.{the-type}
 use Rattle.text.specs.Written.{Put}
 use Rattle.text.proofs.Puts.{put-more}
 use Rattle.lines.proofs.Rows.{line-length}
-use Rattle.lines.specs.Responses.{lineEnd, Gives}
-use Rattle.lines.specs.declared.Answered.{Answered}
+use Rattle.lines.specs.Responses.{lineEnd, Answered, Gives}
 
 -- the numbers of all variants but a refusal
-abbrev others : List ℕ
+abbrev pub others : List ℕ
 others = 1 ∷ 2 ∷ 3 ∷ 4 ∷ 5 ∷ 6 ∷ 7 ∷ 8 ∷ 9 ∷ 10 ∷ []
 
 -- ---- how long an answer is
@@ -52,13 +51,10 @@ answer-length a = omega (arith, line-length (letter a) (numbersOf a), numbers-fe
 pub case-is : (l m : List ℕ) (i : ℕ) (a b : Answer) → a ≡ b → Put l 0 (answerLine b) m i → Put l 0 (answerLine a) m i
 case-is l m i a b e p = rw e p
 
--- ---- a line, then its end
-
-module _ (response : Response) (before between after : List ℕ) (at : ℕ) (a : Answered) where
-  -- a response of this state whose line stands there
-  pub gives : a .state ≡ response .state → Put before 0 (response .line) between at → Put between at lineEnd after (a .len)
-      → length (response .line) < length before → Gives response before after a
-  gives s p q h = record { state = s; line = put-more before between after 0 at (a .len) (response .line) lineEnd p q (omega arith) }
+-- a line, then its end
+pub line-ended : (before between after line : List ℕ) (at len : ℕ) → Put before 0 line between at → Put between at lineEnd after len
+    → length line < length before → Put before 0 (line ++ lineEnd) after len
+line-ended before between after line at len p q h = put-more before between after 0 at len line lineEnd p q (omega arith)
 
 -- the response of an equal reply
 pub gives-told : (r q : Reply) (before after : List ℕ) (a : Answered) → r ≡ q → Gives (told r) before after a → Gives (told q) before after a
@@ -66,43 +62,44 @@ gives-told r q before after a e g = rw e at g
 
 -- ---- Setup
 
--- refused, it leaves the old state
-pub setup-left : (s t : State) (r : Reply) → OneOf (0 ∷ []) (tagOf the-type (r .answer)) → t ≡ s → t ≡ toldSetup s r .state
-setup-left s t r k e = e ∙ rw (no (r .answer) k)
-  where
-    no : (a : Answer) → OneOf (0 ∷ []) (tagOf the-type a) → carriedOut a ≡ false
-    no (Refused number) k = refl
-    no Done k = absurd (miss (0 ∷ []) 1 tt k)
-    no (Hit file page) k = absurd (miss (0 ∷ []) 2 tt k)
-    no (Wait file page) k = absurd (miss (0 ∷ []) 3 tt k)
-    no (Fetch file page) k = absurd (miss (0 ∷ []) 4 tt k)
-    no End k = absurd (miss (0 ∷ []) 5 tt k)
-    no Nothing k = absurd (miss (0 ∷ []) 6 tt k)
-    no (Stolen file page) k = absurd (miss (0 ∷ []) 7 tt k)
-    no Arrived k = absurd (miss (0 ∷ []) 8 tt k)
-    no (Replaced file page) k = absurd (miss (0 ∷ []) 9 tt k)
-    no (Ran fetches reads) k = absurd (miss (0 ∷ []) 10 tt k)
-
--- carried out, it gives its own
-pub setup-taken : (s t : State) (r : Reply) → OneOf others (tagOf the-type (r .answer)) → t ≡ r .state → t ≡ toldSetup s r .state
-setup-taken s t r k e = e ∙ rw (yes (r .answer) k)
-  where
-    yes : (a : Answer) → OneOf others (tagOf the-type a) → carriedOut a ≡ true
-    yes (Refused number) k = absurd (miss others 0 tt k)
-    yes Done k = refl
-    yes (Hit file page) k = refl
-    yes (Wait file page) k = refl
-    yes (Fetch file page) k = refl
-    yes End k = refl
-    yes Nothing k = refl
-    yes (Stolen file page) k = refl
-    yes Arrived k = refl
-    yes (Replaced file page) k = refl
-    yes (Ran fetches reads) k = refl
-
 -- the response of an equal reply
 pub gives-setup : (s : State) (r q : Reply) (before after : List ℕ) (a : Answered) → r ≡ q → Gives (toldSetup s r) before after a → Gives (toldSetup s q) before after a
 gives-setup s r q before after a e g = rw e at g
+
+module _ (s : State) (r : Reply) (before after : List ℕ) (a : Answered) where
+  -- refused, it leaves the old state
+  pub setup-left : OneOf (0 ∷ []) (tagOf the-type (r .answer)) → Gives (told (record { state = s; answer = r .answer })) before after a → Gives (toldSetup s r) before after a
+  setup-left k g = rw (no (r .answer) k) g
+    where
+      no : (a : Answer) → OneOf (0 ∷ []) (tagOf the-type a) → carriedOut a ≡ false
+      no (Refused number) k = refl
+      no Done k = absurd (miss (0 ∷ []) 1 tt k)
+      no (Hit file page) k = absurd (miss (0 ∷ []) 2 tt k)
+      no (Wait file page) k = absurd (miss (0 ∷ []) 3 tt k)
+      no (Fetch file page) k = absurd (miss (0 ∷ []) 4 tt k)
+      no End k = absurd (miss (0 ∷ []) 5 tt k)
+      no Nothing k = absurd (miss (0 ∷ []) 6 tt k)
+      no (Stolen file page) k = absurd (miss (0 ∷ []) 7 tt k)
+      no Arrived k = absurd (miss (0 ∷ []) 8 tt k)
+      no (Replaced file page) k = absurd (miss (0 ∷ []) 9 tt k)
+      no (Ran fetches reads) k = absurd (miss (0 ∷ []) 10 tt k)
+
+  -- carried out, it gives its own
+  pub setup-taken : OneOf others (tagOf the-type (r .answer)) → Gives (told r) before after a → Gives (toldSetup s r) before after a
+  setup-taken k g = rw (yes (r .answer) k) g
+    where
+      yes : (a : Answer) → OneOf others (tagOf the-type a) → carriedOut a ≡ true
+      yes (Refused number) k = absurd (miss others 0 tt k)
+      yes Done k = refl
+      yes (Hit file page) k = refl
+      yes (Wait file page) k = refl
+      yes (Fetch file page) k = refl
+      yes End k = refl
+      yes Nothing k = refl
+      yes (Stolen file page) k = refl
+      yes Arrived k = refl
+      yes (Replaced file page) k = refl
+      yes (Ran fetches reads) k = refl
 
 -- ---- lists
 

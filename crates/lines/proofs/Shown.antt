@@ -14,8 +14,6 @@ use Rattle.rules.specs.Lines.{orderLine, clustersLine, told}
 use Rattle.rules.specs.declared.State.{State}
 use Rattle.rules.specs.declared.Listing.{Listing}
 use Rattle.rules.specs.declared.Listing.the-variants.{Count, Declined}
-use Rattle.order.specs.Views.{stateOf, viewOf}
-use Rattle.order.specs.declared.View.{View}
 use Rattle.text.proofs.Pieces.{by-test}
 use Rattle.lists.proofs.Stretches.{clusters-low}
 use Rattle.lines.specs.Responses.{countIn, orderOf, Front, clustersShown}
@@ -33,28 +31,28 @@ order-front order lent list n r e w h =
     let f = filled order (length order) lent r list w h in
     front order list n (length order) r (e ∙ ap countIn (f .answer)) f
 
-module _ (s : State) (v : Valid s) (w : View) (a : w ≡ viewOf s) (lent list : List ℕ) (r : Listing) where
+module _ (s : State) (v : Valid s) (lent list : List ℕ) (r : Listing) where
   -- the steal list
-  pub steal-front : (n : ℕ) → n ≡ countIn r → _≡_ {A = Written} (record { answer = r; list = list }) (stealListOf (stateOf w (s .cached) (s .fetching)) lent) → 8192 ≤ length lent
+  pub steal-front : (n : ℕ) → n ≡ countIn r → _≡_ {A = Written} (record { answer = r; list = list }) (stealListOf s lent) → 8192 ≤ length lent
       → Front (stealOrder s) list n
   unfolding stealListOf
-  steal-front n e l h = order-front (stealOrder s) lent list n r e (rw a at l) (omega (arith, steal-few s v))
+  steal-front n e l h = order-front (stealOrder s) lent list n r e l (omega (arith, steal-few s v))
 
   -- the fetch list
-  pub fetch-front : (n : ℕ) → n ≡ countIn r → _≡_ {A = Written} (record { answer = r; list = list }) (fetchListOf (stateOf w (s .cached) (s .fetching)) lent) → 8192 ≤ length lent
+  pub fetch-front : (n : ℕ) → n ≡ countIn r → _≡_ {A = Written} (record { answer = r; list = list }) (fetchListOf s lent) → 8192 ≤ length lent
       → Front (fetchOrder s) list n
   unfolding fetchListOf
-  fetch-front n e l h = order-front (fetchOrder s) lent list n r e (rw a at l) (omega (arith, fetch-few s v))
+  fetch-front n e l h = order-front (fetchOrder s) lent list n r e l (omega (arith, fetch-few s v))
 
-  module _ (f : ℕ) (l : _≡_ {A = Written} (record { answer = r; list = list }) (clustersOf (stateOf w (s .cached) (s .fetching)) f lent)) (h : 2048 ≤ length lent) where
+  module _ (f : ℕ) (l : _≡_ {A = Written} (record { answer = r; list = list }) (clustersOf s f lent)) (h : 2048 ≤ length lent) where
     -- no such file
     no-clusters : noFile s f ≡ true → r ≡ Declined 3
     unfolding clustersOf
-    no-clusters t = ap (λ (x : Written). x .answer) (rw (a, t) at l)
+    no-clusters t = ap (λ (x : Written). x .answer) (rw t at l)
 
     all-clusters : noFile s f ≡ false → Filled (clusters s f) (length (clusters s f) / 2) r list
     unfolding clustersOf
-    all-clusters t = filled (clusters s f) (length (clusters s f) / 2) lent r list (rw (a, t) at l) (omega (arith, clusters-few s f (v .sizes-high f)))
+    all-clusters t = filled (clusters s f) (length (clusters s f) / 2) lent r list (rw t at l) (omega (arith, clusters-few s f (v .sizes-high f)))
 
     -- so many clusters
     pub clusters-front : (n : ℕ) → r ≡ Count n → (noFile s f ≡ false) × Front (clusters s f) list (2 * n)

@@ -3,34 +3,43 @@ use Prim.Native.Nat.{ℕ, _+_, _-_, _≤_, _<_}
 use Prim.Native.Char.{code as ascii}
 use mathlib.Core.Path.{_≡_, refl, sym, _∙_, ap, subst}
 use mathlib.Core.Bool.{true, false}
-use mathlib.Core.List.{List, [], _++_, append-assoc, append-nil}
+use mathlib.Core.Logic.{⊎-elim}
+use mathlib.Core.List.{List, [], _∷_, _++_, append-assoc, append-nil}
 use native.Mathlib.Omega.{arith}
+use types.Run.{OneOf, miss}
+use denote.Enum.Declared.{tagOf}
 use borrow.Rule.Slice.PartMut.{putMid}
 use borrow.Author.Tests.{eqb-true, eqb-false, ne-eqb, le-leb, leb-true, leb-false, ltb-false}
 use lib.ListN.{length, take, drop, replicate, length-append, length-take, length-drop, drop-of-length-le}
-use lib.Seq.{length-take-le, take-all, drop-drop}
+use lib.Seq.{slice, take-add, drop-at, length-take-le, take-all, drop-drop}
 use lib.Dec.{leb, eqb}
 use Rattle.rules.specs.Lists.{each}
 use Rattle.rules.specs.Valid.{Valid}
 use Rattle.rules.specs.Calls.{refused, idle}
-use Rattle.rules.specs.Lines.{told, respondOf, linesOf, answers, programOf}
+use Rattle.rules.specs.Image.{imageOf, restoreOf}
+use Rattle.rules.specs.Lines.{split, told, respondOf, linesOf, answers, programOf}
 use Rattle.rules.specs.declared.State.{State}
+use Rattle.rules.specs.declared.Reply.{Reply}
+use Rattle.rules.specs.declared.Answer.{Answer}
+use Rattle.rules.specs.declared.Answer.the-variants.{Refused, Done}
+use Rattle.rules.proofs.Answer.{the-type}
+use Rattle.rules.proofs.Images.{done-or-not, restore-refused, restore-save}
+use Rattle.rules.proofs.Kept.{idle-valid}
 use Rattle.text.specs.Written.{written, Put}
-use Rattle.text.specs.Cuts.{kept, textIn, StandsFor, lineIn, hasEnd, passed, CutAs}
+use Rattle.text.specs.Cuts.{kept, textIn, StandsFor, lineIn, hasEnd, passed, CutAs, EndsAt}
 use Rattle.text.specs.Streams.{Fed, feed, feedAll, unfed, outputOf}
 use Rattle.text.specs.declared.Pending.{Pending}
 use Rattle.text.specs.declared.Taken.{Taken}
 use Rattle.text.proofs.Pieces.{by-test}
 use Rattle.text.proofs.Puts.{written-none, put-more}
 use Rattle.text.proofs.Keeps.{stands-short, stands-long}
-use Rattle.text.proofs.Feeds.{OnePiece, split-whole, feed-part, feed-line, feed-one, feed-none, long-refused, fed-whole}
+use Rattle.text.proofs.Feeds.{OnePiece, split-whole, feed-part, feed-line, feed-one, feed-none, none-one, long-refused, fed-whole}
 use Rattle.text.proofs.Chunks.{Holds, holds-none, cut-text, cut-rest}
-use Rattle.lines.specs.Responses.{lineEnd, Gives}
-use Rattle.lines.specs.Sessions.{StandsAt, Answers, stepOf, addedBy, Steps, Grown, Feeds, lastOf, Finishes}
-use Rattle.lines.specs.declared.Answered.{Answered}
-use Rattle.lines.specs.declared.Session.{Session}
-use Rattle.lines.specs.declared.Stepped.{Stepped}
+use Rattle.lines.specs.Responses.{Roomy, lineEnd, Answered, Gives}
+use Rattle.lines.specs.Sessions.{Session, Stepped, StandsAt, Answers, stepOf, addedBy, Steps, Grown, Moves, StandsIn, Feeds, lastOf, Finishes}
+use Rattle.lines.specs.declared.Progress.{Progress}
 use Rattle.lines.proofs.Kept.{respond-kept}
+use Rattle.lines.proofs.Replies.{others}
 
 -- nothing put
 pub put-none : (l : List ℕ) → Put l 0 [] l 0
@@ -77,13 +86,12 @@ module _ (s : State) (p : Pending) (before after : List ℕ) (a : Answered) (v :
 
 module _ (session : Session) (chunk : List ℕ) (from : ℕ) (c : Taken) (k : CutAs (session .pending) chunk from c) where
   -- no line ends
-  pub step-part : (out : List ℕ) (r : Stepped) → Valid (session .state) → c .ended ≡ false
-      → r ≡ record { session = record { state = session .state; pending = c .pending }; next = c .next; len = 0 } → Steps session chunk from out out r
+  pub step-part : (out : List ℕ) → Valid (session .state) → c .ended ≡ false
+      → Steps session chunk from out out (record { session = record { state = session .state; pending = c .pending }; next = c .next; len = 0 })
   unfolding stepOf addedBy
-  step-part out r v e is =
+  step-part out v e =
       let no = sym (k .ended) ∙ e in
-      rw is
-      (record {
+      record {
         next = rw (k .ended) at (k .next);
         stands = λ f at.
             rw no
@@ -91,17 +99,15 @@ module _ (session : Session) (chunk : List ℕ) (from : ℕ) (c : Taken) (k : Cu
         put = λ f at. rw no (put-none out);
         fits = omega arith;
         valid = v;
-      })
+      }
 
   -- a line ends
-  pub step-line : (before after : List ℕ) (p : Pending) (a : Answered) (r : Stepped) → c .ended ≡ true → p .len ≡ 0
-      → Answers (session .state) (c .pending) before after a
-      → r ≡ record { session = record { state = a .state; pending = p }; next = c .next; len = a .len } → Steps session chunk from before after r
+  pub step-line : (before after : List ℕ) (p : Pending) (a : Answered) → c .ended ≡ true → p .len ≡ 0 → Answers (session .state) (c .pending) before after a
+      → Steps session chunk from before after (record { session = record { state = a .state; pending = p }; next = c .next; len = a .len })
   unfolding stepOf addedBy
-  step-line before after p a r e none g is =
+  step-line before after p a e none g =
       let yes = sym (k .ended) ∙ e in
-      rw is
-      (record {
+      record {
         next = rw (k .ended) at (k .next);
         stands = λ f at.
             let h = g .gives (f .text ++ lineIn (drop from chunk)) (cut-text (session .pending) f chunk from c (at .text) k) in
@@ -111,7 +117,34 @@ module _ (session : Session) (chunk : List ℕ) (from : ℕ) (c : Taken) (k : Cu
             rw (yes, ← at .state) (h .line);
         fits = g .fits;
         valid = g .valid;
-      })
+      }
+
+-- a line stands whole in the chunk, and no text was pending
+module _ (session : Session) (chunk : List ℕ) (from to : ℕ) (none : session .pending .len ≡ 0) (k : EndsAt chunk from to) (inside : to < length chunk) where
+  text-none : (f : Fed) → StandsAt session f → f .text ≡ []
+  text-none f at = stands-short (session .pending) (f .text) (at .text .stands) (omega arith) ∙ rw none
+
+  -- the line as a part of the chunk
+  part : slice from to chunk ≡ take (to - from) (drop from chunk)
+  part =
+      let low : from ≤ length chunk = omega (arith, k .long inside) in
+      let far : to ≡ from + (to - from) = omega (arith, k .long inside) in
+      ap (λ n. drop from (take n chunk)) far
+      ∙ ap (drop from) (take-add from (to - from) chunk)
+      ∙ drop-at (take from chunk) (take (to - from) (drop from chunk)) from (length-take-le from chunk low)
+
+  pub step-whole : (before after : List ℕ) (a : Answered) → Valid (session .state) → length after ≡ length before → Gives (respondOf (session .state) (take (to - from) (drop from chunk))) before after a
+      → Steps session chunk from before after (record { session = record { state = a .state; pending = session .pending }; next = to + 1; len = a .len })
+  unfolding stepOf addedBy
+  step-whole before after a v same g =
+      record {
+        next = rw (k .ended inside, k .line inside) (omega (arith, k .long inside));
+        stands = λ f at.
+            rw (k .ended inside, k .line inside, part, text-none f at, ← at .state) (record { state = g .state; text = holds-none (session .pending) _ none refl });
+        put = λ f at. rw (k .ended inside, k .line inside, part, text-none f at, ← at .state) (g .line);
+        fits = written-fits before after _ (a .len) (g .line) same;
+        valid = rw (g .state) (respond-kept (session .state) (take (to - from) (drop from chunk)) v);
+      }
 
 -- ---- a step and what is fed
 
@@ -162,7 +195,7 @@ module _ (m part : List ℕ) (at len : ℕ) (bytes : List ℕ) (inside : at ≤ 
 
 -- a session has come so far in a chunk
 pub record Reached (session : Session) (chunk : List ℕ) (from : ℕ) (before out : List ℕ) (at : Session) (next len : ℕ) : Type 0 where
-  pub grown : (f : Fed) → StandsAt session f → Grown f chunk from before out (record { session = at; next = next; len = len })
+  pub grown : (f : Fed) → StandsAt session f → (g : Grown f chunk from before out next len) × StandsAt at (g .to)
   pub moved : from ≤ next
   pub fresh : next ≡ from → len ≡ 0
   pub fits : len ≤ length before
@@ -173,7 +206,7 @@ pub record Reached (session : Session) (chunk : List ℕ) (from : ℕ) (before o
 pub reached-none : (session : Session) (chunk : List ℕ) (from : ℕ) (out : List ℕ) → Valid (session .state) → Reached session chunk from out out session from 0
 reached-none session chunk from out v =
     record {
-      grown = λ f at. record { to = f; added = []; stands = at; output = sym (append-nil (f .output)); put = put-none out; rest = refl };
+      grown = λ f at. (record { to = f; added = []; output = sym (append-nil (f .output)); put = put-none out; rest = refl }, at);
       moved = omega arith;
       fresh = λ _. refl;
       fits = omega arith;
@@ -192,18 +225,20 @@ module _ (session : Session) (chunk : List ℕ) (from : ℕ) (before out : List 
       let room : len + r .len ≤ length before = omega (arith, s .fits, length-take (length out - len) (drop len out), length-drop len out, k .same, low) in
       record {
         grown = λ f start.
-            let g = k .grown f start in
+            let g = k .grown f start .0 in
+            let stands = k .grown f start .1 in
             let bytes = addedBy (g .to) chunk next in
-            let p = put-behind out part len (r .len) bytes low (s .put (g .to) (g .stands)) in
-            let fit : 0 + length (g .added) + length bytes ≤ length before = omega (arith, g .put .place, s .put (g .to) (g .stands) .place, room) in
-            record {
-              to = stepOf (g .to) chunk next;
-              added = g .added ++ bytes;
-              stands = s .stands (g .to) (g .stands);
-              output = step-output (g .to) chunk next ∙ rw (g .output, append-assoc);
-              put = put-more before out (putMid len (length out - len) out part) 0 len (len + r .len) (g .added) bytes (g .put) p fit;
-              rest = g .rest ∙ step-rest (g .to) chunk next (g .stands .text .one) (r .next) (s .next);
-            };
+            let p = put-behind out part len (r .len) bytes low (s .put (g .to) stands) in
+            let fit : 0 + length (g .added) + length bytes ≤ length before = omega (arith, g .put .place, s .put (g .to) stands .place, room) in (
+              record {
+                to = stepOf (g .to) chunk next;
+                added = g .added ++ bytes;
+                output = step-output (g .to) chunk next ∙ rw (g .output, append-assoc);
+                put = put-more before out (putMid len (length out - len) out part) 0 len (len + r .len) (g .added) bytes (g .put) p fit;
+                rest = g .rest ∙ step-rest (g .to) chunk next (stands .text .one) (r .next) (s .next);
+              },
+              s .stands (g .to) stands,
+            );
         moved = omega (arith, k .moved);
         fresh = λ e. let z : ⊥ = omega (arith, k .moved) in absurd z;
         fits = room;
@@ -211,64 +246,128 @@ module _ (session : Session) (chunk : List ℕ) (from : ℕ) (before out : List 
         valid = s .valid;
       }
 
-  feeds : (r : Stepped) → r ≡ record { session = at; next = next; len = len } → (from < length chunk → from < next) → Feeds session chunk from before out r
-  feeds r is on = rw is (record { grown = k .grown; on = on; fits = k .fits; valid = k .valid })
-
   -- the chunk is used up
-  pub reached-end : (r : Stepped) → r ≡ record { session = at; next = next; len = len } → length chunk ≤ next → Feeds session chunk from before out r
-  reached-end r is h = feeds r is (λ l. omega arith)
+  pub reached-end : length chunk ≤ next → Moves session chunk from before out (record { session = at; next = next; len = len })
+  reached-end h = record { grown = k .grown; on = λ _ l. omega arith; fits = k .fits; valid = k .valid }
 
   -- the buffer is
-  pub reached-full : (r : Stepped) → r ≡ record { session = at; next = next; len = len } → 65536 ≤ length before → length out - len < 65536 → Feeds session chunk from before out r
-  reached-full r is room h =
-      feeds r is (λ _.
-      by-test (eqb next from)
-      (λ t. let z : ⊥ = omega (arith, k .fresh (eqb-true _ _ t), k .same) in absurd z)
-      (λ t. let n = eqb-false next from t in omega (arith, k .moved)))
+  pub reached-full : length out - len < 57351 → Moves session chunk from before out (record { session = at; next = next; len = len })
+  reached-full h = record { grown = k .grown; on = λ room _. on room; fits = k .fits; valid = k .valid }
+    where
+      on : Roomy before → from < next
+      on room =
+          by-test (eqb next from)
+          (λ t. let z : ⊥ = omega (arith, k .fresh (eqb-true _ _ t), k .same) in absurd z)
+          (λ t. let n = eqb-false next from t in omega (arith, k .moved))
+
+-- ---- on an image
+
+module _ (image : List ℕ) (r : Reply) (restored : r ≡ restoreOf image) where
+  -- the program that an image stands for is in the state restored
+  state-in : (pending : Pending) (f : Fed) → StandsIn image pending f → r .state ≡ f .state
+  state-in pending f at = ap (λ q. q .state) (restored ∙ ap restoreOf (at .image-is) ∙ restore-save (f .state) (at .valid))
+
+  -- an image that is refused stands for no program
+  pub feed-refused : OneOf (0 ∷ []) (tagOf the-type (r .answer)) → (pending : Pending) (chunk : List ℕ) (from : ℕ) (out : List ℕ)
+      → Feeds image pending chunk from out image out (record { pending = pending; next = from; len = 0 })
+  feed-refused k pending chunk from out =
+      record {
+        grown = λ f at. absurd (none f at);
+        on = λ f at. absurd (none f at);
+        fits = omega arith;
+        refused = λ _. (refl, refl, refl);
+      }
+    where
+      none : (f : Fed) → StandsIn image pending f → ⊥
+      none f at = not-done (r .answer) (ap (λ q. q .answer) (restored ∙ ap restoreOf (at .image-is) ∙ restore-save (f .state) (at .valid))) k
+        where
+          not-done : (a : Answer) → a ≡ Done → OneOf (0 ∷ []) (tagOf the-type a) → ⊥
+          not-done a e h = miss (0 ∷ []) 1 tt (rw e at h)
+
+  -- an answer that is no refusal is Restore's Done
+  pub restore-taken : OneOf others (tagOf the-type (r .answer)) → restoreOf image .answer ≡ Done
+  restore-taken k = ⊎-elim (λ e. e) (λ n. absurd (refused-not (r .answer) (ap (λ q. q .answer) (restored ∙ restore-refused image n)) k)) (done-or-not image)
+    where
+      refused-not : (a : Answer) → a ≡ Refused 13 → OneOf others (tagOf the-type a) → ⊥
+      refused-not a e h = miss others 0 tt (rw e at h)
+
+  -- lines taken of a chunk, and the image of the state after them
+  pub feed-moved : (pending : Pending) (chunk : List ℕ) (from : ℕ) (before left after : List ℕ) (at : Session) (next len : ℕ)
+      → (restoreOf image .answer ≡ Done) → Moves (record { state = r .state; pending = pending }) chunk from before left (record { session = at; next = next; len = len })
+      → after ≡ imageOf (at .state) → Feeds image pending chunk from before after left (record { pending = at .pending; next = next; len = len })
+  feed-moved pending chunk from before left after at next len done m saved =
+      record {
+        grown = λ f in-it.
+            let g = m .grown f (record { state = state-in pending f in-it; text = in-it .text }) in
+            (g .0, record { valid = rw (← g .1 .state) (m .valid); image-is = saved ∙ ap imageOf (g .1 .state); text = g .1 .text });
+        on = λ f in-it. m .on;
+        fits = m .fits;
+        refused = λ no. absurd (no done);
+      }
 
 -- ---- from the first byte to the last
 
--- a session at the start
-pub stands-first : (session : Session) → session .state ≡ idle → session .pending .len ≡ 0 → StandsAt session unfed
-stands-first session e n = record { state = e; text = holds-none (session .pending) unfed n refl }
+-- at the start
+pub stands-first : (pending : Pending) → pending .len ≡ 0 → StandsIn (imageOf idle) pending unfed
+stands-first pending n = record { valid = idle-valid; image-is = refl; text = holds-none pending unfed n refl }
 
 -- a chunk that is used up was fed
-pub fed-all : (f : Fed) (chunk : List ℕ) (before after : List ℕ) (r : Stepped) → (g : Grown f chunk 0 before after r) → length chunk ≤ r .next → g .to ≡ feed f chunk
-fed-all f chunk before after r g h = sym (g .rest ∙ rw (drop-of-length-le chunk h) (feed-none (g .to) (g .stands .text .one)))
+pub fed-all : (f : Fed) (chunk before after : List ℕ) (next len : ℕ) → (g : Grown f chunk 0 before after next len) → OnePiece (ascii "\n") (g .to .text) → length chunk ≤ next → g .to ≡ feed f chunk
+fed-all f chunk before after next len g one h = sym (g .rest ∙ rw (drop-of-length-le chunk h) (feed-none (g .to) one))
 
-module _ (session : Session) (f : Fed) (at : StandsAt session f) where
+module _ (pending : Pending) (f : Fed) (at : Holds pending f) where
   -- at the end, with no text
-  pub last-none : session .pending .len ≡ 0 → lastOf f ≡ []
+  last-none : pending .len ≡ 0 → lastOf f ≡ []
   unfolding lastOf linesOf answers
   last-none e =
-      let none : f .text ≡ [] = stands-short (session .pending) (f .text) (at .text .stands) (omega arith) ∙ rw e in
+      let none : f .text ≡ [] = stands-short pending (f .text) (at .stands) (omega arith) ∙ rw e in
       rw none
 
   -- at the end, with a text
-  pub last-some : (session .pending .len ≡ 0 → ⊥) → length (session .pending .bytes) ≡ 200 → lastOf f ≡ respondOf (f .state) (f .text) .line ++ lineEnd
+  last-some : (pending .len ≡ 0 → ⊥) → length (pending .bytes) ≡ 200 → lastOf f ≡ respondOf (f .state) (f .text) .line ++ lineEnd
   unfolding lastOf linesOf answers
   last-some n full = rw (ne-eqb (length (f .text)) 0 some)
     where
       some : length (f .text) ≡ 0 → ⊥
       some e =
-          by-test (leb (session .pending .len) 200)
+          by-test (leb (pending .len) 200)
           (λ t.
           let short = leb-true _ _ t in
-          let e2 = ap length (stands-short (session .pending) (f .text) (at .text .stands) short) in
-          n (omega (arith, length-take-le (session .pending .len) (session .pending .bytes) (omega arith))))
-          (λ t. let z = stands-long (session .pending) (f .text) (at .text .stands) (leb-false _ _ t) in omega arith)
+          let e2 = ap length (stands-short pending (f .text) (at .stands) short) in
+          n (omega (arith, length-take-le (pending .len) (pending .bytes) (omega arith))))
+          (λ t. let z = stands-long pending (f .text) (at .stands) (leb-false _ _ t) in omega arith)
+
+-- what stands behind the same bytes is the same
+append-same : (l a b : List ℕ) → l ++ a ≡ l ++ b → a ≡ b
+append-same [] a b e = e
+append-same (x ∷ l) a b e = append-same l a b (ap (drop 1) e)
+
+-- a line end alone answers the text
+end-output : (f : Fed) → OnePiece (ascii "\n") (f .text) → feed f lineEnd .output ≡ f .output ++ (respondOf (f .state) (f .text) .line ++ lineEnd)
+unfolding addedBy stepOf split
+end-output f one =
+    ap (λ g. g .output) (step-rest f lineEnd 0 one 1 refl ∙ feed-none (stepOf f lineEnd 0) (none-one (ascii "\n")))
+    ∙ step-output f lineEnd 0
+    ∙ ap (λ text. f .output ++ (respondOf (f .state) text .line ++ lineEnd)) (append-nil (f .text))
 
 -- no line at the end
-pub finish-none : (session : Session) (out : List ℕ) → session .pending .len ≡ 0 → Finishes session out out 0
-finish-none session out e = record { put = λ f at. rw (last-none session f at e) (put-none out); fits = omega arith }
+pub finish-none : (image : List ℕ) (pending : Pending) (out : List ℕ) → pending .len ≡ 0 → Finishes image pending out image out 0
+finish-none image pending out e = record { put = λ f at _. rw (last-none pending f (at .text) e) (put-none out); fits = omega arith; refused = λ _. (refl, refl, refl) }
 
--- one last line
-pub finish-line : (session : Session) (before after : List ℕ) (a : Answered) → (session .pending .len ≡ 0 → ⊥) → length (session .pending .bytes) ≡ 200
-    → Answers (session .state) (session .pending) before after a → Finishes session before after (a .len)
-finish-line session before after a n full g =
+-- one last line, as if its line end followed
+pub finish-line : (image : List ℕ) (pending : Pending) (before after left : List ℕ) (r : Progress) → (pending .len ≡ 0 → ⊥) → length (pending .bytes) ≡ 200
+    → Feeds image pending lineEnd 0 before after left r → Finishes image pending before after left (r .len)
+finish-line image pending before after left r n full g =
     record {
-      put = λ f at. rw (last-some session f at n full, ← at .state) (g .gives (f .text) (at .text .stands) .line);
+      put = λ f at room.
+          let grown = g .grown f at .0 in
+          let to = g .grown f at .1 in
+          let used : 1 ≤ r .next = g .on f at room (omega arith) in
+          let all = fed-all f lineEnd before left (r .next) (r .len) grown (to .text .one) used in
+          let same : f .output ++ grown .added ≡ f .output ++ (respondOf (f .state) (f .text) .line ++ lineEnd) = sym (grown .output) ∙ ap (λ h. h .output) all ∙ end-output f (at .text .one) in
+          rw (last-some pending f (at .text) n full, ← append-same (f .output) _ _ same) (grown .put);
       fits = g .fits;
+      refused = λ no. let u = g .refused no in (u .0, u .1, ap (λ q. q .len) (u .2));
     }
 
 -- the output, and what is answered at the end, is the program's for all the chunks

@@ -5,6 +5,7 @@ use mathlib.Core.Path.{_≡_}
 use mathlib.Core.Bool.{Bool, true, false, cond}
 use mathlib.Core.List.{List, [], _∷_, _++_}
 use lib.ListN.{length, take}
+use Rattle.rules.specs.Views.{stateOf}
 use Rattle.rules.specs.Pages.{fileOf, pageOf, clusters}
 use Rattle.rules.specs.Orders.{stealOrder, fetchOrder}
 use Rattle.rules.specs.Calls.{noFile, refused}
@@ -13,11 +14,11 @@ use Rattle.rules.specs.declared.State.{State}
 use Rattle.rules.specs.declared.Listing.{Listing}
 use Rattle.rules.specs.declared.Listing.the-variants.{Count, Declined}
 use Rattle.text.specs.Written.{Put}
-use Rattle.lines.specs.declared.Answered.{Answered}
+use Rattle.lines.specs.declared.Said.{Said}
 
 -- the longest answer, that of 8,192 pairs, has 57,351 bytes with its line end
 abbrev pub Roomy : List ℕ → Type 0
-Roomy buffer = 65536 ≤ length buffer
+Roomy buffer = 57351 ≤ length buffer
 
 -- behind every answer line
 abbrev pub lineEnd : List ℕ
@@ -31,6 +32,15 @@ pairOf k = fileOf k ∷ pageOf k ∷ []
 abbrev pub countIn : Listing → ℕ
 countIn (Count n) = n
 countIn (Declined number) = 0
+
+-- a line's answer: the state after it, and how many bytes were written
+pub record Answered : Type 0 where
+  pub state : State
+  pub len : ℕ
+
+-- as the code has it, with the maps as the line leaves them
+abbrev pub saidOf : Said → List ℕ → List ℕ → Answered
+saidOf a cached fetching = record { state = stateOf (a .view) cached fetching; len = a .len }
 
 -- a response given: its state, and its line with the line end at the front of a buffer, all else of which stays
 pub record Gives (response : Response) (before after : List ℕ) (a : Answered) : Type 0 where

@@ -2,41 +2,47 @@
 
 use rules::Answer;
 use rules::Listing;
-use rules::Reply;
-use rules::State;
+use rules::Outcome;
+use rules::View;
 use text::Command;
 use text::Pending;
-ghost use Prim.Native.Nat.{_+_, _≤_, _<_};
+ghost use Prim.Native.Nat.{ℕ, _+_, _≤_, _<_};
 ghost use mathlib.Core.Path.{_≡_};
-ghost use mathlib.Core.List.{[], _∷_};
+ghost use mathlib.Core.List.{List, [], _∷_, _++_};
 ghost use lib.ListN.{length, take};
+ghost use Rattle.rules.specs.Views.{stateOf, noPages, replyOf};
 ghost use Rattle.rules.specs.Lists.{each};
 ghost use Rattle.rules.specs.Valid.{Valid};
-ghost use Rattle.rules.specs.Calls.{refused};
+ghost use Rattle.rules.specs.Calls.{idle, refused};
+ghost use Rattle.rules.specs.Image.{imageOf};
 ghost use Rattle.rules.specs.Lines.{lineOf, answerLine, orderLine, clustersLine, told, toldSetup, shown, obeyed, respondOf};
 ghost use Rattle.text.specs.Written.{fieldOf, Put};
-ghost use Rattle.text.specs.Streams.{unfed};
-ghost use Rattle.lines.specs.Responses.{Roomy, lineEnd, countIn, orderOf, Front, clustersShown, Gives};
-ghost use Rattle.lines.specs.Sessions.{StandsAt, Answers, Steps, Feeds, Finishes};
+ghost use Rattle.lines.specs.Responses.{Roomy, lineEnd, countIn, orderOf, Front, clustersShown, saidOf, Gives};
+ghost use Rattle.lines.specs.Sessions.{sessionOf, steppedOf, Answers, Steps, Moves, Feeds, Finishes};
 
-// A line's answer: the next state, and how many bytes were written.
-pub struct Answered {
-    pub state: State,
-    pub len: usize,
+// A line's answer: the view after it, and how many bytes were written.
+struct Said {
+    view: View,
+    len: usize,
 }
 
-// The program between two chunks of its input: the box, and the text since the last line end.
-pub struct Session {
-    pub state: State,
+// The view and the text since the last line end after some of a chunk, the place after that, and how many bytes of answers were written.
+struct Moved {
+    view: View,
+    pending: Pending,
+    next: usize,
+    len: usize,
+}
+
+// The same where the box is an image.
+pub struct Progress {
     pub pending: Pending,
-}
-
-// A session after some of a chunk, the place after that, and how many bytes of answers were written.
-pub struct Stepped {
-    pub session: Session,
     pub next: usize,
     pub len: usize,
 }
+
+// The bytes of the longest answer, that of 8,192 pairs, with its line end.
+const ROOM: usize = 57351;
 
 // ---- answer lines
 
@@ -120,43 +126,62 @@ fn put_clusters(out: &mut [u8], pages: &[u16], n: u16) -> usize
 
 // ---- responses
 
-// The state and what was written of its line, which is ended here.
-fn end_line(state: State, out: &mut [u8], at: usize) -> Answered
-    requires { ⌜ at < length (now out) ⌝ }
-    ensures { λ r. ⌜ (r .state ≡ state) × Put (now (out .entry)) at lineEnd (now (out .exit)) (r .len) ⌝ }
+// A call's answer, as a line with its line end.
+fn tell(answer: Answer, out: &mut [u8]) -> usize
+    requires { ⌜ Roomy (now out) ⌝ }
+    ensures { λ r. ⌜ Put (now (out .entry)) 0 (answerLine answer ++ lineEnd) (now (out .exit)) r ⌝ }
 {
-    let len = text::put_byte(out, at, b'\n');
-    Answered { state, len }
+    let at = put_case(out, answer);
+    text::put_byte(out, at, b'\n')
 }
 
-// A call's reply.
-fn tell(r: Reply, out: &mut [u8]) -> Answered
+// A call's outcome, whatever its maps.
+fn say(r: Outcome, out: &mut [u8]) -> Said
     requires { ⌜ Roomy (now out) ⌝ }
-    ensures { λ a. ⌜ Gives (told r) (now (out .entry)) (now (out .exit)) a ⌝ }
+    ensures { λ a. ⌜ ((c f : List ℕ) → Gives (told (replyOf r c f)) (now (out .entry)) (now (out .exit)) (saidOf a c f)) ⌝ }
 {
     let answer = r.answer;
-    let at = put_case(out, answer);
-    end_line(r.state, out, at)
+    let view = r.view;
+    let len = tell(answer, out);
+    Said { view, len }
 }
 
-// Any other line.
-fn refuse(s: State, out: &mut [u8]) -> Answered
+// An answer that leaves the view.
+fn answer(v: View, answer: Answer, out: &mut [u8]) -> Said
     requires { ⌜ Roomy (now out) ⌝ }
-    ensures { λ a. ⌜ Gives (told (refused s 14)) (now (out .entry)) (now (out .exit)) a ⌝ }
+    ensures { λ a. ⌜ ((c f : List ℕ) → Gives (told (record { state = stateOf v c f; answer = answer })) (now (out .entry)) (now (out .exit)) (saidOf a c f)) ⌝ }
 {
-    tell(calls::refuse(s, 14), out)
+    say(Outcome { view: v, answer }, out)
 }
 
-// Setup's reply: refused, it leaves the state s.
-fn tell_setup(s: State, r: Reply, out: &mut [u8]) -> Answered
+// 14: any other line.
+fn refuse(v: View, out: &mut [u8]) -> Said
     requires { ⌜ Roomy (now out) ⌝ }
-    ensures { λ a. ⌜ Gives (toldSetup s r) (now (out .entry)) (now (out .exit)) a ⌝ }
+    ensures { λ a. ⌜ ((c f : List ℕ) → Gives (told (refused (stateOf v c f) 14)) (now (out .entry)) (now (out .exit)) (saidOf a c f)) ⌝ }
 {
-    let answer = r.answer;
-    let at = put_case(out, answer);
-    match answer {
-        Answer::Refused(_) => end_line(s, out, at),
-        _ => end_line(r.state, out, at),
+    answer(v, Answer::Refused(14), out)
+}
+
+// Setup's outcome: refused, it leaves the old view and maps.
+fn say_setup(
+    v: View,
+    cached: &mut [u64; 128],
+    fetching: &mut [u64; 128],
+    r: Outcome,
+    out: &mut [u8],
+) -> Said
+    requires { ⌜ Roomy (now out) ⌝ }
+    ensures { λ a.
+        ⌜ Gives (toldSetup (stateOf v (now (cached .entry)) (now (fetching .entry))) (replyOf r noPages noPages)) (now (out .entry)) (now (out .exit)) (saidOf a (now (cached .exit)) (now (fetching .exit))) ⌝ }
+{
+    let told = r.answer;
+    match told {
+        Answer::Refused(_) => answer(v, told, out),
+        _ => {
+            bits::clear_all(cached);
+            bits::clear_all(fetching);
+            say(r, out)
+        }
     }
 }
 
@@ -171,153 +196,221 @@ fn count_in(listing: Listing) -> u16
 }
 
 // Writes the steal order or the fetch order into the lent list, and returns how many keys it has.
-fn list_order(s: State, stealing: bool, keys: &mut [u16]) -> u16
-    requires { ⌜ Valid s ⌝ }
+fn list_order<'a>(
+    v: View,
+    cached: &'a [u64; 128],
+    fetching: &'a [u64; 128],
+    stealing: bool,
+    keys: &mut [u16],
+) -> u16
+    requires { ⌜ Valid (stateOf v (now cached) (now fetching)) ⌝ }
     requires { ⌜ length (now keys) ≡ 8192 ⌝ }
-    ensures { λ r. ⌜ Front (orderOf stealing s) (now (keys .exit)) r ⌝ }
+    ensures { λ r. ⌜ Front (orderOf stealing (stateOf v (now (cached .entry)) (now (fetching .entry)))) (now (keys .exit)) r ⌝ }
 {
-    let view = order::view_of(s);
     if stealing {
-        return count_in(lists::steal_list(view, &s.cached, &s.fetching, keys));
+        return count_in(lists::steal_list(v, cached, fetching, keys));
     }
-    count_in(lists::fetch_list(view, &s.cached, &s.fetching, keys))
+    count_in(lists::fetch_list(v, cached, fetching, keys))
 }
 
 // The steal list or the fetch list.
-fn show_order(s: State, letter: u8, stealing: bool, out: &mut [u8]) -> Answered
-    requires { ⌜ Valid s ⌝ }
+fn show_order<'a>(
+    v: View,
+    cached: &'a [u64; 128],
+    fetching: &'a [u64; 128],
+    letter: u8,
+    stealing: bool,
+    out: &mut [u8],
+) -> Said
+    requires { ⌜ Valid (stateOf v (now cached) (now fetching)) ⌝ }
     requires { ⌜ Roomy (now out) ⌝ }
-    ensures { λ a. ⌜ Gives (shown s (orderLine letter (orderOf stealing s))) (now (out .entry)) (now (out .exit)) a ⌝ }
+    ensures { λ a.
+        ⌜ Gives (shown (stateOf v (now (cached .entry)) (now (fetching .entry))) (orderLine letter (orderOf stealing (stateOf v (now (cached .entry)) (now (fetching .entry)))))) (now (out .entry)) (now (out .exit)) (saidOf a (now (cached .entry)) (now (fetching .entry))) ⌝ }
 {
     let mut keys = [0u16; 8192];
-    let n = list_order(s, stealing, &mut keys);
+    let n = list_order(v, cached, fetching, stealing, &mut keys);
     let at = put_keys(out, letter, &keys, n);
-    end_line(s, out, at)
+    let len = text::put_byte(out, at, b'\n');
+    Said { view: v, len }
 }
 
 // The clusters of a file. A page is at most the low and the high page of one.
-fn show_clusters(s: State, file: u64, out: &mut [u8]) -> Answered
-    requires { ⌜ Valid s ⌝ }
+fn show_clusters<'a>(
+    v: View,
+    cached: &'a [u64; 128],
+    fetching: &'a [u64; 128],
+    file: u64,
+    out: &mut [u8],
+) -> Said
+    requires { ⌜ Valid (stateOf v (now cached) (now fetching)) ⌝ }
     requires { ⌜ Roomy (now out) ⌝ }
-    ensures { λ a. ⌜ Gives (clustersShown s file) (now (out .entry)) (now (out .exit)) a ⌝ }
+    ensures { λ a.
+        ⌜ Gives (clustersShown (stateOf v (now (cached .entry)) (now (fetching .entry))) file) (now (out .entry)) (now (out .exit)) (saidOf a (now (cached .entry)) (now (fetching .entry))) ⌝ }
 {
-    let view = order::view_of(s);
     let mut pages = [0u16; 2048];
-    let listing = lists::clusters(view, &s.cached, &s.fetching, file, &mut pages);
+    let listing = lists::clusters(v, cached, fetching, file, &mut pages);
     match listing {
         Listing::Count(n) => {
             let at = put_clusters(out, &pages, 2 * n);
-            end_line(s, out, at)
+            let len = text::put_byte(out, at, b'\n');
+            Said { view: v, len }
         }
-        Listing::Declined(number) => tell(calls::refuse(s, number), out),
+        Listing::Declined(number) => answer(v, Answer::Refused(number), out),
     }
 }
 
 // ---- lines by their letter
 
 // A letter alone.
-fn obey_alone(s: State, letter: u8, out: &mut [u8]) -> Answered
-    requires { ⌜ Valid s ⌝ }
+fn obey_alone(
+    v: View,
+    cached: &mut [u64; 128],
+    fetching: &mut [u64; 128],
+    letter: u8,
+    out: &mut [u8],
+) -> Said
+    requires { ⌜ Valid (stateOf v (now cached) (now fetching)) ⌝ }
     requires { ⌜ Roomy (now out) ⌝ }
-    ensures { λ a. ⌜ Gives (obeyed s letter []) (now (out .entry)) (now (out .exit)) a ⌝ }
+    ensures { λ a.
+        ⌜ Gives (obeyed (stateOf v (now (cached .entry)) (now (fetching .entry))) letter []) (now (out .entry)) (now (out .exit)) (saidOf a (now (cached .exit)) (now (fetching .exit))) ⌝ }
 {
     match letter {
-        b'P' => tell(calls::prefetch(s), out),
-        b'T' => tell(calls::steal(s), out),
-        b'L' => show_order(s, letter, true, out),
-        b'Q' => show_order(s, letter, false, out),
-        _ => refuse(s, out),
+        b'P' => answer(v, calls::prefetch(v, cached, fetching), out),
+        b'T' => answer(v, calls::steal(v, cached, fetching), out),
+        b'L' => show_order(v, cached, fetching, letter, true, out),
+        b'Q' => show_order(v, cached, fetching, letter, false, out),
+        _ => refuse(v, out),
     }
 }
 
 // A letter and a number.
-fn obey_one(s: State, letter: u8, n: u64, out: &mut [u8]) -> Answered
-    requires { ⌜ Valid s ⌝ }
+fn obey_one(
+    v: View,
+    cached: &mut [u64; 128],
+    fetching: &mut [u64; 128],
+    letter: u8,
+    n: u64,
+    out: &mut [u8],
+) -> Said
+    requires { ⌜ Valid (stateOf v (now cached) (now fetching)) ⌝ }
     requires { ⌜ Roomy (now out) ⌝ }
-    ensures { λ a. ⌜ Gives (obeyed s letter (n ∷ [])) (now (out .entry)) (now (out .exit)) a ⌝ }
+    ensures { λ a.
+        ⌜ Gives (obeyed (stateOf v (now (cached .entry)) (now (fetching .entry))) letter (n ∷ [])) (now (out .entry)) (now (out .exit)) (saidOf a (now (cached .exit)) (now (fetching .exit))) ⌝ }
 {
     match letter {
-        b'D' => tell(calls::detach(s, n), out),
-        b'R' => tell(calls::read(s, n), out),
-        b'N' => tell(run::run(s, n), out),
-        b'C' => show_clusters(s, n, out),
-        _ => refuse(s, out),
+        b'D' => say(calls::detach(v, n), out),
+        b'R' => say(calls::read(v, cached, fetching, n), out),
+        b'N' => say(run::run(v, cached, fetching, n), out),
+        b'C' => show_clusters(v, cached, fetching, n, out),
+        _ => refuse(v, out),
     }
 }
 
 // A letter and two numbers.
-fn obey_two(s: State, letter: u8, file: u64, page: u64, out: &mut [u8]) -> Answered
-    requires { ⌜ Valid s ⌝ }
+fn obey_two(
+    v: View,
+    cached: &mut [u64; 128],
+    fetching: &mut [u64; 128],
+    letter: u8,
+    file: u64,
+    page: u64,
+    out: &mut [u8],
+) -> Said
+    requires { ⌜ Valid (stateOf v (now cached) (now fetching)) ⌝ }
     requires { ⌜ Roomy (now out) ⌝ }
-    ensures { λ a. ⌜ Gives (obeyed s letter (file ∷ page ∷ [])) (now (out .entry)) (now (out .exit)) a ⌝ }
+    ensures { λ a.
+        ⌜ Gives (obeyed (stateOf v (now (cached .entry)) (now (fetching .entry))) letter (file ∷ page ∷ [])) (now (out .entry)) (now (out .exit)) (saidOf a (now (cached .exit)) (now (fetching .exit))) ⌝ }
 {
     match letter {
-        b'I' => tell(calls::arrive(s, file, page), out),
-        b'X' => tell(calls::lost(s, file, page), out),
-        _ => refuse(s, out),
+        b'I' => say(calls::arrive(v, cached, fetching, file, page), out),
+        b'X' => say(calls::lost(v, fetching, file, page), out),
+        _ => refuse(v, out),
     }
 }
 
-// A letter and three numbers.
-fn obey_three(s: State, letter: u8, slot: u64, file: u64, pace: u64, out: &mut [u8]) -> Answered
+// A letter and three numbers, whatever the maps.
+fn obey_three(v: View, letter: u8, slot: u64, file: u64, pace: u64, out: &mut [u8]) -> Said
     requires { ⌜ Roomy (now out) ⌝ }
-    ensures { λ a. ⌜ Gives (obeyed s letter (slot ∷ file ∷ pace ∷ [])) (now (out .entry)) (now (out .exit)) a ⌝ }
+    ensures { λ a.
+        ⌜ ((c f : List ℕ) → Gives (obeyed (stateOf v c f) letter (slot ∷ file ∷ pace ∷ [])) (now (out .entry)) (now (out .exit)) (saidOf a c f)) ⌝ }
 {
-    match letter {
-        b'A' => tell(calls::attach(s, slot, file, pace), out),
-        _ => refuse(s, out),
+    if letter == b'A' {
+        return say(calls::attach(v, slot, file, pace), out);
     }
+    refuse(v, out)
 }
 
 // A letter and eleven numbers.
-fn obey_eleven(s: State, letter: u8, x: [u64; 11], out: &mut [u8]) -> Answered
+fn obey_eleven(
+    v: View,
+    cached: &mut [u64; 128],
+    fetching: &mut [u64; 128],
+    letter: u8,
+    x: [u64; 11],
+    out: &mut [u8],
+) -> Said
     requires { ⌜ Roomy (now out) ⌝ }
-    ensures { λ a. ⌜ Gives (obeyed s letter x) (now (out .entry)) (now (out .exit)) a ⌝ }
+    ensures { λ a.
+        ⌜ Gives (obeyed (stateOf v (now (cached .entry)) (now (fetching .entry))) letter x) (now (out .entry)) (now (out .exit)) (saidOf a (now (cached .exit)) (now (fetching .exit))) ⌝ }
 {
     if letter != b'S' {
-        return refuse(s, out);
+        return refuse(v, out);
     }
     let sizes = [x[3], x[4], x[5], x[6], x[7], x[8], x[9], x[10]];
     let r = calls::setup(x[0], x[1], x[2], sizes);
-    tell_setup(s, r, out)
+    say_setup(v, cached, fetching, r, out)
 }
 
 // A line that was taken apart.
-fn obey(s: State, c: Command, out: &mut [u8]) -> Answered
-    requires { ⌜ Valid s ⌝ }
+fn obey(
+    v: View,
+    cached: &mut [u64; 128],
+    fetching: &mut [u64; 128],
+    c: Command,
+    out: &mut [u8],
+) -> Said
+    requires { ⌜ Valid (stateOf v (now cached) (now fetching)) ⌝ }
     requires { ⌜ (c .count ≤ 11) × Roomy (now out) ⌝ }
-    ensures { λ a. ⌜ Gives (obeyed s (c .letter) (take (c .count) (c .fields))) (now (out .entry)) (now (out .exit)) a ⌝ }
+    ensures { λ a.
+        ⌜ Gives (obeyed (stateOf v (now (cached .entry)) (now (fetching .entry))) (c .letter) (take (c .count) (c .fields))) (now (out .entry)) (now (out .exit)) (saidOf a (now (cached .exit)) (now (fetching .exit))) ⌝ }
 {
     let letter = c.letter;
     let x = c.fields;
     let count = c.count;
     match count {
-        0 => obey_alone(s, letter, out),
-        1 => obey_one(s, letter, x[0], out),
-        2 => obey_two(s, letter, x[0], x[1], out),
-        3 => obey_three(s, letter, x[0], x[1], x[2], out),
-        11 => obey_eleven(s, letter, x, out),
-        _ => refuse(s, out),
+        0 => obey_alone(v, cached, fetching, letter, out),
+        1 => obey_one(v, cached, fetching, letter, x[0], out),
+        2 => obey_two(v, cached, fetching, letter, x[0], x[1], out),
+        3 => obey_three(v, letter, x[0], x[1], x[2], out),
+        11 => obey_eleven(v, cached, fetching, letter, x, out),
+        _ => refuse(v, out),
     }
 }
 
-// One line's bytes to the next state and one answer line with its line end.
-pub fn respond(s: State, line: &[u8], out: &mut [u8]) -> Answered
-    requires { ⌜ Valid s ⌝ }
+// One line's bytes to the state after it and one answer line with its line end.
+fn respond(
+    v: View,
+    cached: &mut [u64; 128],
+    fetching: &mut [u64; 128],
+    line: &[u8],
+    out: &mut [u8],
+) -> Said
+    requires { ⌜ Valid (stateOf v (now cached) (now fetching)) ⌝ }
     requires { ⌜ Roomy (now out) ⌝ }
-    ensures { λ a. ⌜ Gives (respondOf s (now (line .entry))) (now (out .entry)) (now (out .exit)) a ⌝ }
+    ensures { λ a.
+        ⌜ Gives (respondOf (stateOf v (now (cached .entry)) (now (fetching .entry))) (now (line .entry))) (now (out .entry)) (now (out .exit)) (saidOf a (now (cached .exit)) (now (fetching .exit))) ⌝ }
 {
     let c = text::parse(line);
     if c.ok {
-        return obey(s, c, out);
+        return obey(v, cached, fetching, c, out);
     }
-    refuse(s, out)
+    refuse(v, out)
 }
 
 // ---- the input in chunks
 
 // No text since the last line end.
-fn no_text() -> Pending
+pub fn no_text() -> Pending
     ensures { λ r. ⌜ r .len ≡ 0 ⌝ }
 {
     Pending {
@@ -326,85 +419,197 @@ fn no_text() -> Pending
     }
 }
 
-// The program before any input.
-pub fn begin() -> Session
-    ensures { λ r. ⌜ StandsAt r unfed × Valid (r .state) ⌝ }
-{
-    let state = calls::idle();
-    let pending = no_text();
-    Session { state, pending }
-}
-
 // Answers the pending text as a line, whatever it holds where it is too long.
-fn answer(s: State, p: Pending, out: &mut [u8]) -> Answered
-    requires { ⌜ Valid s ⌝ }
+fn respond_to(
+    v: View,
+    cached: &mut [u64; 128],
+    fetching: &mut [u64; 128],
+    p: Pending,
+    out: &mut [u8],
+) -> Said
+    requires { ⌜ Valid (stateOf v (now cached) (now fetching)) ⌝ }
     requires { ⌜ Roomy (now out) ⌝ }
-    ensures { λ a. ⌜ Answers s p (now (out .entry)) (now (out .exit)) a ⌝ }
+    ensures { λ a.
+        ⌜ Answers (stateOf v (now (cached .entry)) (now (fetching .entry))) p (now (out .entry)) (now (out .exit)) (saidOf a (now (cached .exit)) (now (fetching .exit))) ⌝ }
 {
     let len = p.len;
     if 200 < len {
-        return refuse(s, out);
+        return refuse(v, out);
     }
     let bytes = p.bytes;
-    respond(s, &bytes[..len], out)
+    respond(v, cached, fetching, &bytes[..len], out)
 }
 
-// A session, a place and a number of bytes.
-fn at_place(state: State, pending: Pending, next: usize, len: usize) -> Stepped
-    ensures { λ r. ⌜ r ≡ record { session = record { state = state; pending = pending }; next = next; len = len } ⌝ }
-{
-    let session = Session { state, pending };
-    Stepped { session, next, len }
-}
-
-// Takes bytes of the chunk from `from` on, to the first line end or all; a line that ends is answered.
-pub fn step(session: Session, chunk: &[u8], from: usize, out: &mut [u8]) -> Stepped
-    requires { ⌜ Valid (session .state) ⌝ }
+// Takes bytes of the chunk from `from` on, to the first line end or all, behind a pending text; a line that ends is answered.
+fn step_on(
+    v: View,
+    cached: &mut [u64; 128],
+    fetching: &mut [u64; 128],
+    pending: Pending,
+    chunk: &[u8],
+    from: usize,
+    out: &mut [u8],
+) -> Moved
+    requires { ⌜ Valid (stateOf v (now cached) (now fetching)) ⌝ }
     requires { ⌜ Roomy (now out) ⌝ }
-    ensures { λ r. ⌜ Steps session (now (chunk .entry)) from (now (out .entry)) (now (out .exit)) r ⌝ }
+    ensures { λ r.
+        ⌜ Steps (sessionOf v (now (cached .entry)) (now (fetching .entry)) pending) (now (chunk .entry)) from (now (out .entry)) (now (out .exit)) (steppedOf r (now (cached .exit)) (now (fetching .exit))) ⌝ }
 {
-    let pending = session.pending;
     let taken = text::cut(pending, chunk, from);
     let text = taken.pending;
-    let state = session.state;
     if taken.ended {
-        let a = answer(state, text, out);
-        return at_place(a.state, no_text(), taken.next, a.len);
+        let a = respond_to(v, cached, fetching, text, out);
+        let view = a.view;
+        let pending = no_text();
+        return Moved {
+            view,
+            pending,
+            next: taken.next,
+            len: a.len,
+        };
     }
-    at_place(state, text, taken.next, 0)
+    Moved {
+        view: v,
+        pending: text,
+        next: taken.next,
+        len: 0,
+    }
+}
+
+// The same: a line that stands whole in the chunk is answered where it stands.
+fn step(
+    v: View,
+    cached: &mut [u64; 128],
+    fetching: &mut [u64; 128],
+    pending: Pending,
+    chunk: &[u8],
+    from: usize,
+    out: &mut [u8],
+) -> Moved
+    requires { ⌜ Valid (stateOf v (now cached) (now fetching)) ⌝ }
+    requires { ⌜ Roomy (now out) ⌝ }
+    ensures { λ r.
+        ⌜ Steps (sessionOf v (now (cached .entry)) (now (fetching .entry)) pending) (now (chunk .entry)) from (now (out .entry)) (now (out .exit)) (steppedOf r (now (cached .exit)) (now (fetching .exit))) ⌝ }
+{
+    if pending.len == 0 {
+        let end = text::line_end(chunk, from);
+        if end < chunk.len() {
+            let a = respond(v, cached, fetching, &chunk[from..end], out);
+            let view = a.view;
+            return Moved {
+                view,
+                pending,
+                next: end + 1,
+                len: a.len,
+            };
+        }
+    }
+    step_on(v, cached, fetching, pending, chunk, from, out)
 }
 
 // Takes lines of the chunk from `from` on, as long as there is room for one more answer.
-pub fn feed(session: Session, chunk: &[u8], from: usize, out: &mut [u8]) -> Stepped
-    requires { ⌜ Valid (session .state) ⌝ }
-    requires { ⌜ Roomy (now out) ⌝ }
-    ensures { λ r. ⌜ Feeds session (now (chunk .entry)) from (now (out .entry)) (now (out .exit)) r ⌝ }
+fn go_through(
+    v: View,
+    cached: &mut [u64; 128],
+    fetching: &mut [u64; 128],
+    pending: Pending,
+    chunk: &[u8],
+    from: usize,
+    out: &mut [u8],
+) -> Moved
+    requires { ⌜ Valid (stateOf v (now cached) (now fetching)) ⌝ }
+    ensures { λ r.
+        ⌜ Moves (sessionOf v (now (cached .entry)) (now (fetching .entry)) pending) (now (chunk .entry)) from (now (out .entry)) (now (out .exit)) (steppedOf r (now (cached .exit)) (now (fetching .exit))) ⌝ }
 {
-    let mut at = session;
+    let mut w = v;
+    let mut text = pending;
     let mut next = from;
     let mut len: usize = 0;
     while next < chunk.len() {
-        if out.len() - len < 65536 {
-            return at_place(at.state, at.pending, next, len);
+        if out.len() - len < ROOM {
+            return Moved {
+                view: w,
+                pending: text,
+                next,
+                len,
+            };
         }
-        let r = step(at, chunk, next, &mut out[len..]);
-        at = r.session;
+        let r = step(w, cached, fetching, text, chunk, next, &mut out[len..]);
+        w = r.view;
+        text = r.pending;
         next = r.next;
         len += r.len;
     }
-    at_place(at.state, at.pending, next, len)
+    Moved {
+        view: w,
+        pending: text,
+        next,
+        len,
+    }
 }
 
-// The end of the input: a text that is not empty is one last line.
-pub fn finish(session: Session, out: &mut [u8]) -> usize
-    requires { ⌜ Valid (session .state) ⌝ }
-    requires { ⌜ Roomy (now out) ⌝ }
-    ensures { λ r. ⌜ Finishes session (now (out .entry)) (now (out .exit)) r ⌝ }
+// ---- the program, on an image
+
+// The image of the idle state, with which the program starts.
+pub fn idle_image() -> [u8; 2208]
+    ensures { λ r. ⌜ r ≡ imageOf idle ⌝ }
 {
-    let pending = session.pending;
+    let cached = [0u64; 128];
+    let fetching = [0u64; 128];
+    let mut image = [0u8; 2208];
+    image::save_whole(calls::idle(), &cached, &fetching, &mut image);
+    image
+}
+
+// Takes lines of the chunk from `from` on, as long as there is room for one more answer. An image that Restore refuses takes none.
+pub fn feed(
+    image: &mut [u8],
+    pending: Pending,
+    chunk: &[u8],
+    from: usize,
+    out: &mut [u8],
+) -> Progress
+    ensures { λ r. ⌜ Feeds (now (image .entry)) pending (now (chunk .entry)) from (now (out .entry)) (now (image .exit)) (now (out .exit)) r ⌝ }
+{
+    let mut cached = [0u64; 128];
+    let mut fetching = [0u64; 128];
+    let restored = image::restore(image, &mut cached, &mut fetching);
+    let answer = restored.answer;
+    match answer {
+        Answer::Refused(_) => Progress {
+            pending,
+            next: from,
+            len: 0,
+        },
+        _ => {
+            let r = go_through(
+                restored.view,
+                &mut cached,
+                &mut fetching,
+                pending,
+                chunk,
+                from,
+                out,
+            );
+            image::save_whole(r.view, &cached, &fetching, image);
+            let pending = r.pending;
+            Progress {
+                pending,
+                next: r.next,
+                len: r.len,
+            }
+        }
+    }
+}
+
+// The end of the input: a text that is not empty is one last line, as if its line end followed.
+pub fn finish(image: &mut [u8], pending: Pending, out: &mut [u8]) -> usize
+    ensures { λ r. ⌜ Finishes (now (image .entry)) pending (now (out .entry)) (now (image .exit)) (now (out .exit)) r ⌝ }
+{
     if pending.len == 0 {
         return 0;
     }
-    let a = answer(session.state, pending, out);
-    a.len
+    let end = [b'\n'];
+    let r = feed(image, pending, &end, 0, out);
+    r.len
 }

@@ -1,7 +1,8 @@
--- What the code of the two orders rests on: one slot's use key, all slots', the searches for the victim and for the next fetch.
+-- What the code of the two orders rests on: one slot's use key, the readers' array, all slots', the searches for the victim and for the next fetch.
 pub mod Ranges
 pub mod Between
 pub mod Slots
+pub mod Seating
 pub mod Sweeps
 pub mod Lacks
 pub mod Searching

@@ -1,29 +1,34 @@
 -- The searches for the heads of the two orders, page by page. Assumes nothing.
 use mathlib.Core.Path.{_≡_, refl, sym, ap, ap₂, _∙_, subst}
-use mathlib.Core.Bool.{Bool, false, not, _&&_}
+use mathlib.Core.Bool.{Bool, not, _&&_}
+use mathlib.Core.List.{List}
 use mathlib.Core.Option.{none, some}
-use Prim.Native.Nat.{ℕ, zero, suc, min, _+_, _-_, _*_, _≤_, _<_}
+use Prim.Native.Nat.{ℕ, zero, suc, _+_, _-_, _*_, _%_, _^_, _≤_, _<_}
+use native.Mathlib.Nat.{zero-div}
+use native.Mathlib.Decide.{decLt}
 use native.Mathlib.Omega.{arith}
 use borrow.Author.Tests.{eq-eqb}
 use lib.Dec.{T, eqb, eqb→eq}
-use Rattle.bits.specs.Map.{bit}
-use Rattle.bits.proofs.Bits.{bit-le}
-use Rattle.bits.proofs.Finds.{Next, next-is}
+use lib.ListN.{getD}
+use Rattle.bits.specs.Map.{bit, lastBit}
+use Rattle.bits.proofs.Bits.{bit-le, bit-at}
+use Rattle.bits.proofs.Finds.{Without, Next, next-is, Last, last-is, last-only}
 use Rattle.rules.specs.Lists.{head}
 use Rattle.rules.specs.Pages.{cached}
 use Rattle.rules.specs.Readers.{readerAt, attached, lastPage}
 use Rattle.rules.specs.Valid.{Valid}
 use Rattle.rules.specs.UseTimes.{before, never, useFor}
 use Rattle.rules.specs.Orders.{fetchOrder, victim}
-use Rattle.rules.proofs.Cases.{passed, failed}
+use Rattle.rules.proofs.Cases.{passed}
 use Rattle.rules.proofs.LookAheads.{Before, before-is, is-before, use-least}
 use Rattle.rules.proofs.Ranks.{rank}
-use Rattle.rules.proofs.Candidates.{lastCached, candidate-cached, AtMost, NoneAbove, none-above, file-above, slot-above, best-candidate, no-candidate, absent, FirstAbsent, NoneBelow, none-below, slot-below, AtLeast, absent-least, absent-wanted, best-wanted, no-wanted}
+use Rattle.rules.proofs.Candidates.{lastCached, candidate-cached, AtMost, NoneAbove, best-candidate, no-candidate, absent, FirstAbsent, NoneBelow, none-below, slot-below, AtLeast, absent-least, absent-wanted, best-wanted, no-wanted}
 use Rattle.rules.specs.declared.State.{State}
 use Rattle.rules.specs.declared.Reader.{Reader}
 use Rattle.order.specs.Absent.{nextAbsent}
-use Rattle.order.specs.Searches.{Ranked, Raised, Highest, Soonest}
+use Rattle.order.specs.Searches.{lower, Over, Ranked, Raised, Highest, Soonest}
 use Rattle.order.specs.declared.Pick.{Pick}
+use Rattle.order.proofs.Slots.{lower-least}
 use Rattle.order.proofs.Lacks.{joined, joined-clear, absent-joined}
 
 -- ---- the victim
@@ -34,15 +39,15 @@ module _ (s : State) where
     pub raised-none : Ranked s p → page ≡ 0 → Raised s f n p p
     raised-none k z = record { page = k; up = omega arith; most = λ h. absurd (omega arith) }
 
-    module _ (value : ℕ) (r : value ≡ rank s (f * 1024 + page - 1)) where
+    module _ (value : ℕ) (o : Over s (f * 1024 + page - 1) (p .value) value) where
       most : (b : ℕ) → value ≤ b → AtMost s b f n
-      most b l _ = omega (arith, ap (λ i. rank s (f * 1024 + i - 1)) e)
+      most b l _ = omega (arith, o .least, ap (λ i. rank s (f * 1024 + i - 1)) e)
 
       -- a candidate that is kept
-      pub raised-take : (page ≡ 0 → ⊥) → p .value ≤ value → Raised s f n p (record { key = f * 1024 + page - 1; value = value })
+      pub raised-take : (page ≡ 0 → ⊥) → p .value < value → Raised s f n p (record { key = f * 1024 + page - 1; value = value })
       raised-take z l = record {
-        page = record { held = λ _. subst (λ i. T (cached s (f * 1024 + i - 1))) (sym e) (candidate-cached s f n (omega arith)); its = λ _. sym r };
-        up = l;
+        page = record { held = λ _. subst (λ i. T (cached s (f * 1024 + i - 1))) (sym e) (candidate-cached s f n (omega arith)); its = λ _. sym (o .exact l) };
+        up = omega arith;
         most = most value (omega arith);
       }
 
@@ -50,31 +55,66 @@ module _ (s : State) where
       pub raised-keep : Ranked s p → value ≤ p .value → Raised s f n p p
       raised-keep k l = record { page = k; up = omega arith; most = most (p .value) l }
 
-  -- a search starts without files and slots
-  pub highest-none : Highest s 0 0 (record { key = 0; value = 0 })
-  highest-none = record { page = record { held = λ h. absurd (omega arith); its = λ h. absurd (omega arith) }; above = none-above s 0 }
+  -- a search starts with none of the candidates
+  pub highest-none : Highest s 24 (record { key = 0; value = 0 })
+  highest-none = record {
+    page = record { held = λ h. absurd (omega arith); its = λ h. absurd (omega arith) };
+    files = λ f l u. absurd (omega arith);
+    slots = λ j l u. absurd (omega arith);
+  }
 
-  module _ (n m : ℕ) (p : Pick) (a : Highest s n m p) where
-    -- one file more
-    pub highest-file : (q : Pick) → Raised s n 1024 p q → Highest s (n + 1) m q
-    highest-file q h = record { page = h .page; above = file-above s n m (p .value) (q .value) (a .above) (h .up) (h .most) }
+  -- one candidate more, of a file or of a slot
+  pub highest-more : (i : ℕ) (p q : Pick) (f n : ℕ) → Highest s (i + 1) p → Raised s f n p q
+      → (i < 8 → (f ≡ i) × (n ≡ 1024))
+      → ((j : ℕ) → i ≡ 8 + j → T (attached (readerAt s j)) → (f ≡ readerAt s j .file) × (n ≡ readerAt s j .position))
+      → Highest s i q
+  highest-more i p q f n a r of-file of-slot = record { page = r .page; files = λ g l u. files g l u (decLt i g); slots = λ j l u h. slots j l u h (decLt i (8 + j)) }
+    where
+      raised : (g m : ℕ) → AtMost s (p .value) g m → AtMost s (q .value) g m
+      raised g m h t = omega (arith, h t, r .up)
 
-    -- one slot more, with a reader
-    pub highest-slot : (q : Pick) → Raised s (readerAt s m .file) (readerAt s m .position) p q → Highest s n (m + 1) q
-    highest-slot q h = record { page = h .page; above = slot-above s n m (p .value) (q .value) (a .above) (h .up) (λ _. h .most) }
+      files : (g : ℕ) → i ≤ g → g < 8 → Dec (i < g) → AtMost s (q .value) g 1024
+      files g l u (yes m) = raised g 1024 (a .files g (omega arith) u)
+      files g l u (no m) = let t = of-file (omega arith) in let e : f ≡ g = omega (arith, t .0) in rw (e, t .1) at (r .most)
 
-    -- one slot more, with none
-    pub highest-empty : attached (readerAt s m) ≡ false → Highest s n (m + 1) p
-    highest-empty e = record { page = a .page; above = slot-above s n m (p .value) (p .value) (a .above) (omega arith) (λ h. absurd (failed (attached (readerAt s m)) e h)) }
+      slots : (j : ℕ) → i ≤ 8 + j → j < 16 → T (attached (readerAt s j)) → Dec (i < 8 + j) → AtMost s (q .value) (readerAt s j .file) (readerAt s j .position)
+      slots j l u h (yes m) = raised (readerAt s j .file) (readerAt s j .position) (a .slots j (omega arith) u h)
+      slots j l u h (no m) = let t = of-slot j (omega arith) h in rw (t .0, t .1) at (r .most)
 
-  module _ (w : Valid s) (p : Pick) (a : Highest s 8 16 p) where
+  module _ (w : Valid s) (p : Pick) (a : Highest s 0 p) where
+    above : NoneAbove s 8 16 (p .value)
+    above = record { files = λ f l. a .files f (omega arith) l; slots = λ j l. a .slots j (omega arith) l }
+
     -- the page kept is the victim
     pub highest-victim : 0 < p .value → victim s ≡ some (p .key)
-    highest-victim h = best-candidate s w (p .key) (a .page .held h) (subst (NoneAbove s 8 16) (sym (a .page .its h)) (a .above))
+    highest-victim h = best-candidate s w (p .key) (a .page .held h) (subst (NoneAbove s 8 16) (sym (a .page .its h)) above)
 
     -- none is kept, and there is none
     pub highest-nothing : p .value ≡ 0 → victim s ≡ none
-    highest-nothing e = no-candidate s w 16 (subst (NoneAbove s 8 16) e (a .above))
+    highest-nothing e = no-candidate s w 16 (subst (NoneAbove s 8 16) e above)
+
+-- ---- words with no page cached
+
+-- a word that is 0 has no set bit
+pub zero-word : (words : List ℕ) (i : ℕ) → getD words i 0 ≡ 0 → Without words 1 (i * 64) ((i + 1) * 64)
+zero-word words i z k l u e =
+    let q : i * 64 + (k - i * 64) ≡ k = omega arith in
+    omega (arith, sym e ∙ (rw (q, z) at (bit-at words i (k - i * 64) (omega arith))) ∙ ap (λ n. n % 2) (zero-div (2 ^ (k - i * 64))))
+
+-- the last set bit is as far where the keys past it are passed over
+pub last-trimmed : (words : List ℕ) (a m n r : ℕ) → m ≤ n → Without words 1 (a + m) (a + n) → r ≡ lastBit words a m → r ≡ lastBit words a n
+last-trimmed words a m n r l w e = last-only words a n r record {
+  high = omega (arith, e, t .high);
+  found = λ h. rw e (t .found (omega arith));
+  after = λ k p q. by k p q (decLt k (a + m));
+}
+  where
+    t : Last words a m (lastBit words a m)
+    t = last-is words a m
+
+    by : (k : ℕ) → a + r ≤ k → k < a + n → Dec (k < a + m) → bit words k ≡ 0
+    by k p q (yes h) = t .after k (omega arith) h
+    by k p q (no h) = let z : (bit words k ≡ 1 → ⊥) = w k (omega arith) q in omega (arith, bit-le words k)
 
 -- ---- the next fetch
 
@@ -132,9 +172,9 @@ module _ (s : State) where
     soonest-keep h = record { low = a .low; page = a .page; its = a .its; below = slot-below s m (p .value) (p .value) (a .below) (omega arith) h }
 
     -- one slot more, whose page is used sooner
-    pub soonest-take : (key value : ℕ) → m < 16 → FirstAbsent s (readerAt s m) key → value ≡ min (useFor s key m) (p .value) → value < p .value → Soonest s (m + 1) (record { key = key; value = value })
+    pub soonest-take : (key value : ℕ) → m < 16 → FirstAbsent s (readerAt s m) key → value ≡ lower s key m (p .value) → value < p .value → Soonest s (m + 1) (record { key = key; value = value })
     soonest-take key value l f e u =
-        let t : useFor s key m ≡ value = omega arith in
+        let t : useFor s key m ≡ value = omega (arith, lower-least s key m (p .value) (a .low)) in
         record {
           low = omega (arith, a .low);
           page = λ h. absent-wanted s m key l f (omega arith);

@@ -1,88 +1,186 @@
--- A pass over the slots finds whether a page is ahead and its use key, and these its rank. Assumes nothing.
-use mathlib.Core.Path.{_≡_, refl}
-use mathlib.Core.Bool.{Bool, true, false, cond, _||_}
+-- A pass over the slots finds a page's rank. Assumes nothing.
+use mathlib.Core.Path.{_≡_, sym, ap, subst}
+use mathlib.Core.Bool.{not}
+use mathlib.Core.Logic.{_⊎_, inl, inr}
 use Prim.Native.Nat.{ℕ, min, _+_, _*_, _≤_, _<_}
-use native.Mathlib.Numerals.{add-one}
+use native.Mathlib.Decide.{decLt}
 use native.Mathlib.Omega.{arith}
-use borrow.Author.Tests.{le-ltb}
+use borrow.Author.Tests.{eq-eqb}
 use lib.Dec.{T, not-T, ltb}
-use Rattle.rules.specs.Lists.{some-of, least}
-use Rattle.rules.specs.Readers.{readerAt}
+use Rattle.rules.specs.Pages.{size, fileOf, pageOf}
+use Rattle.rules.specs.Readers.{readerAt, attached}
 use Rattle.rules.specs.UseTimes.{before, sees, never, useFor, useKey, ahead, seen}
 use Rattle.rules.specs.Orders.{place}
-use Rattle.rules.proofs.Tests.{less, is-true, is-false}
-use Rattle.rules.proofs.Leasts.{least-far, least-met}
-use Rattle.rules.proofs.LookAheads.{seen-by, use-sees}
+use Rattle.rules.proofs.Tests.{less, side, is-true, is-false, and-both}
+use Rattle.rules.proofs.Cases.{passed}
+use Rattle.rules.proofs.Leasts.{some-at, some-in, least-far, least-met}
+use Rattle.rules.proofs.LookAheads.{before-is, sees-before, seen-by, use-sees, use-least}
 use Rattle.rules.proofs.Ranks.{rank, seen-ahead, seen-small}
 use Rattle.rules.specs.declared.State.{State}
+use Rattle.rules.specs.declared.Reader.{Reader}
+use Rattle.order.specs.Seats.{lastSeat}
+use Rattle.order.specs.Searches.{lower, Over}
+use Rattle.order.proofs.Seating.{seat-is}
 
--- what the first i slots say of page k
-pub record Swept (s : State) (k i : ℕ) (found : Bool) (low : ℕ) : Type 0 where
-  pub ahead-is : found ≡ some-of i (λ j. before s (readerAt s j) k)
-  pub low-is : low ≡ least i (useFor s k) never
-
-more-some : (i : ℕ) (P : ℕ → Bool) → some-of (i + 1) P ≡ (P i || some-of i P)
-unfolding some-of
-more-some i P = rw (add-one i) refl
-
-more-least : (i : ℕ) (g : ℕ → ℕ) (far : ℕ) → least (i + 1) g far ≡ min (g i) (least i g far)
-unfolding least
-more-least i g far = rw (add-one i) refl
+-- ---- ranks
 
 module _ (s : State) (k : ℕ) where
-  not-used : (i : ℕ) → false ≡ before s (readerAt s i) k → useFor s k i ≡ never
-  unfolding useFor sees
-  not-used i b = rw (← b) refl
-
-  -- no slot
-  pub swept-none : Swept s k 0 false never
-  unfolding some-of least
-  swept-none = record { ahead-is = refl; low-is = refl }
-
-  module _ (i : ℕ) (found : Bool) (low : ℕ) (a : Swept s k i found low) where
-    -- a number that is kept is at most `never`
-    pub swept-low : low ≤ never
-    swept-low = omega (arith, a .low-is, least-far i (useFor s k) never)
-
-    -- a slot that has the page before it
-    pub swept-before : (next : ℕ) → true ≡ before s (readerAt s i) k → next ≡ min (useFor s k i) low → Swept s k (i + 1) true next
-    swept-before next b e = record {
-      ahead-is = rw (more-some i (λ j. before s (readerAt s j) k), ← b) refl;
-      low-is = rw (more-least i (useFor s k) never, ← a .low-is) e;
-    }
-
-    -- a slot that has not
-    pub swept-not : false ≡ before s (readerAt s i) k → Swept s k (i + 1) found low
-    swept-not b = record {
-      ahead-is = rw (more-some i (λ j. before s (readerAt s j) k), ← b) (a .ahead-is);
-      low-is = rw (more-least i (useFor s k) never, ← a .low-is, not-used i b) (omega (arith, swept-low));
-    }
-
-  -- all slots
-  pub swept-all : (found : Bool) (low : ℕ) → Swept s k 16 found low → (found ≡ ahead s k) × (low ≡ useKey s k)
-  unfolding ahead useKey
-  swept-all found low a = (a .ahead-is, a .low-is)
-
--- ---- the rank from these
-
-module _ (s : State) (k : ℕ) where
-  used-seen : useKey s k < never → T (seen s k)
+  use-far : useKey s k ≤ never
   unfolding useKey
-  used-seen l =
-      let m = least-met 16 (useFor s k) never l in
-      seen-by s k (m .0) (m .1) (use-sees s k (m .0) (omega (arith, m .2)))
+  use-far = least-far 16 (useFor s k) never
+
+  -- the slot that a use key is of
+  used-by : useKey s k < never → (j : ℕ) × (j < 16) × T (sees s (readerAt s j) k) × (useKey s k ≡ useFor s k j)
+  unfolding useKey
+  used-by l = let m = least-met 16 (useFor s k) never l in (m .0, m .1, use-sees s k (m .0) (omega (arith, m .2)), m .2)
+
+  ahead-by : (j : ℕ) → j < 16 → T (before s (readerAt s j) k) → T (ahead s k)
+  unfolding ahead
+  ahead-by j l h = some-in 16 j (λ j. before s (readerAt s j) k) l h
+
+  ahead-of : T (ahead s k) → (j : ℕ) × (j < 16) × T (before s (readerAt s j) k)
+  unfolding ahead
+  ahead-of h = some-at 16 (λ j. before s (readerAt s j) k) h
+
+  rank-seen : T (seen s k) → rank s k ≡ useKey s k
+  unfolding rank
+  rank-seen h = rw (is-true (ahead s k) (seen-ahead s k h), is-true (seen s k) h)
+
+  rank-unseen : T (ahead s k) → T (not (seen s k)) → rank s k ≡ never + place k
+  unfolding rank
+  rank-unseen a h = rw (is-true (ahead s k) a, is-false (seen s k) h)
+
+  rank-behind : T (not (ahead s k)) → rank s k ≡ 2 * never + place k
+  unfolding rank
+  rank-behind h = rw (is-false (ahead s k) h)
+
+  -- a page ahead of a reader
+  rank-ahead : T (ahead s k) → rank s k ≤ never + place k
+  rank-ahead a = go (side (seen s k))
+    where
+      go : T (seen s k) ⊎ T (not (seen s k)) → rank s k ≤ never + place k
+      go (inl h) = omega (arith, rank-seen h, use-far)
+      go (inr h) = omega (arith, rank-unseen a h)
+
+  -- any page
+  rank-high : rank s k ≤ 2 * never + place k
+  rank-high = go (side (ahead s k))
+    where
+      go : T (ahead s k) ⊎ T (not (ahead s k)) → rank s k ≤ 2 * never + place k
+      go (inl h) = omega (arith, rank-ahead h)
+      go (inr h) = omega (arith, rank-behind h)
+
+  -- no file has the page
+  pub rank-outside : size s (fileOf k) < pageOf k → 2 * never + place k ≡ rank s k
+  rank-outside l = sym (rank-behind (not-T (ahead s k) (λ h.
+      let a = ahead-of h in
+      let b = before-is s (readerAt s (a .0)) k (a .2) in
+      omega (arith, b .in-file, ap (size s) (b .of-file)))))
+
+  used-seen : useKey s k < never → T (seen s k)
+  used-seen l = let a = used-by l in seen-by s k (a .0) (a .1) (a .2)
+
+  unused : s .«look_ahead» ≤ 2000000 → never ≤ useKey s k → T (not (seen s k))
+  unused w l = not-T (seen s k) (λ h. omega (arith, seen-small s k w h))
 
   -- a page is in a look-ahead where its use key is below `never`
   pub seen-used : s .«look_ahead» ≤ 2000000 → seen s k ≡ ltb (useKey s k) never
-  seen-used h = less (useKey s k) never (λ b. seen s k ≡ b) (λ l. is-true (seen s k) (used-seen l))
-      (λ l. is-false (seen s k) (not-T (seen s k) (λ a. omega (arith, seen-small s k h a))))
+  seen-used w = less (useKey s k) never (λ b. seen s k ≡ b) (λ l. is-true (seen s k) (used-seen l)) (λ l. is-false (seen s k) (unused w l))
 
-  -- in a look-ahead
-  pub rank-used : useKey s k < never → useKey s k ≡ rank s k
-  unfolding rank
-  rank-used l = let a = used-seen l in rw (is-true (seen s k) a, is-true (ahead s k) (seen-ahead s k a)) refl
+  -- the use key from the rank
+  pub use-ranked : s .«look_ahead» ≤ 2000000 → min (rank s k) never ≡ useKey s k
+  use-ranked w = less (useKey s k) never (λ _. min (rank s k) never ≡ useKey s k) (λ l. omega (arith, rank-seen (used-seen l))) (λ l. go l (side (ahead s k)))
+    where
+      go : never ≤ useKey s k → T (ahead s k) ⊎ T (not (ahead s k)) → min (rank s k) never ≡ useKey s k
+      go l (inl a) = omega (arith, rank-unseen a (unused w l), use-far)
+      go l (inr a) = omega (arith, rank-behind a, use-far)
 
-  -- in none, and ahead or not
-  pub rank-unused : s .«look_ahead» ≤ 2000000 → never ≤ useKey s k → cond (ahead s k) (never + place k) (2 * never + place k) ≡ rank s k
-  unfolding rank
-  rank-unused h l = rw (seen-used h, le-ltb (useKey s k) never l) refl
+  -- no rank is below a floor of 0
+  pub over-none : (r : ℕ) → Over s k 0 r → r ≡ rank s k
+  over-none r o = by (decLt 0 r)
+    where
+      by : Dec (0 < r) → r ≡ rank s k
+      by (yes h) = o .exact h
+      by (no h) = omega (arith, o .least)
+
+-- ---- a pass over the slots
+
+-- top is what the slots from n on leave of page k's rank
+pub record Swept (s : State) (k n top : ℕ) : Type 0 where
+  pub low : rank s k ≤ top
+  pub high : top ≤ 2 * never + place k
+  pub passed : (j : ℕ) → n ≤ j → j < 16 → T (before s (readerAt s j) k) → top ≤ never + place k
+  pub used : (j : ℕ) → n ≤ j → j < 16 → T (sees s (readerAt s j) k) → top ≤ useFor s k j
+
+module _ (s : State) (k : ℕ) where
+  -- no slot
+  pub swept-none : Swept s k 16 (2 * never + place k)
+  swept-none = record { low = rank-high s k; high = omega arith; passed = λ j l u. absurd (omega arith); used = λ j l u. absurd (omega arith) }
+
+  -- slots that do not have the page before them
+  pub swept-not : (n j top : ℕ) → Swept s k n top → ((i : ℕ) → j ≤ i → i < n → T (before s (readerAt s i) k) → ⊥) → Swept s k j top
+  swept-not n j top a none = record {
+    low = a .low;
+    high = a .high;
+    passed = λ i l u b. past i l u b (decLt i n);
+    used = λ i l u b. early i l u b (decLt i n);
+  }
+    where
+      past : (i : ℕ) → j ≤ i → i < 16 → T (before s (readerAt s i) k) → Dec (i < n) → top ≤ never + place k
+      past i l u b (yes m) = absurd (none i l m b)
+      past i l u b (no m) = a .passed i (omega arith) u b
+
+      early : (i : ℕ) → j ≤ i → i < 16 → T (sees s (readerAt s i) k) → Dec (i < n) → top ≤ useFor s k i
+      early i l u b (yes m) = absurd (none i l m (sees-before s (readerAt s i) k b))
+      early i l u b (no m) = a .used i (omega arith) u b
+
+  -- the slots after the last one with a reader of the file
+  pub swept-seat : (n top at : ℕ) → Swept s k n top → at ≡ lastSeat (s .readers) (fileOf k) n → Swept s k at top
+  swept-seat n top at a e = swept-not n at top a (λ i l u b.
+      let r : Reader = readerAt s i in
+      let q = before-is s r k b in
+      seat-is (s .readers) (fileOf k) n .after i (omega arith) u (and-both (attached r) _ (q .here) (passed _ (eq-eqb (r .file) (fileOf k) (q .of-file)))))
+
+  -- a slot that has
+  module _ (j top next : ℕ) (a : Swept s k (j + 1) top) (l : j < 16) (b : T (before s (readerAt s j) k)) (e : next ≡ lower s k j (min top (never + place k))) where
+    lower-used : T (sees s (readerAt s j) k) → next ≡ min (useFor s k j) (min top (never + place k))
+    lower-used h = rw (is-true (sees s (readerAt s j) k) h) at e
+
+    lower-kept : T (not (sees s (readerAt s j) k)) → next ≡ min top (never + place k)
+    lower-kept h = rw (is-false (sees s (readerAt s j) k) h) at e
+
+    lower-bounds : (rank s k ≤ next) × (next ≤ top) × (next ≤ never + place k)
+    lower-bounds = go (side (sees s (readerAt s j) k))
+      where
+        up : rank s k ≤ min top (never + place k)
+        up = omega (arith, a .low, rank-ahead s k (ahead-by s k j l b))
+
+        go : T (sees s (readerAt s j) k) ⊎ T (not (sees s (readerAt s j) k)) → (rank s k ≤ next) × (next ≤ top) × (next ≤ never + place k)
+        go (inl h) =
+            let f = lower-used h in
+            (omega (arith, up, rank-seen s k (seen-by s k j l h), use-least s k j l), omega arith, omega arith)
+        go (inr h) = let f = lower-kept h in (omega (arith, up), omega arith, omega arith)
+
+    pub swept-before : Swept s k j next
+    swept-before = record {
+      low = lower-bounds .0;
+      high = omega (arith, lower-bounds .2);
+      passed = λ _ _ _ _. lower-bounds .2;
+      used = λ i m u h. early i m u h (decLt j i);
+    }
+      where
+        early : (i : ℕ) → j ≤ i → i < 16 → T (sees s (readerAt s i) k) → Dec (j < i) → next ≤ useFor s k i
+        early i m u h (yes g) = omega (arith, lower-bounds .1, a .used i (omega arith) u h)
+        early i m u h (no g) = let q : j ≡ i = omega arith in subst (λ i. T (sees s (readerAt s i) k) → next ≤ useFor s k i) q (λ h. omega (arith, lower-used h)) h
+
+  -- all slots
+  pub swept-all : (top : ℕ) → s .«look_ahead» ≤ 2000000 → Swept s k 0 top → top ≡ rank s k
+  swept-all top w a = go (side (ahead s k)) (side (seen s k))
+    where
+      most : T (seen s k) → top ≤ useKey s k
+      most h = let m = used-by s k (seen-small s k w h) in omega (arith, m .3, a .used (m .0) (omega arith) (m .1) (m .2))
+
+      go : T (ahead s k) ⊎ T (not (ahead s k)) → T (seen s k) ⊎ T (not (seen s k)) → top ≡ rank s k
+      go _ (inl h) = omega (arith, a .low, rank-seen s k h, most h)
+      go (inl b) (inr h) = let m = ahead-of s k b in omega (arith, a .low, rank-unseen s k b h, a .passed (m .0) (omega arith) (m .1) (m .2))
+      go (inr b) (inr h) = omega (arith, a .low, a .high, rank-behind s k b)

@@ -1,14 +1,25 @@
 -- What a search for the head of an order keeps: the best page so far, with its number. Assumes nothing: these are definitions.
-use Prim.Native.Nat.{ℕ, _≤_, _<_}
+use Prim.Native.Nat.{ℕ, min, _+_, _≤_, _<_}
 use mathlib.Core.Path.{_≡_}
+use mathlib.Core.Bool.{cond}
 use lib.Dec.{T}
 use Rattle.rules.specs.Pages.{cached}
-use Rattle.rules.specs.UseTimes.{never, useKey}
+use Rattle.rules.specs.Readers.{readerAt, attached}
+use Rattle.rules.specs.UseTimes.{sees, never, useFor, useKey}
 use Rattle.rules.specs.Orders.{wanted}
 use Rattle.rules.proofs.Ranks.{rank}
-use Rattle.rules.proofs.Candidates.{AtMost, NoneAbove, NoneBelow}
+use Rattle.rules.proofs.Candidates.{AtMost, NoneBelow}
 use Rattle.rules.specs.declared.State.{State}
 use Rattle.order.specs.declared.Pick.{Pick}
+
+-- the number low, or slot j's use key for page k where the slot has the page in look-ahead and the key is less
+abbrev pub lower : State → ℕ → ℕ → ℕ → ℕ
+lower s k j low = cond (sees s (readerAt s j) k) (min (useFor s k j) low) low
+
+-- r is page k's rank, or neither is above the floor
+pub record Over (s : State) (k floor r : ℕ) : Type 0 where
+  pub least : rank s k ≤ r
+  pub exact : floor < r → r ≡ rank s k
 
 -- the page kept, if any, is cached and has this rank
 pub record Ranked (s : State) (p : Pick) : Type 0 where
@@ -21,10 +32,11 @@ pub record Raised (s : State) (f n : ℕ) (p q : Pick) : Type 0 where
   pub up : p .value ≤ q .value
   pub most : AtMost s (q .value) f n
 
--- no candidate of the first n files and the first m slots has a higher rank
-pub record Highest (s : State) (n m : ℕ) (p : Pick) : Type 0 where
+-- of the 24 candidates, those of the files and then those of the slots, none from the one numbered i on has a higher rank
+pub record Highest (s : State) (i : ℕ) (p : Pick) : Type 0 where
   pub page : Ranked s p
-  pub above : NoneAbove s n m (p .value)
+  pub files : (f : ℕ) → i ≤ f → f < 8 → AtMost s (p .value) f 1024
+  pub slots : (j : ℕ) → i ≤ 8 + j → j < 16 → T (attached (readerAt s j)) → AtMost s (p .value) (readerAt s j .file) (readerAt s j .position)
 
 -- the page kept, if any, is wanted, and no first absent page of the first m slots is used sooner
 pub record Soonest (s : State) (m : ℕ) (p : Pick) : Type 0 where

@@ -1,42 +1,32 @@
 use rules::Condition;
 use rules::Reader;
-use rules::State;
+use rules::View;
 ghost use mathlib.Core.Path.{_≡_};
+ghost use mathlib.Core.Bool.{cond};
 ghost use mathlib.Core.List.{List, [], _∷_};
 ghost use Prim.Native.Nat.{ℕ, min, _+_, _-_, _*_, _%_, _<_, _≤_};
+ghost use lib.Dec.{T};
+ghost use Rattle.bits.specs.Map.{lastBit};
+ghost use Rattle.bits.proofs.Finds.{Without};
 ghost use Rattle.rules.specs.declared.State.{State};
 ghost use Rattle.rules.specs.Lists.{head};
-ghost use Rattle.rules.specs.Pages.{size, fileOf};
+ghost use Rattle.rules.specs.Pages.{Page};
 ghost use Rattle.rules.specs.Readers.{attached};
 ghost use Rattle.rules.specs.Valid.{Valid};
-ghost use Rattle.rules.specs.UseTimes.{before, missing, never, useFor, useKey, ahead};
+ghost use Rattle.rules.specs.UseTimes.{missing, useKey};
 ghost use Rattle.rules.specs.Orders.{fetchOrder, victim};
 ghost use Rattle.rules.proofs.Ranks.{rank};
 ghost use Rattle.rules.proofs.LookAheads.{Before};
-ghost use Rattle.order.specs.Views.{stateOf, viewOf, chosen, slotOf, Ranged};
+ghost use Rattle.rules.specs.Views.{stateOf};
+ghost use Rattle.order.specs.Choices.{chosen, slotOf, Ranged, Housed};
+ghost use Rattle.order.specs.Seats.{readerIn, Seated};
 ghost use Rattle.order.specs.Absent.{nextAbsent};
-ghost use Rattle.order.specs.Searches.{Ranked, Raised, Highest, Soonest};
-
-// A state without its two maps, which are lent.
-pub struct View {
-    pub frames: u16,
-    pub turn: u8,
-    pub look_ahead: u32,
-    pub fetch_time: u32,
-    pub sizes: [u16; 8],
-    pub readers: [Reader; 16],
-}
+ghost use Rattle.order.specs.Searches.{lower, Over, Ranked, Raised, Soonest};
 
 // The key of the page chosen, if any.
 pub enum Choice {
     Key(u16),
     Nothing,
-}
-
-// A page's use key, and whether some reader has the page before it.
-struct Uses {
-    ahead: bool,
-    low: u64,
 }
 
 // The best page of a search so far, by its key, and the number by which it is best.
@@ -47,22 +37,6 @@ struct Pick {
 
 // Above every use key: the page is in no look-ahead.
 pub const NEVER: u64 = 67108864;
-
-// All of a state but its maps.
-pub fn view_of(s: State) -> View
-    ensures { λ r. ⌜ r ≡ viewOf s ⌝ }
-{
-    let sizes = s.sizes;
-    let readers = s.readers;
-    View {
-        frames: s.frames,
-        turn: s.turn,
-        look_ahead: s.look_ahead,
-        fetch_time: s.fetch_time,
-        sizes: sizes,
-        readers: readers,
-    }
-}
 
 // Is there a reader in the slot?
 fn is_attached(r: Reader) -> bool
@@ -76,22 +50,14 @@ fn is_attached(r: Reader) -> bool
     }
 }
 
-// Does the reader still have the page before it? `last` is the last page of the page's file.
-fn has_before(r: Reader, last: u16, key: usize) -> bool
-    requires { ⌜ key < 8192 ⌝ }
-    ensures { λ b. ⌜ ((s : State) → size s (fileOf key) ≡ last → b ≡ before s r key) ⌝ }
+// The smaller of two numbers.
+fn lesser(a: u64, b: u64) -> u64
+    ensures { λ r. ⌜ r ≡ min a b ⌝ }
 {
-    let page = key % 1024 + 1;
-    if !is_attached(r) {
-        return false;
+    if a < b {
+        return a;
     }
-    if r.file as usize != key / 1024 {
-        return false;
-    }
-    if page <= r.position as usize {
-        return false;
-    }
-    page <= last as usize
+    b
 }
 
 // How many of the pages from + 1 to from + n of the file are not cached.
@@ -110,17 +76,25 @@ fn seat(turn: u8, slot: usize) -> u64
     ((slot + 16 - turn as usize) % 16) as u64
 }
 
-// The least use key so far, or the slot's where that is less. The pages between are counted only if the reader can still come first.
-fn lowered(v: View, cached: &[u64; 128], slot: usize, key: usize, low: u64) -> u64
+// The least number so far, or the slot's use key where that is less. The pages between are counted only if the reader can still come first.
+fn lowered(
+    v: View,
+    cached: &[u64; 128],
+    slot: usize,
+    position: u16,
+    pace: u16,
+    key: usize,
+    low: u64,
+) -> u64
     requires { ⌜ Ranged v ⌝ }
-    requires { ⌜ (slot < 16) × (key < 8192) × (low ≤ never) ⌝ }
+    requires { ⌜ (slot < 16) × (key < 8192) ⌝ }
+    requires { ⌜ (position ≡ slotOf v slot .position) × (pace ≡ slotOf v slot .pace) ⌝ }
     requires { ⌜ Before (stateOf v [] []) (slotOf v slot) key ⌝ }
-    ensures { λ r. ⌜ ((m : List ℕ) → r ≡ min (useFor (stateOf v (now (cached .entry)) m) key slot) low) ⌝ }
+    ensures { λ r. ⌜ ((m : List ℕ) → r ≡ lower (stateOf v (now (cached .entry)) m) key slot low) ⌝ }
 {
-    let r = v.readers[slot];
-    let position = r.position as usize;
-    let steps = key % 1024 + 1 - position;
-    let near = (steps as u64) * (r.pace as u64);
+    let from = position as usize;
+    let steps = key % 1024 + 1 - from;
+    let near = (steps as u64) * (pace as u64);
     let look = v.look_ahead as u64;
     if look < near {
         return low;
@@ -134,50 +108,59 @@ fn lowered(v: View, cached: &[u64; 128], slot: usize, key: usize, low: u64) -> u
     if time == 0 {
         return earliest;
     }
-    let q = missing(cached, key / 1024, position, steps - 1);
+    let q = missing(cached, key / 1024, from, steps - 1);
     if look < (q + 1) * time {
         return low;
     }
-    let used = (near + q * time) * 16 + distance;
-    if used < low {
-        return used;
-    }
-    low
+    lesser((near + q * time) * 16 + distance, low)
 }
 
-// One pass over the slots.
-fn swept(v: View, cached: &[u64; 128], key: usize) -> Uses
-    requires { ⌜ Ranged v ⌝ }
-    requires { ⌜ key < 8192 ⌝ }
-    ensures { λ r.
-        ⌜ ((m : List ℕ) → (r .ahead ≡ ahead (stateOf v (now (cached .entry)) m) key) × (r .low ≡ useKey (stateOf v (now (cached .entry)) m) key)) ⌝ }
+// What the sweeps read of the readers, in one array that can be lent. At `slot`: its reader's position; at 16 + slot: the pace; at 32 + slot: the last
+// slot before it with a reader of the same file; at 48 + file: the last slot with a reader of the file. These slots count from 1, and 0 is none.
+fn seats_of(readers: [Reader; 16]) -> [u16; 56]
+    requires { ⌜ ((j : ℕ) → T (attached (readerIn readers j)) → readerIn readers j .file < 8) ⌝ }
+    ensures { λ r. ⌜ Seated readers 16 r ⌝ }
 {
-    let last = v.sizes[key / 1024];
-    let mut found = false;
-    let mut low = NEVER;
+    let mut seats: [u16; 56] = [0; 56];
     let mut slot: usize = 0;
     while slot < 16 {
-        let r = v.readers[slot];
-        if has_before(r, last, key) {
-            found = true;
-            low = lowered(v, cached, slot, key, low);
+        let r = readers[slot];
+        if is_attached(r) {
+            let at = 48 + r.file as usize;
+            seats[slot] = r.position;
+            seats[16 + slot] = r.pace;
+            seats[32 + slot] = seats[at];
+            seats[at] = slot as u16 + 1;
         }
         slot += 1;
     }
-    Uses {
-        ahead: found,
-        low: low,
-    }
+    seats
 }
 
-// A page's use key; NEVER where the page is in no look-ahead.
-pub fn use_key(v: View, cached: &[u64; 128], key: usize) -> u64
-    requires { ⌜ Ranged v ⌝ }
-    requires { ⌜ key < 8192 ⌝ }
-    ensures { λ r. ⌜ ((m : List ℕ) → r ≡ useKey (stateOf v (now (cached .entry)) m) key) ⌝ }
+// The rank of a page of its file, or, where that is no higher than the floor, a number that is no higher either: one pass over the file's readers,
+// from the last slot down, that stops as soon as the page cannot rank above the floor.
+fn rank_over(v: View, seats: &[u16; 56], cached: &[u64; 128], key: usize, floor: u64) -> u64
+    requires { ⌜ Ranged v × Seated (v .readers) 16 (now seats) ⌝ }
+    requires { ⌜ Page (stateOf v [] []) key ⌝ }
+    ensures { λ r. ⌜ ((m : List ℕ) → Over (stateOf v (now (cached .entry)) m) key floor r) ⌝ }
 {
-    let u = swept(v, cached, key);
-    u.low
+    let page = key % 1024 + 1;
+    let place = (page * 8 + key / 1024) as u64;
+    let mut top = 2 * NEVER + place;
+    let mut at = seats[48 + key / 1024] as usize;
+    while 0 < at {
+        let slot = at - 1;
+        let position = seats[slot];
+        if (position as usize) < page {
+            let low = lesser(top, NEVER + place);
+            top = lowered(v, cached, slot, position, seats[16 + slot], key, low);
+            if top <= floor {
+                return top;
+            }
+        }
+        at = seats[32 + slot] as usize;
+    }
+    top
 }
 
 // A page's rank: the higher, the sooner it is given up.
@@ -186,30 +169,71 @@ pub fn rank(v: View, cached: &[u64; 128], key: usize) -> u64
     requires { ⌜ key < 8192 ⌝ }
     ensures { λ r. ⌜ ((m : List ℕ) → r ≡ rank (stateOf v (now (cached .entry)) m) key) ⌝ }
 {
-    let u = swept(v, cached, key);
-    if u.low < NEVER {
-        return u.low;
+    let page = key % 1024 + 1;
+    let last = v.sizes[key / 1024];
+    if (last as usize) < page {
+        return 2 * NEVER + (page * 8 + key / 1024) as u64;
     }
-    let place = ((key % 1024 + 1) * 8 + key / 1024) as u64;
-    if u.ahead {
-        return NEVER + place;
+    let readers = v.readers;
+    let seats = seats_of(readers);
+    rank_over(v, &seats, cached, key, 0)
+}
+
+// A page's use key; NEVER where the page is in no look-ahead.
+pub fn use_key(v: View, cached: &[u64; 128], key: usize) -> u64
+    requires { ⌜ Ranged v ⌝ }
+    requires { ⌜ key < 8192 ⌝ }
+    ensures { λ r. ⌜ ((m : List ℕ) → r ≡ useKey (stateOf v (now (cached .entry)) m) key) ⌝ }
+{
+    lesser(rank(v, cached, key), NEVER)
+}
+
+// Of the words from `first` to before `end`, how far the last one reaches that is not 0; `first` where all are.
+fn used_words(words: &[u64; 128], first: usize, end: usize) -> usize
+    requires { ⌜ (first ≤ end) × (end ≤ 128) ⌝ }
+    ensures { λ r. ⌜ (first ≤ r) × (r ≤ end) × Without (now (words .entry)) 1 (r * 64) (end * 64) ⌝ }
+{
+    let mut i = end;
+    while first < i && words[i - 1] == 0 {
+        i -= 1;
     }
-    2 * NEVER + place
+    i
+}
+
+// The last cached one of the file's first n pages, or 0. Words with no page cached are passed over.
+fn last_cached(cached: &[u64; 128], file: usize, n: usize) -> usize
+    requires { ⌜ (file < 8) × (n ≤ 1024) ⌝ }
+    ensures { λ r. ⌜ r ≡ lastBit (now (cached .entry)) (file * 1024) n ⌝ }
+{
+    let first = file * 16;
+    let m = (used_words(cached, first, first + (n + 63) / 64) - first) * 64;
+    if m < n {
+        return bits::last_set(cached, file * 1024, m);
+    }
+    bits::last_set(cached, file * 1024, n)
 }
 
 // The last cached one of the file's first n pages, if there is one and its rank is higher than the best.
-fn higher(v: View, cached: &[u64; 128], file: usize, n: usize, best: Pick) -> Pick
-    requires { ⌜ Ranged v ⌝ }
+fn higher(
+    v: View,
+    seats: &[u16; 56],
+    cached: &[u64; 128],
+    file: usize,
+    n: usize,
+    best: Pick,
+) -> Pick
+    requires { ⌜ Ranged v × Seated (v .readers) 16 (now seats) ⌝ }
+    requires { ⌜ Housed v (now cached) ⌝ }
     requires { ⌜ (file < 8) × (n ≤ 1024) ⌝ }
     requires { ⌜ ((m : List ℕ) → Ranked (stateOf v (now cached) m) best) ⌝ }
     ensures { λ r. ⌜ ((m : List ℕ) → Raised (stateOf v (now (cached .entry)) m) file n best r) ⌝ }
 {
-    let page = bits::last_set(cached, file * 1024, n);
+    let page = last_cached(cached, file, n);
     if page == 0 {
         return best;
     }
     let key = file * 1024 + page - 1;
-    let value = rank(v, cached, key);
+    let value = rank_over(v, seats, cached, key, best.value);
     if best.value < value {
         return Pick {
             key: key as u16,
@@ -219,45 +243,38 @@ fn higher(v: View, cached: &[u64; 128], file: usize, n: usize, best: Pick) -> Pi
     best
 }
 
-// The best of the files' last cached pages.
-fn best_of_files(v: View, cached: &[u64; 128]) -> Pick
-    requires { ⌜ Ranged v ⌝ }
-    ensures { λ r. ⌜ ((m : List ℕ) → Highest (stateOf v (now (cached .entry)) m) 8 0 r) ⌝ }
+// How many pages a slot's reader has behind it.
+fn behind(r: Reader) -> usize
+    ensures { λ n. ⌜ n ≡ cond (attached r) (r .position) 0 ⌝ }
 {
-    let mut best = Pick { key: 0, value: 0 };
-    let mut file: usize = 0;
-    while file < 8 {
-        best = higher(v, cached, file, 1024, best);
-        file += 1;
+    if is_attached(r) {
+        return r.position as usize;
     }
-    best
+    0
 }
 
-// The best of those and of the last cached pages at or before the readers' positions.
-fn best_of_slots(v: View, cached: &[u64; 128], first: Pick) -> Pick
-    requires { ⌜ Ranged v ⌝ }
-    requires { ⌜ ((m : List ℕ) → Highest (stateOf v (now cached) m) 8 0 first) ⌝ }
-    ensures { λ r. ⌜ ((m : List ℕ) → Highest (stateOf v (now (cached .entry)) m) 8 16 r) ⌝ }
-{
-    let mut best = first;
-    let mut slot: usize = 0;
-    while slot < 16 {
-        let r = v.readers[slot];
-        if is_attached(r) {
-            best = higher(v, cached, r.file as usize, r.position as usize, best);
-        }
-        slot += 1;
-    }
-    best
-}
-
-// The page to give up: of a file's cached pages with no reader between, only the last can be of the highest rank.
+// The page to give up: of a file's cached pages with no reader between, only the last can be of the highest rank. So 24 pages are looked at: the last
+// at or before each slot's position, then the last of each file.
 // The fetch map is not read: it is lent so that the contract can speak of a whole state.
 pub fn victim<'a>(v: View, cached: &'a [u64; 128], fetching: &'a [u64; 128]) -> Choice
     requires { ⌜ Valid (stateOf v (now cached) (now fetching)) ⌝ }
     ensures { λ r. ⌜ chosen r ≡ victim (stateOf v (now (cached .entry)) (now (fetching .entry))) ⌝ }
 {
-    let best = best_of_slots(v, cached, best_of_files(v, cached));
+    let readers = v.readers;
+    let seats = seats_of(readers);
+    let mut best = Pick { key: 0, value: 0 };
+    let mut i: usize = 24;
+    while 0 < i {
+        i -= 1;
+        let mut file = i;
+        let mut n: usize = 1024;
+        if 8 <= i {
+            let r = v.readers[i - 8];
+            file = r.file as usize;
+            n = behind(r);
+        }
+        best = higher(v, &seats, cached, file, n, best);
+    }
     if best.value == 0 {
         return Choice::Nothing;
     }
@@ -318,7 +335,7 @@ fn sooner<'a>(
     if key == file * 1024 + last {
         return best;
     }
-    let value = lowered(v, cached, slot, key, best.value);
+    let value = lowered(v, cached, slot, r.position, r.pace, key, best.value);
     if value < best.value {
         return Pick {
             key: key as u16,

@@ -171,23 +171,6 @@ pub record NoneAbove (s : State) (n m b : ℕ) : Type 0 where
 pub candidate-cached : (s : State) (f n : ℕ) → 0 < lastCached s f n → T (cached s (keyOf f (lastCached s f n)))
 candidate-cached s f n h = set-cached s (keyOf f (lastCached s f n)) (last-is (s .cached) (f * 1024) n .found h)
 
-module _ (s : State) where
-  -- a search starts without files and slots
-  pub none-above : (b : ℕ) → NoneAbove s 0 0 b
-  none-above b = record { files = λ f l. absurd (omega arith); slots = λ j l. absurd (omega arith) }
-
-  module _ (n m b c : ℕ) (a : NoneAbove s n m b) (l : b ≤ c) where
-    raised : NoneAbove s n m c
-    raised = record { files = λ f p h. omega (arith, a .files f p h); slots = λ j p q h. omega (arith, a .slots j p q h) }
-
-    -- one file more
-    pub file-above : AtMost s c n 1024 → NoneAbove s (n + 1) m c
-    file-above h = record { files = one-more (λ f. AtMost s c f 1024) n (raised .files) h; slots = raised .slots }
-
-    -- one slot more
-    pub slot-above : (T (attached (readerAt s m)) → AtMost s c (readerAt s m .file) (readerAt s m .position)) → NoneAbove s n (m + 1) c
-    slot-above h = record { files = raised .files; slots = one-more (λ j. T (attached (readerAt s j)) → AtMost s c (readerAt s j .file) (readerAt s j .position)) m (raised .slots) h }
-
 module _ (s : State) (w : Valid s) where
   candidate-most : (k b : ℕ) → k < 8192 → NoneAbove s 8 16 b → Candidate s k → rank s k ≤ b
   candidate-most k b l a c = go c

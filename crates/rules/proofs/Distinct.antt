@@ -17,7 +17,7 @@ use Rattle.rules.proofs.Tests.{less, side, and-first, sixteen}
 use Rattle.rules.proofs.Valids.{placed-at}
 use Rattle.rules.proofs.Ranks.{rank, seen-small, rank-behind, rank-unseen, rank-seen, steal-ranked}
 use Rattle.rules.proofs.LookAheads.{before-is, sees-before, time-rises, use-for, seen-page, met-by, use-positive}
-use Rattle.rules.proofs.Numbered.{pack, larger-first, smaller-first, first-in, first-of, first-is, by-packed, by-sort}
+use Rattle.rules.proofs.Numbered.{pack, larger-first, smaller-first, first-in, first-of, first-is, by-sort}
 use Rattle.rules.specs.declared.State.{State}
 use Rattle.rules.specs.declared.Reader.{Reader}
 
@@ -104,11 +104,6 @@ module _ (s : State) (w : Valid s) where
   cached-one : (k i : ℕ) → T (cached s k) → T (cached s i) → rank s k ≡ rank s i → k ≡ i
   cached-one k i a b = rank-one k i (w .cached-in k a) (w .cached-in i b)
 
-  -- the steal order by packed numbers: rank, then key
-  pub steal-packed : stealOrder s ≡ falling (pack (rank s)) (cachedPages s)
-  unfolding cachedPages
-  steal-packed = steal-ranked s w ∙ by-packed s w (cached s) (w .cached-in) _ larger-first (rank s) cached-one
-
   -- what code does: pack, sort the numbers, larger first, and take the keys off
   pub steal-by-sort : stealOrder s ≡ map (λ n. n % 8192) (falling (λ n. n) (map (pack (rank s)) (cachedPages s)))
   unfolding cachedPages
@@ -139,11 +134,6 @@ module _ (s : State) (w : Valid s) where
 
   wanted-one : (k i : ℕ) → T (wanted s k) → T (wanted s i) → useKey s k ≡ useKey s i → k ≡ i
   wanted-one k i a b = use-one s w k i (and-first (seen s k) _ a) (and-first (seen s i) _ b)
-
-  -- the fetch order by packed numbers: use key, then key
-  pub fetch-packed : fetchOrder s ≡ rising (pack (useKey s)) (only (wanted s) (pages s))
-  unfolding fetchOrder
-  fetch-packed = by-packed s w (wanted s) wanted-page _ smaller-first (useKey s) wanted-one
 
   -- what code does: pack, sort the numbers, smaller first, and take the keys off
   pub fetch-by-sort : fetchOrder s ≡ map (λ n. n % 8192) (rising (λ n. n) (map (pack (useKey s)) (only (wanted s) (pages s))))

@@ -6,6 +6,8 @@ use mathlib.Core.Logic.{_↔_, _⊎_, inl, inr, ⊎-elim}
 use Prim.Native.Nat.{ℕ, _^_, _≤_, _<_}
 use native.Mathlib.Nat.{pow-le-pow-right, lt-of-lt-of-le}
 use native.Mathlib.Omega.{arith}
+use mir.Syntax.{w8}
+use mir.Val.{Fits}
 use lib.ListN.{length, getD}
 use lib.Dec.{T, leb, leb→le, eqb, eqb→eq}
 use Rattle.rules.specs.Lists.{each, every}
@@ -16,11 +18,12 @@ use Rattle.rules.proofs.Kept.{idle-valid}
 use Rattle.rules.proofs.Tests.{side, is-true, is-false, and-both, and-first, and-second}
 use Rattle.rules.proofs.Parts.{Always, all-always, every-all}
 use Rattle.rules.proofs.Numbers.{Bytes}
-use Rattle.rules.proofs.Tables.{widths, total, encoded-length, encoded-bytes, numbers-encoded, encoded-numbers, numbers-alike, numbers-length, numbers-low}
+use Rattle.rules.proofs.Tables.{widths, total, encoded-length, numbers-encoded, encoded-numbers, numbers-alike, numbers-length, numbers-low}
 use Rattle.rules.proofs.Fits.{layout-fits}
 use Rattle.rules.proofs.Layouts.{Lengths, valid-lengths, numbersOf, values-layout, widths-alike, state-numbers, numbers-from, lengths-from}
 use Rattle.rules.proofs.Accepts.{Accepted, accepted, in-accepted, table-in, accepted-valid, valid-accepted}
 use Rattle.rules.specs.declared.State.{State}
+use Rattle.rules.specs.declared.Reply.{Reply}
 use Rattle.rules.specs.declared.Answer.the-variants.{Refused, Done}
 
 -- ---- the table
@@ -52,11 +55,6 @@ numbers-fit : (image : List ℕ) → Bytes image → Always (λ n. n < 2 ^ 64) 0
 numbers-fit image h i = lt-of-lt-of-le (numbers-low (layout idle) image h i) (pow-le-pow-right {n = 256} (omega arith) (table-narrow i))
 
 -- ---- Save
-
--- an image is of bytes
-pub image-bytes : (s : State) → Bytes (imageOf s)
-unfolding imageOf
-image-bytes s = encoded-bytes (layout s)
 
 module _ (s : State) (v : Valid s) where
   -- an image has 2,208 bytes
@@ -100,6 +98,10 @@ module _ (image : List ℕ) where
   pub done-taken : restoreOf image .answer ≡ Done → T (taken image)
   done-taken e = ⊎-elim (λ h. h) (λ h. absurd (not-done h e)) (side (taken image))
 
+  -- and only with an image of the right length
+  pub done-length : restoreOf image .answer ≡ Done → length image ≡ 2208
+  done-length e = eqb→eq (length image) 2208 (and-first (eqb (length image) 2208) _ (done-taken e))
+
   -- Restore is done, or not
   pub done-or-not : (restoreOf image .answer ≡ Done) ⊎ (restoreOf image .answer ≡ Done → ⊥)
   done-or-not = ⊎-elim (λ h. inl (ap (λ r. r .answer) (restore-done h))) (λ h. inr (not-done h)) (side (taken image))
@@ -129,7 +131,7 @@ module _ (image : List ℕ) (bytes : Bytes image) where
       let table = table-in v (numbers-long image) (taken-accepted h) in
       let s = stateFrom v in
       let same = widths-alike idle s idle-lengths (lengths-from v table) in
-      let long : length image ≡ total (widths (layout s)) = eqb→eq (length image) 2208 (and-first (eqb (length image) 2208) _ h) ∙ sym table-total ∙ ap total same in
+      let long : length image ≡ total (widths (layout s)) = done-length image e ∙ sym table-total ∙ ap total same in
       ap (λ r. imageOf (r .state)) (restore-done image h)
       ∙ encoded-numbers (layout s) image long bytes (values-layout s ∙ numbers-from v table ∙ numbers-alike (layout idle) (layout s) image same)
 
@@ -143,3 +145,7 @@ module _ (image : List ℕ) (bytes : Bytes image) where
   pub accepts-exactly : (restoreOf image .answer ≡ Done) ↔ ((s : State) × Valid s × (image ≡ imageOf s))
   accepts-exactly =
       (λ e. (restoreOf image .state, restored-valid, sym (save-restore e)), λ w. ap (λ m. restoreOf m .answer) (w .2) ∙ ap (λ r. r .answer) (restore-save (w .0) (w .1)))
+
+-- what is restored of a lent buffer, whose elements are bytes, is valid
+pub lent-valid : (image : List ℕ) → ((i : ℕ) → Fits w8 (getD image i 0)) → (r : Reply) → r ≡ restoreOf image → Valid (r .state)
+lent-valid image lent r e = rw e (restored-valid image (λ i. lent i .fits))

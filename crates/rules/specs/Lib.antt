@@ -1,4 +1,5 @@
 -- The scope paper as definitions: a file for each part of it, in its order.
+pub mod Views
 pub mod Lists
 pub mod Pages
 pub mod Readers

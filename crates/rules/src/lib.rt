@@ -1,4 +1,4 @@
-// The types of the box. What each call does with them is in specs/, rule by rule.
+// The types of the box. What each call does with them is in specs/, rule by rule: on a whole State. The code has the maps lent, and the rest as a View.
 
 // A reader's condition.
 pub enum Condition {
@@ -27,6 +27,16 @@ pub struct State {
     pub fetching: [u64; 128],
 }
 
+// A state but its two maps.
+pub struct View {
+    pub frames: u16,
+    pub turn: u8,
+    pub look_ahead: u32,
+    pub fetch_time: u32,
+    pub sizes: [u16; 8],
+    pub readers: [Reader; 16],
+}
+
 // What a call answers. `Replaced` is an arrival that dropped the page it names.
 pub enum Answer {
     Refused(u8),
@@ -48,8 +58,14 @@ pub enum Listing {
     Declined(u8),
 }
 
-// What a call that may change the box returns.
+// A call's outcome by the rules: the state after it and the answer.
 pub struct Reply {
     pub state: State,
+    pub answer: Answer,
+}
+
+// What a call returns where its state's maps are lent.
+pub struct Outcome {
+    pub view: View,
     pub answer: Answer,
 }

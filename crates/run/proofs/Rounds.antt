@@ -1,8 +1,8 @@
 -- One turn, and one more at the end of those made. Assumes nothing.
 use Prim.Native.Nat.{ℕ, zero, suc, _+_, _≤_, _<_}
-use mathlib.Core.Path.{_≡_, refl, sym, ap, ap₂, _∙_}
+use mathlib.Core.Path.{_≡_, refl, sym, ap, ap₂, subst, _∙_}
 use mathlib.Core.Bool.{true, false, not, cond}
-use mathlib.Core.List.{[]}
+use mathlib.Core.List.{List, []}
 use native.Mathlib.Omega.{arith}
 use native.Mathlib.Numerals.{add-one}
 use lib.ListN.{length}
@@ -23,7 +23,7 @@ use Rattle.rules.proofs.Cases.{cond-all, cond-yes, cond-no, fetch-all, outcomes
 use Rattle.rules.proofs.Kept.{read-kept, arrive-kept, turn-kept}
 use Rattle.rules.proofs.Optimal.{third-of}
 use Rattle.calls.proofs.Frames.{pages-ones}
-use Rattle.run.specs.Told.{told, Single}
+use Rattle.run.specs.Told.{Told, told, turned, Single}
 use Rattle.run.specs.declared.Turned.{Turned}
 use Rattle.run.proofs.Answers.{NoFetch, not-fetch, is-fetch, one-hit}
 
@@ -51,14 +51,14 @@ turn-reads s l = go (readerAt s (s .turn) .condition) refl
 
 module _ (s : State) (v : Valid s) (r : Reply) (e : r ≡ readOf s (s .turn)) where
   -- Read's answer is no F, and ends the turn
-  pub turn-else : (q : Turned) → NoFetch (r .answer) → q ≡ told (ended 0 r) → q ≡ told (turnOf s)
+  pub turn-else : (q : Told) → NoFetch (r .answer) → q ≡ told (ended 0 r) → q ≡ told (turnOf s)
   unfolding readTurn
   turn-else q k h =
       let t : ended 0 r ≡ readTurn s = rw (← e) (not-fetch (r .answer) _ _ k) in
       h ∙ ap told (t ∙ turn-reads s (v .turn-low))
 
   -- it is F: Arrive of that page and Read again
-  pub turn-fetch : (file page : ℕ) (m again : Reply) (q : Turned) → r .answer ≡ Fetch file page → m ≡ arriveOf (r .state) file page → again ≡ readOf (m .state) (s .turn)
+  pub turn-fetch : (file page : ℕ) (m again : Reply) (q : Told) → r .answer ≡ Fetch file page → m ≡ arriveOf (r .state) file page → again ≡ readOf (m .state) (s .turn)
       → q ≡ told (ended 1 again) → q ≡ told (turnOf s)
   unfolding readTurn
   turn-fetch file page m again q k a b h =
@@ -75,16 +75,15 @@ read-valid s v slot r e = rw e (read-kept s slot v)
 pub arrive-valid : (s : State) → Valid s → (file page : ℕ) (r : Reply) → r ≡ arriveOf s file page → Valid (r .state)
 arrive-valid s v file page r e = rw e (arrive-kept s file page v)
 
--- the turn is a slot
-pub turn-low : (s : State) → Valid s → s .turn < 16
-turn-low s v = v .turn-low
-
 -- after the turn
-pub turn-valid : (s : State) → Valid s → (r : Turned) → r ≡ told (turnOf s) → Valid (r .state)
-turn-valid s v r e = rw e (turn-kept s v)
+pub turn-valid : (s : State) → Valid s → (t : Told) → t ≡ told (turnOf s) → Valid (t .after)
+turn-valid s v t e = rw e (turn-kept s v)
 
 -- a turn meets F once at most, and ends in one H at most
-turn-single : (s : State) → Single (told (turnOf s))
+abbrev OneOfEach : Told → Type 0
+OneOfEach t = (t .fetched ≤ 1) × (t .read ≤ 1)
+
+turn-single : (s : State) → OneOfEach (told (turnOf s))
 unfolding turnOf readTurn
 turn-single s =
     cond-all One (attached (readerAt s (s .turn))) _ _
@@ -94,11 +93,12 @@ turn-single s =
     (λ _. (omega arith, omega arith))
   where
     One : Turn → Type 0
-    One t = Single (told t)
+    One t = OneOfEach (told t)
 
 -- what holds of a turn that is the rule's
-pub and-single : (s : State) (r : Turned) → r ≡ told (turnOf s) → (r ≡ told (turnOf s)) × Single r
-and-single s r e = (e, rw e (turn-single s))
+pub and-single : (s : State) (r : Turned) (cached fetching : List ℕ) → turned r cached fetching ≡ told (turnOf s)
+    → (turned r cached fetching ≡ told (turnOf s)) × Single r
+and-single s r cached fetching e = (e, subst OneOfEach (sym e) (turn-single s))
 
 -- ---- the turns so far
 
@@ -127,8 +127,8 @@ unfolding turnsOf
 turns-none s = refl
 
 -- one more
-pub turns-more : (s t : State) (fetches reads i : ℕ) (r : Turned) → soFar t fetches reads ≡ turnsOf i s → r ≡ told (turnOf t)
-    → soFar (r .state) (fetches + r .fetched) (reads + r .read) ≡ turnsOf (i + 1) s
+pub turns-more : (s t : State) (fetches reads i : ℕ) (r : Told) → soFar t fetches reads ≡ turnsOf i s → r ≡ told (turnOf t)
+    → soFar (r .after) (fetches + r .fetched) (reads + r .read) ≡ turnsOf (i + 1) s
 turns-more s t fetches reads i r e h = rw (add-one i, turns-last i s, ← e, h)
 
 -- ---- Run

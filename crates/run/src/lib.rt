@@ -1,20 +1,22 @@
 // Run: the turns of the slots in their order, each with Read and, where that meets F, Arrive and Read again.
 
 use rules::Answer;
-use rules::Reply;
-use rules::State;
+use rules::Outcome;
+use rules::View;
 ghost use mathlib.Core.Path.{_≡_};
-ghost use Prim.Native.Nat.{_<_};
+ghost use mathlib.Core.List.{List};
+ghost use Prim.Native.Nat.{ℕ, _<_};
 ghost use lib.ListN.{length};
+ghost use Rattle.rules.specs.Views.{stateOf, replyOf};
 ghost use Rattle.rules.specs.Valid.{Valid};
 ghost use Rattle.rules.specs.Calls.{reply};
 ghost use Rattle.rules.specs.Run.{hitPage, ended, turnOf, runOf};
 ghost use Rattle.rules.specs.Third.{ThirdStatement};
-ghost use Rattle.run.specs.Told.{told, Single};
+ghost use Rattle.run.specs.Told.{told, turned, Single};
 
-// A turn: the state after it, 1 if it met F, and 1 if it ended in H.
+// A turn: the view after it, 1 if it met F, and 1 if it ended in H.
 pub struct Turned {
-    pub state: State,
+    pub view: View,
     pub fetched: u16,
     pub read: u16,
 }
@@ -30,60 +32,60 @@ fn hits(answer: Answer) -> u16
 }
 
 // The end of a turn: the turn grows by 1 modulo 16.
-fn end_turn(mut t: State, answer: Answer, fetched: u16) -> Turned
-    requires { ⌜ t .turn < 16 ⌝ }
-    ensures { λ r. ⌜ r ≡ told (ended fetched (reply t answer)) ⌝ }
+fn end_turn(mut v: View, answer: Answer, fetched: u16) -> Turned
+    requires { ⌜ v .turn < 16 ⌝ }
+    ensures { λ r. ⌜ ((c f : List ℕ) → turned r c f ≡ told (ended fetched (reply (stateOf v c f) answer))) ⌝ }
 {
-    t.turn = (t.turn + 1) % 16;
+    v.turn = (v.turn + 1) % 16;
     Turned {
-        state: t,
+        view: v,
         fetched,
         read: hits(answer),
     }
 }
 
 // One turn. Read refuses an empty slot and changes nothing, so the slot is not looked at before.
-pub fn turn(s: State) -> Turned
-    requires { ⌜ Valid s ⌝ }
-    ensures { λ r. ⌜ r ≡ told (turnOf s) ⌝ }
+fn turn(v: View, cached: &mut [u64; 128], fetching: &mut [u64; 128]) -> Turned
+    requires { ⌜ Valid (stateOf v (now cached) (now fetching)) ⌝ }
+    ensures { λ r. ⌜ turned r (now (cached .exit)) (now (fetching .exit)) ≡ told (turnOf (stateOf v (now (cached .entry)) (now (fetching .entry)))) ⌝ }
     ensures single { λ r. ⌜ Single r ⌝ }
 {
-    let slot = s.turn as u64;
-    let first = calls::read(s, slot);
+    let slot = v.turn as u64;
+    let first = calls::read(v, cached, fetching, slot);
     let answer = first.answer;
     let Answer::Fetch { file, page } = answer else {
-        return end_turn(first.state, answer, 0);
+        return end_turn(first.view, answer, 0);
     };
-    let arrived = calls::arrive(first.state, file as u64, page as u64);
-    let second = calls::read(arrived.state, slot);
+    let arrived = calls::arrive(first.view, cached, fetching, file as u64, page as u64);
+    let second = calls::read(arrived.view, cached, fetching, slot);
     let again = second.answer;
-    end_turn(second.state, again, 1)
+    end_turn(second.view, again, 1)
 }
 
-pub fn run(s: State, turns: u64) -> Reply
-    requires { ⌜ Valid s ⌝ }
-    ensures { λ r. ⌜ r ≡ runOf s turns ⌝ }
-    ensures third { λ r. ⌜ ThirdStatement turns s (r .answer) ⌝ }
+pub fn run(v: View, cached: &mut [u64; 128], fetching: &mut [u64; 128], turns: u64) -> Outcome
+    requires { ⌜ Valid (stateOf v (now cached) (now fetching)) ⌝ }
+    ensures { λ r. ⌜ replyOf r (now (cached .exit)) (now (fetching .exit)) ≡ runOf (stateOf v (now (cached .entry)) (now (fetching .entry))) turns ⌝ }
+    ensures third { λ r. ⌜ ThirdStatement turns (stateOf v (now (cached .entry)) (now (fetching .entry))) (r .answer) ⌝ }
 {
     if 16384 < turns {
-        return calls::refuse(s, 11);
+        return calls::refuse(v, 11);
     }
-    if bits::count(&s.fetching, 0, 8192) != 0 {
-        return calls::refuse(s, 10);
+    if bits::count(fetching, 0, 8192) != 0 {
+        return calls::refuse(v, 10);
     }
-    let mut t = s;
+    let mut w = v;
     let mut fetches: u16 = 0;
     let mut reads: u16 = 0;
     let mut i: u64 = 0;
     while i < turns {
-        let r = turn(t);
-        t = r.state;
+        let r = turn(w, cached, fetching);
+        w = r.view;
         fetches += r.fetched;
         reads += r.read;
         i += 1;
     }
-    Reply {
-        state: t,
+    Outcome {
+        view: w,
         answer: Answer::Ran { fetches, reads },
     }
 }

@@ -5,7 +5,7 @@ use mathlib.Core.Path.{_≡_, refl, sym, _∙_, ap}
 use mathlib.Core.Bool.{true, false}
 use mathlib.Core.List.{List, [], _∷_, _++_, append-assoc, append-nil}
 use native.Mathlib.Omega.{arith}
-use borrow.Author.Tests.{lt-leb, ltb-true, ltb-false, eq-eqb, ne-eqb}
+use borrow.Author.Tests.{lt-leb, ltb-true, ltb-false}
 use lib.ListN.{length, drop}
 use lib.Seq.{drop-drop}
 use lib.Dec.{eqb}
@@ -244,16 +244,6 @@ unfolding feed complete rest stateAfter answers
 feed-part f chunk e h =
     let one = split-whole (ascii "\n") chunk (ltb-false _ _ h) in
     rw (one-join (ascii "\n") (f .text) chunk e, one, append-nil)
-
--- at the end, with no text
-pub output-none : (f : Fed) → length (f .text) ≡ 0 → outputOf f ≡ f .output
-unfolding outputOf linesOf answers
-output-none f e = rw (eq-eqb _ _ e, append-nil)
-
--- at the end, with a text: it is one last line
-pub output-last : (f : Fed) → (length (f .text) ≡ 0 → ⊥) → outputOf f ≡ answered f (f .text) .output
-unfolding outputOf linesOf answers
-output-last f n = rw (ne-eqb _ _ n)
 
 -- ---- long lines
 

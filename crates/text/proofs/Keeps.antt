@@ -12,7 +12,7 @@ use lib.ListN.{length, getD, take, drop, set, length-append}
 use lib.Seq.{slice, length-take-le, take-suc-set}
 use lib.Dec.{leb}
 use Rattle.rules.specs.Lines.{split}
-use Rattle.text.specs.Cuts.{kept, textIn, textOf, StandsFor, longer, CutAs}
+use Rattle.text.specs.Cuts.{kept, textIn, textOf, StandsFor, longer, CutAs, EndsAt}
 use Rattle.text.specs.declared.Pending.{Pending}
 use Rattle.text.proofs.Pieces.{by-test, split-some, slice-more, Walked, walked-at, walked-end}
 
@@ -121,3 +121,17 @@ module _ (p q : Pending) (chunk : List ℕ) (from i : ℕ) (w : Walked (ascii "\
   cut-all h =
       let s = walked-end (ascii "\n") chunk from i w h in
       record { text = rw s t; ended = rw s; next = rw (s, w .long) (omega arith) }
+
+module _ (chunk : List ℕ) (from i : ℕ) where
+  -- a line end is met there
+  pub ends-there : Walked (ascii "\n") chunk from i → i < length chunk → getD chunk i 0 ≡ ascii "\n" → EndsAt chunk from i
+  ends-there w h e =
+      let s = walked-at (ascii "\n") chunk from i w h e ∙ ap (λ ps. slice from i chunk ∷ ps) (split-some (ascii "\n") (drop (i + 1) chunk)) in
+      let two : 1 < length (split (ascii "\n") (drop from chunk)) = rw s (omega arith) in
+      record { ended = λ _. lt-ltb _ _ two; line = λ _. rw s; long = λ _. w .long }
+
+  -- none is met
+  pub ends-nowhere : length chunk ≤ i → EndsAt chunk from i
+  ends-nowhere h =
+      let no : i < length chunk → ⊥ = λ l. omega arith in
+      record { ended = λ l. absurd (no l); line = λ l. absurd (no l); long = λ l. absurd (no l) }

@@ -1,11 +1,12 @@
 -- A stream cut into lines: the text since the last line end, and what a chunk adds to it. Assumes nothing: these are definitions.
-use Prim.Native.Nat.{ℕ, _+_}
+use Prim.Native.Nat.{ℕ, _+_, _<_}
 use Prim.Native.Char.{code as ascii}
 use mathlib.Core.Path.{_≡_}
-use mathlib.Core.Bool.{Bool, cond}
+use mathlib.Core.Bool.{Bool, true, cond}
 use mathlib.Core.List.{List, _++_}
 use mathlib.Core.Option.{Option, none, some}
 use lib.ListN.{length, take, drop}
+use lib.Seq.{slice}
 use lib.Dec.{leb, ltb}
 use Rattle.rules.specs.Lines.{split}
 use Rattle.text.specs.Commands.{firstPiece}
@@ -50,3 +51,9 @@ pub record CutAs (p : Pending) (chunk : List ℕ) (from : ℕ) (c : Taken) : Typ
   pub text : textOf (c .pending) ≡ longer (textOf p) (lineIn (drop from chunk))
   pub ended : c .ended ≡ hasEnd (drop from chunk)
   pub next : c .next ≡ from + length (lineIn (drop from chunk)) + passed (c .ended)
+
+-- a line of a chunk from a place on ends at another place of the chunk, if it ends in it
+pub record EndsAt (chunk : List ℕ) (from to : ℕ) : Type 0 where
+  pub ended : to < length chunk → hasEnd (drop from chunk) ≡ true
+  pub line : to < length chunk → lineIn (drop from chunk) ≡ slice from to chunk
+  pub long : to < length chunk → from + length (slice from to chunk) ≡ to

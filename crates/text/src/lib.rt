@@ -7,7 +7,7 @@ ghost use lib.Seq.{slice};
 ghost use Rattle.rules.specs.Lines.{digitsOf};
 ghost use Rattle.text.specs.Commands.{grownBy, Digits, fieldFrom, fieldAt, startsWell, noCommand, commandOf};
 ghost use Rattle.text.specs.Written.{fieldOf, Put};
-ghost use Rattle.text.specs.Cuts.{textIn, longer, CutAs};
+ghost use Rattle.text.specs.Cuts.{textIn, longer, CutAs, EndsAt};
 
 // ---- a line taken apart
 
@@ -215,6 +215,20 @@ pub struct Taken {
     pub pending: Pending,
     pub next: usize,
     pub ended: bool,
+}
+
+// Where the next line end stands, from `from` on, or the chunk's length.
+pub fn line_end(chunk: &[u8], from: usize) -> usize
+    ensures { λ r. ⌜ EndsAt (now (chunk .entry)) from r ⌝ }
+{
+    let mut i = from;
+    while i < chunk.len() {
+        if chunk[i] == b'\n' {
+            return i;
+        }
+        i += 1;
+    }
+    i
 }
 
 // Puts b behind the pending bytes, if they are still short enough; their number is returned.

@@ -1,7 +1,7 @@
 use borrow.Author.Needs.{needs}
-use Rattle.calls.proofs.Outcomes.{answers}
 use Rattle.calls.proofs.Ranges.{file-fits, within-fits}
 use Rattle.calls.proofs.Slots.{attach-stays, attach-no-slot, attach-no-file, attach-no-pace, attach-there}
+use Rattle.calls.proofs.Outcomes.{answers}
 use Rattle.calls.proofs.attach.Statement.{statement}
 use Rattle.calls.proofs.attach.Tie as tie
 
@@ -9,7 +9,7 @@ refuse-requires : tie.Need-refuse-requires
 refuse-requires c κs = search needs
 
 returns : tie.Need-returns
-returns c = attach-stays _ _ _ _ _ (search (attach-no-slot, needs) depth 12)
+returns c = attach-stays _ _ _ _ _ (λ a b. rw (c .refuse .ensures) (search (attach-no-slot, needs) depth 12))
 
 no-file-requires : tie.Need-no-file-requires
 no-file-requires c κs = search needs
@@ -18,7 +18,7 @@ refuse-requires-2 : tie.Need-refuse-requires-2
 refuse-requires-2 c κs = search needs
 
 returns-2 : tie.Need-returns-2
-returns-2 c = attach-stays _ _ _ _ _ (search (attach-no-file, needs) depth 12)
+returns-2 c = attach-stays _ _ _ _ _ (λ a b. rw (c .refuse2 .ensures) (search (attach-no-file, needs) depth 12))
 
 within-requires : tie.Need-within-requires
 within-requires c κs = search needs
@@ -27,7 +27,7 @@ refuse-requires-3 : tie.Need-refuse-requires-3
 refuse-requires-3 c κs = search needs
 
 returns-3 : tie.Need-returns-3
-returns-3 c = attach-stays _ _ _ _ _ (search (attach-no-pace, needs) depth 12)
+returns-3 c = attach-stays _ _ _ _ _ (λ a b. rw (c .refuse3 .ensures) (search (attach-no-pace, needs) depth 12))
 
 mul-old : tie.Need-mul-old
 mul-old c = search needs
@@ -38,29 +38,29 @@ element-copy-out-old c = search needs
 enum-told : tie.Need-enum-told
 enum-told c = search needs
 
-cast-t24 : tie.Need-cast-t24
-cast-t24 c = search (file-fits, needs)
+cast-t22 : tie.Need-cast-t22
+cast-t22 c = search (file-fits, needs)
 
-cast-t25 : tie.Need-cast-t25
-cast-t25 c = search (within-fits, needs)
+cast-t23 : tie.Need-cast-t23
+cast-t23 c = search (within-fits, needs)
 
-mul-t27 : tie.Need-mul-t27
-mul-t27 c = search needs
+mul-t25 : tie.Need-mul-t25
+mul-t25 c = search needs
 
-element-set-from-t : tie.Need-element-set-from-t
-element-set-from-t c = search needs
+element-set-from-v : tie.Need-element-set-from-v
+element-set-from-v c = search needs
 
-reply-requires : tie.Need-reply-requires
-reply-requires c κs = search needs
+outcome-requires : tie.Need-outcome-requires
+outcome-requires c κs = search needs
 
 refuse-requires-4 : tie.Need-refuse-requires-4
 refuse-requires-4 c κs = search needs
 
 returns-4 : tie.Need-returns-4
-returns-4 c = attach-stays _ _ _ _ _ (search (attach-there, answers) depth 12)
+returns-4 c = attach-stays _ _ _ _ _ (λ a b. rw (c .outcome .ensures) (search (attach-there, answers) depth 12))
 
 returns-5 : tie.Need-returns-5
-returns-5 c = attach-stays _ _ _ _ _ (search (attach-there, answers) depth 12)
+returns-5 c = attach-stays _ _ _ _ _ (λ a b. rw (c .refuse4 .ensures) (search (attach-there, answers) depth 12))
 
 pub attach-spec : {M : Type 1} → statement M
 attach-spec =
@@ -77,11 +77,11 @@ attach-spec =
     mul-old
     element-copy-out-old
     enum-told
-    cast-t24
-    cast-t25
-    mul-t27
-    element-set-from-t
-    reply-requires
+    cast-t22
+    cast-t23
+    mul-t25
+    element-set-from-v
+    outcome-requires
     refuse-requires-4
     returns-4
     returns-5)

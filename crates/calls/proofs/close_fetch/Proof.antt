@@ -2,14 +2,14 @@ use borrow.Author.Needs.{needs}
 use Rattle.calls.proofs.close_fetch.Statement.{statement}
 use Rattle.calls.proofs.close_fetch.Tie as tie
 
-wake-requires : tie.Need-wake-requires
-wake-requires c κs = search needs
-
 clear-bit-requires : tie.Need-clear-bit-requires
 clear-bit-requires c κs = search needs
 
+wake-requires : tie.Need-wake-requires
+wake-requires c κs = search needs
+
 returns : tie.Need-returns
-returns c = rw (c .clear-bit .ensures, c .before .before .wake .ensures)
+returns c = λ m. rw (c .wake .ensures, c .before .before .clear-bit .ensures)
 
 pub close-fetch-spec : {M : Type 1} → statement M
-close-fetch-spec = tie.close (tie.spec wake-requires clear-bit-requires returns)
+close-fetch-spec = tie.close (tie.spec clear-bit-requires wake-requires returns)

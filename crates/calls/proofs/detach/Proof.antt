@@ -1,8 +1,7 @@
 use borrow.Author.Needs.{needs}
 use Rattle.rules.specs.Calls.{detachOf}
-use Rattle.rules.proofs.OneRecord.{detaching}
+use Rattle.calls.proofs.Slots.{detach-stays}
 use Rattle.calls.proofs.Outcomes.{answers}
-use Rattle.calls.proofs.Slots.{others-stay}
 use Rattle.calls.proofs.detach.Statement.{statement}
 use Rattle.calls.proofs.detach.Tie as tie
 
@@ -11,7 +10,7 @@ refuse-requires c κs = search needs
 
 returns : tie.Need-returns
 unfolding detachOf
-returns c = others-stay detaching _ _ _ (search answers depth 12)
+returns c = detach-stays _ _ _ (λ a b. rw (c .refuse .ensures) (search answers depth 12))
 
 mul-old : tie.Need-mul-old
 mul-old c = search needs
@@ -25,22 +24,22 @@ enum-told c = search needs
 refuse-requires-2 : tie.Need-refuse-requires-2
 refuse-requires-2 c κs = search needs
 
-mul-t19 : tie.Need-mul-t19
-mul-t19 c = search needs
+mul-t17 : tie.Need-mul-t17
+mul-t17 c = search needs
 
-element-set-from-t : tie.Need-element-set-from-t
-element-set-from-t c = search needs
+element-set-from-v : tie.Need-element-set-from-v
+element-set-from-v c = search needs
 
-reply-requires : tie.Need-reply-requires
-reply-requires c κs = search needs
+outcome-requires : tie.Need-outcome-requires
+outcome-requires c κs = search needs
 
 returns-2 : tie.Need-returns-2
 unfolding detachOf
-returns-2 c = others-stay detaching _ _ _ (search answers depth 12)
+returns-2 c = detach-stays _ _ _ (λ a b. rw (c .refuse2 .ensures) (search answers depth 12))
 
 returns-3 : tie.Need-returns-3
 unfolding detachOf
-returns-3 c = others-stay detaching _ _ _ (search answers depth 12)
+returns-3 c = detach-stays _ _ _ (λ a b. rw (c .outcome .ensures) (search answers depth 12))
 
 pub detach-spec : {M : Type 1} → statement M
 detach-spec =
@@ -52,8 +51,8 @@ detach-spec =
     element-copy-out-old
     enum-told
     refuse-requires-2
-    mul-t19
-    element-set-from-t
-    reply-requires
+    mul-t17
+    element-set-from-v
+    outcome-requires
     returns-2
     returns-3)

@@ -2,17 +2,17 @@ use borrow.Author.Needs.{needs}
 use Rattle.calls.proofs.land.Statement.{statement}
 use Rattle.calls.proofs.land.Tie as tie
 
-close-fetch-requires : tie.Need-close-fetch-requires
-close-fetch-requires c κs = search needs
-
 make-room-requires : tie.Need-make-room-requires
 make-room-requires c κs = search needs
 
 set-bit-requires : tie.Need-set-bit-requires
 set-bit-requires c κs = search needs
 
+close-fetch-requires : tie.Need-close-fetch-requires
+close-fetch-requires c κs = search needs
+
 returns : tie.Need-returns
-returns c = rw (c .set-bit .ensures, c .before .before .make-room .ensures, c .before .before .before .before .close-fetch .ensures)
+returns c = rw (c .close-fetch .ensures _, c .before .before .set-bit .ensures, c .before .before .before .before .make-room .ensures)
 
 pub land-spec : {M : Type 1} → statement M
-land-spec = tie.close (tie.spec close-fetch-requires make-room-requires set-bit-requires returns)
+land-spec = tie.close (tie.spec make-room-requires set-bit-requires close-fetch-requires returns)

@@ -12,7 +12,7 @@ refuse-requires c κs = search needs
 
 returns : tie.Need-returns
 unfolding lostOf
-returns c = search (refuses, needs)
+returns c = λ m. rw (c .refuse .ensures) (search (refuses, needs))
 
 page-key-requires : tie.Need-page-key-requires
 page-key-requires c κs = search (fetched-small, needs)
@@ -20,12 +20,12 @@ page-key-requires c κs = search (fetched-small, needs)
 close-fetch-requires : tie.Need-close-fetch-requires
 close-fetch-requires c κs = search (fetched-low, needs)
 
-reply-requires : tie.Need-reply-requires
-reply-requires c κs = search needs
+outcome-requires : tie.Need-outcome-requires
+outcome-requires c κs = search needs
 
 returns-2 : tie.Need-returns-2
 unfolding lostOf
-returns-2 c = rw (c .reply .ensures, c .before .close-fetch .ensures, c .before .before .page-key .ensures) (search (does, needs))
+returns-2 c = λ m. rw (c .outcome .ensures, c .before .close-fetch .ensures m, c .before .before .page-key .ensures) (search (does, needs))
 
 pub lost-spec : {M : Type 1} → statement M
 lost-spec =
@@ -36,5 +36,5 @@ lost-spec =
     returns
     page-key-requires
     close-fetch-requires
-    reply-requires
+    outcome-requires
     returns-2)

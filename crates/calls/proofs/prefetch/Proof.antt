@@ -1,16 +1,14 @@
 use borrow.Author.Needs.{needs}
-use Rattle.rules.specs.Lists.{head}
+use Rattle.rules.specs.Views.{stateOf}
 use Rattle.rules.specs.Orders.{fetchOrder}
+use Rattle.rules.specs.Lists.{head}
 use Rattle.rules.specs.Calls.{prefetchOf}
-use Rattle.calls.proofs.Choices.{view-valid, by-nothing, opened, next-low}
+use Rattle.calls.proofs.Choices.{by-nothing, opened, next-low}
 use Rattle.calls.proofs.prefetch.Statement.{statement}
 use Rattle.calls.proofs.prefetch.Tie as tie
 
-view-of-requires : tie.Need-view-of-requires
-view-of-requires c κs = search needs
-
 next-fetch-requires : tie.Need-next-fetch-requires
-next-fetch-requires c κs = search (view-valid, needs)
+next-fetch-requires c κs = search needs
 
 enum-known-next : tie.Need-enum-known-next
 enum-known-next c = search needs
@@ -27,35 +25,29 @@ file-of-requires c κs = search needs
 page-of-requires : tie.Need-page-of-requires
 page-of-requires c κs = search needs
 
-reply-requires : tie.Need-reply-requires
-reply-requires c κs = search needs
-
 enum-told : tie.Need-enum-told
 enum-told c = search needs
 
-reply-requires-2 : tie.Need-reply-requires-2
-reply-requires-2 c κs = search needs
-
 returns : tie.Need-returns
-returns c = search (opened, needs)
+returns c =
+    let s = c .before .before .before .before .before .before .before .before .before in
+    let g = c .before .before .before .before .before .before .before .next-fetch in
+    opened (stateOf (s .args .v) (s .args .cached .now) (s .args .fetching .now)) (g .result) _ _ _ (c .before .file-of .ensures) (c .page-of .ensures) (g .ensures) _ (c .before .before .set-bit .ensures) (search needs)
 
 returns-2 : tie.Need-returns-2
 unfolding prefetchOf
-returns-2 c = search (by-nothing (λ s. head (fetchOrder s)), needs)
+returns-2 c = search (by-nothing (λ t. head (fetchOrder t)), needs)
 
 pub prefetch-spec : {M : Type 1} → statement M
 prefetch-spec =
     tie.close
     (tie.spec
-    view-of-requires
     next-fetch-requires
     enum-known-next
     cast-set-bit
     set-bit-requires
     file-of-requires
     page-of-requires
-    reply-requires
     enum-told
-    reply-requires-2
     returns
     returns-2)

@@ -1,8 +1,7 @@
 use borrow.Author.Needs.{needs}
 use Rattle.rules.specs.Calls.{readOf}
-use Rattle.rules.proofs.OneRecord.{reading}
+use Rattle.calls.proofs.Slots.{read-stays, running-placed}
 use Rattle.calls.proofs.Outcomes.{answers}
-use Rattle.calls.proofs.Slots.{others-stay, running-placed}
 use Rattle.calls.proofs.read.Statement.{statement}
 use Rattle.calls.proofs.read.Tie as tie
 
@@ -11,7 +10,7 @@ refuse-requires c κs = search needs
 
 returns : tie.Need-returns
 unfolding readOf
-returns c = others-stay reading _ _ _ (search answers depth 12)
+returns c = read-stays _ _ _ _ _ _ _ (rw (c .refuse .ensures) (search answers depth 12))
 
 mul-old : tie.Need-mul-old
 mul-old c = search needs
@@ -29,7 +28,7 @@ enum-told-2 : tie.Need-enum-told-2
 enum-told-2 c = search needs
 
 read-running-requires : tie.Need-read-running-requires
-read-running-requires c κs = (running-placed _ (c .before .before .before .before .pre) _ (search needs), (c .before .before .before .before .pre .sizes-high _, search needs))
+read-running-requires c κs = let s = c .before .before .before .before .before in (running-placed _ (s .pre) _ (search needs), (s .pre .sizes-high _, search needs))
 
 enum-told-3 : tie.Need-enum-told-3
 enum-told-3 c = search needs
@@ -39,15 +38,15 @@ refuse-requires-3 c κs = search needs
 
 returns-2 : tie.Need-returns-2
 unfolding readOf
-returns-2 c = others-stay reading _ _ _ (search answers depth 12)
+returns-2 c = read-stays _ _ _ _ _ _ _ (rw (c .refuse2 .ensures) (search answers depth 12))
 
 returns-3 : tie.Need-returns-3
 unfolding readOf
-returns-3 c = others-stay reading _ _ _ (search answers depth 12)
+returns-3 c = read-stays _ _ _ _ _ _ _ (rw (c .read-running .ensures) (search answers depth 12))
 
 returns-4 : tie.Need-returns-4
 unfolding readOf
-returns-4 c = others-stay reading _ _ _ (search answers depth 12)
+returns-4 c = read-stays _ _ _ _ _ _ _ (rw (c .refuse3 .ensures) (search answers depth 12))
 
 pub read-spec : {M : Type 1} → statement M
 read-spec =

@@ -13,12 +13,12 @@ mul-if1 c = search needs
 element-copy-out-if1 : tie.Need-element-copy-out-if1
 element-copy-out-if1 c = search needs
 
-reply-requires : tie.Need-reply-requires
-reply-requires c κs = search needs
+outcome-requires : tie.Need-outcome-requires
+outcome-requires c κs = search needs
 
 returns : tie.Need-returns
 unfolding readRunning
-returns c = search keyed depth 12
+returns c = rw (c .outcome .ensures) (search keyed depth 12)
 
 add-page : tie.Need-add-page
 add-page c = search needs
@@ -41,38 +41,38 @@ mul-next c = search needs
 element-set-from-next : tie.Need-element-set-from-next
 element-set-from-next c = search needs
 
-reply-requires-2 : tie.Need-reply-requires-2
-reply-requires-2 c κs = search needs
+outcome-requires-2 : tie.Need-outcome-requires-2
+outcome-requires-2 c κs = search needs
 
 returns-2 : tie.Need-returns-2
 unfolding readRunning
-returns-2 c = search keyed depth 12
+returns-2 c = rw (c .outcome2 .ensures) (search keyed depth 12)
 
-mul-t10 : tie.Need-mul-t10
-mul-t10 c = search needs
+mul-t12 : tie.Need-mul-t12
+mul-t12 c = search needs
 
-element-set-from-s : tie.Need-element-set-from-s
-element-set-from-s c = search needs
+element-set-from-v : tie.Need-element-set-from-v
+element-set-from-v c = search needs
 
 has-bit-requires-2 : tie.Need-has-bit-requires-2
 has-bit-requires-2 c κs = search needs
 
-reply-requires-3 : tie.Need-reply-requires-3
-reply-requires-3 c κs = search needs
+outcome-requires-3 : tie.Need-outcome-requires-3
+outcome-requires-3 c κs = search needs
 
 returns-3 : tie.Need-returns-3
 unfolding readRunning
-returns-3 c = search keyed depth 12
+returns-3 c = rw (c .outcome3 .ensures) (search keyed depth 12)
 
 set-bit-requires : tie.Need-set-bit-requires
 set-bit-requires c κs = search needs
 
-reply-requires-4 : tie.Need-reply-requires-4
-reply-requires-4 c κs = search needs
+outcome-requires-4 : tie.Need-outcome-requires-4
+outcome-requires-4 c κs = search needs
 
 returns-4 : tie.Need-returns-4
 unfolding readRunning
-returns-4 c = rw (c .reply4 .ensures, c .before .set-bit .ensures, c .before .before .before .before .before .before .before .before .before .before .before .page-key .ensures) (search keyed depth 12)
+returns-4 c = rw (c .outcome4 .ensures, c .before .set-bit .ensures, c .before .before .before .before .before .before .before .before .page-key .ensures) (search keyed depth 12)
 
 pub read-running-spec : {M : Type 1} → statement M
 read-running-spec =
@@ -81,7 +81,7 @@ read-running-spec =
     cast-if1
     mul-if1
     element-copy-out-if1
-    reply-requires
+    outcome-requires
     returns
     add-page
     cast-page-key
@@ -90,13 +90,13 @@ read-running-spec =
     has-bit-requires
     mul-next
     element-set-from-next
-    reply-requires-2
+    outcome-requires-2
     returns-2
-    mul-t10
-    element-set-from-s
+    mul-t12
+    element-set-from-v
     has-bit-requires-2
-    reply-requires-3
+    outcome-requires-3
     returns-3
     set-bit-requires
-    reply-requires-4
+    outcome-requires-4
     returns-4)

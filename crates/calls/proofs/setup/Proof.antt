@@ -11,12 +11,12 @@ settings-in-requires c κs = search needs
 fresh-requires : tie.Need-fresh-requires
 fresh-requires c κs = sym (c .before .settings-in .ensures) ∙ c .if1 .taken
 
-reply-requires : tie.Need-reply-requires
-reply-requires c κs = search needs
+outcome-requires : tie.Need-outcome-requires
+outcome-requires c κs = search needs
 
 returns : tie.Need-returns
 unfolding setupOf
-returns c = rw (c .reply .ensures, c .before .fresh .ensures) (search answers depth 12)
+returns c = rw (c .outcome .ensures, c .before .fresh .ensures) (search answers depth 12)
 
 idle-requires : tie.Need-idle-requires
 idle-requires c κs = search needs
@@ -34,7 +34,7 @@ setup-spec =
     (tie.spec
     settings-in-requires
     fresh-requires
-    reply-requires
+    outcome-requires
     returns
     idle-requires
     refuse-requires

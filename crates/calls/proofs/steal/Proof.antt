@@ -1,15 +1,13 @@
 use borrow.Author.Needs.{needs}
+use Rattle.rules.specs.Views.{stateOf}
 use Rattle.rules.specs.Orders.{victim}
 use Rattle.rules.specs.Calls.{stealOf}
-use Rattle.calls.proofs.Choices.{view-valid, by-nothing, stole, victim-low}
+use Rattle.calls.proofs.Choices.{by-nothing, stole, victim-low}
 use Rattle.calls.proofs.steal.Statement.{statement}
 use Rattle.calls.proofs.steal.Tie as tie
 
-view-of-requires : tie.Need-view-of-requires
-view-of-requires c κs = search needs
-
 victim-requires : tie.Need-victim-requires
-victim-requires c κs = search (view-valid, needs)
+victim-requires c κs = search needs
 
 enum-known-gone : tie.Need-enum-known-gone
 enum-known-gone c = search needs
@@ -26,17 +24,14 @@ file-of-requires c κs = search needs
 page-of-requires : tie.Need-page-of-requires
 page-of-requires c κs = search needs
 
-reply-requires : tie.Need-reply-requires
-reply-requires c κs = search needs
-
 enum-told : tie.Need-enum-told
 enum-told c = search needs
 
-reply-requires-2 : tie.Need-reply-requires-2
-reply-requires-2 c κs = search needs
-
 returns : tie.Need-returns
-returns c = search (stole, needs)
+returns c =
+    let s = c .before .before .before .before .before .before .before .before .before in
+    let g = c .before .before .before .before .before .before .before .victim in
+    stole (stateOf (s .args .v) (s .args .cached .now) (s .args .fetching .now)) (g .result) _ _ _ (c .before .file-of .ensures) (c .page-of .ensures) (g .ensures) _ (c .before .before .clear-bit .ensures) (search needs)
 
 returns-2 : tie.Need-returns-2
 unfolding stealOf
@@ -46,15 +41,12 @@ pub steal-spec : {M : Type 1} → statement M
 steal-spec =
     tie.close
     (tie.spec
-    view-of-requires
     victim-requires
     enum-known-gone
     cast-clear-bit
     clear-bit-requires
     file-of-requires
     page-of-requires
-    reply-requires
     enum-told
-    reply-requires-2
     returns
     returns-2)

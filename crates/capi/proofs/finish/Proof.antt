@@ -10,7 +10,7 @@ carried-out-requires : tie.Need-carried-out-requires
 carried-out-requires c κs = search needs
 
 returns : tie.Need-returns
-returns c = search (end-refused, needs)
+returns c = end-refused _ _ _ (c .before .carried-out .ensures) _ (c .before .before .number .ensures) (c .if1 .taken)
 
 save-whole-requires : tie.Need-save-whole-requires
 save-whole-requires c κs = search needs
@@ -19,7 +19,7 @@ same-length : tie.Need-same-length
 same-length c = search needs
 
 returns-2 : tie.Need-returns-2
-returns-2 c = search (end-saved, needs)
+returns-2 c = end-saved _ _ _ (c .before .before .before .before .before .carried-out .ensures) _ (c .before .before .before .before .before .before .number .ensures) (c .before .before .before .before .if1 .left) _ (c .before .before .save-whole .ensures)
 
 pub finish-spec : {M : Type 1} → statement M
 finish-spec =

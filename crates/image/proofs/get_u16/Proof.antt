@@ -1,40 +1,29 @@
 use borrow.Author.Needs.{needs}
 use Rattle.image.proofs.Gets.{number-halves}
-use Rattle.image.proofs.get_u16.Reads as reads
-use Rattle.image.proofs.get_u16.Lts as lts
-use Rattle.image.proofs.get_u8.Reads as get-u8-reads
 use Rattle.image.proofs.get_u16.Statement.{statement}
 use Rattle.image.proofs.get_u16.Tie as tie
 
--- src/lib.rt:64:5
 get-u8-requires : tie.Need-get-u8-requires
 get-u8-requires c κs = search needs
 
--- src/lib.rt:64:5
 cast-result : tie.Need-cast-result
 cast-result c = search needs
 
--- src/lib.rt:64:53
 add-get-u8 : tie.Need-add-get-u8
 add-get-u8 c = search needs
 
--- src/lib.rt:64:39
 get-u8-requires-2 : tie.Need-get-u8-requires-2
 get-u8-requires-2 c κs = search needs
 
--- src/lib.rt:64:39
 cast-result-2 : tie.Need-cast-result-2
 cast-result-2 c = search needs
 
--- src/lib.rt:64:32
 mul-result : tie.Need-mul-result
 mul-result c = search needs
 
--- src/lib.rt:64:5
 add-result : tie.Need-add-result
 add-result c = search needs
 
--- src/lib.rt:60:1
 returns : tie.Need-returns
 returns c = search (number-halves 1, needs)
 

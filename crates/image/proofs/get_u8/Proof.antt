@@ -1,15 +1,11 @@
 use borrow.Author.Needs.{needs}
 use Rattle.image.proofs.Gets.{number-one}
-use Rattle.image.proofs.get_u8.Reads as reads
-use Rattle.image.proofs.get_u8.Lts as lts
 use Rattle.image.proofs.get_u8.Statement.{statement}
 use Rattle.image.proofs.get_u8.Tie as tie
 
--- src/lib.rt:57:5
 shared-slice-read-result : tie.Need-shared-slice-read-result
 shared-slice-read-result c = search needs
 
--- src/lib.rt:53:1
 returns : tie.Need-returns
 returns c = search (number-one, needs)
 

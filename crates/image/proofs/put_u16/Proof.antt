@@ -1,36 +1,26 @@
 use borrow.Author.Needs.{needs}
 use Rattle.image.proofs.Puts.{written-halves}
-use Rattle.image.proofs.put_u16.Reads as reads
-use Rattle.image.proofs.put_u16.Lts as lts
-use Rattle.image.proofs.put_u8.Reads as put-u8-reads
 use Rattle.image.proofs.put_u16.Statement.{statement}
 use Rattle.image.proofs.put_u16.Tie as tie
 
--- src/lib.rt:33:24
 cast-put-u8 : tie.Need-cast-put-u8
 cast-put-u8 c = search needs
 
--- src/lib.rt:33:5
 put-u8-requires : tie.Need-put-u8-requires
 put-u8-requires c κs = search needs
 
--- src/lib.rt:34:20
 add-put-u8 : tie.Need-add-put-u8
 add-put-u8 c = search needs
 
--- src/lib.rt:34:28
 cast-put-u8-2 : tie.Need-cast-put-u8-2
 cast-put-u8-2 c = search needs
 
--- src/lib.rt:34:5
 put-u8-requires-2 : tie.Need-put-u8-requires-2
 put-u8-requires-2 c κs = search needs
 
--- src/lib.rt:29:1
 same-length : tie.Need-same-length
 same-length c = search needs
 
--- src/lib.rt:29:1
 returns : tie.Need-returns
 returns c = search (written-halves 1, needs)
 

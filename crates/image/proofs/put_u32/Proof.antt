@@ -1,36 +1,26 @@
 use borrow.Author.Needs.{needs}
 use Rattle.image.proofs.Puts.{written-halves}
-use Rattle.image.proofs.put_u32.Reads as reads
-use Rattle.image.proofs.put_u32.Lts as lts
-use Rattle.image.proofs.put_u16.Reads as put-u16-reads
 use Rattle.image.proofs.put_u32.Statement.{statement}
 use Rattle.image.proofs.put_u32.Tie as tie
 
--- src/lib.rt:41:25
 cast-put-u16 : tie.Need-cast-put-u16
 cast-put-u16 c = search needs
 
--- src/lib.rt:41:5
 put-u16-requires : tie.Need-put-u16-requires
 put-u16-requires c κs = search needs
 
--- src/lib.rt:42:21
 add-put-u16 : tie.Need-add-put-u16
 add-put-u16 c = search needs
 
--- src/lib.rt:42:29
 cast-put-u16-2 : tie.Need-cast-put-u16-2
 cast-put-u16-2 c = search needs
 
--- src/lib.rt:42:5
 put-u16-requires-2 : tie.Need-put-u16-requires-2
 put-u16-requires-2 c κs = search needs
 
--- src/lib.rt:37:1
 same-length : tie.Need-same-length
 same-length c = search needs
 
--- src/lib.rt:37:1
 returns : tie.Need-returns
 returns c = search (written-halves 2, needs)
 

@@ -1,19 +1,14 @@
 use borrow.Author.Needs.{needs}
 use Rattle.image.proofs.Puts.{written-one}
-use Rattle.image.proofs.put_u8.Reads as reads
-use Rattle.image.proofs.put_u8.Lts as lts
 use Rattle.image.proofs.put_u8.Statement.{statement}
 use Rattle.image.proofs.put_u8.Tie as tie
 
--- src/lib.rt:26:5
 slice-write-buffer : tie.Need-slice-write-buffer
 slice-write-buffer c = search needs
 
--- src/lib.rt:22:1
 same-length : tie.Need-same-length
 same-length c = search needs
 
--- src/lib.rt:22:1
 returns : tie.Need-returns
 returns c = search (written-one, needs)
 

@@ -8,7 +8,7 @@ use Rattle.image.proofs.read_words.Statement.{statement}
 use Rattle.image.proofs.read_words.Tie as tie
 
 abbrev Inv-loop : tie.InvT-loop
-Inv-loop words₀ image at k₀ words k = (k ≤ 128) × (length words₀ ≡ 128) × (words ≡ filled (numberFrom 8 image at) 128 0 k words₀)
+Inv-loop words₀ image at k₀ words k = (k ≤ 128) × (length words₀ ≡ 128) × (length words ≡ 128) × (words ≡ filled (numberFrom 8 image at) 128 0 k words₀)
 
 abbrev μ-loop : tie.MeasureT-loop
 μ-loop words₀ image at k₀ words k = 128 - k
@@ -28,8 +28,8 @@ get-u64-requires c κs = search needs
 mul-words : tie.Need-mul-words Inv-loop μ-loop
 mul-words c = search needs
 
-element-write-words : tie.Need-element-write-words Inv-loop μ-loop
-element-write-words c = search needs
+slice-write-words : tie.Need-slice-write-words Inv-loop μ-loop
+slice-write-words c = search needs
 
 add-k : tie.Need-add-k Inv-loop μ-loop
 add-k c = search needs
@@ -39,12 +39,15 @@ loop-less c = search needs
 
 loop-again : tie.Need-loop-again Inv-loop μ-loop
 loop-again c =
-    let a = c .before .before .before .before .args in
+    let a = c .before .before .before .before .before .args in
     search (filled-more (numberFrom 8 (a .image .now) (a .at)) 128 0, needs)
+
+same-length : tie.Need-same-length Inv-loop μ-loop
+same-length c = search needs
 
 returns : tie.Need-returns Inv-loop μ-loop
 returns c =
-    let a = c .before .before .before .args in
+    let a = c .before .before .before .before .args in
     search (filled-all (numberFrom 8 (a .image .now) (a .at)) 128 0, needs)
 
 pub read-words-spec : {M : Type 1} → statement M
@@ -58,8 +61,9 @@ read-words-spec =
     add-get-u64
     get-u64-requires
     mul-words
-    element-write-words
+    slice-write-words
     add-k
     loop-less
     loop-again
+    same-length
     returns)

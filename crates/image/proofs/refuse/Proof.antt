@@ -1,17 +1,18 @@
 use borrow.Author.Needs.{needs}
-use Rattle.image.proofs.refuse.Reads as reads
-use Rattle.image.proofs.refuse.Lts as lts
-use Rattle.image.proofs.idle.Reads as idle-reads
 use Rattle.image.proofs.refuse.Statement.{statement}
 use Rattle.image.proofs.refuse.Tie as tie
 
--- src/lib.rt:482:9
+clear-all-requires : tie.Need-clear-all-requires
+clear-all-requires c κs = search needs
+
+clear-all-requires-2 : tie.Need-clear-all-requires-2
+clear-all-requires-2 c κs = search needs
+
 idle-requires : tie.Need-idle-requires
 idle-requires c κs = search needs
 
--- src/lib.rt:479:1
 returns : tie.Need-returns
-returns c = rw (c .idle .ensures)
+returns c = rw (c .idle .ensures, c .before .clear-all2 .ensures, c .before .before .before .clear-all .ensures)
 
 pub refuse-spec : {M : Type 1} → statement M
-refuse-spec = tie.close (tie.spec idle-requires returns)
+refuse-spec = tie.close (tie.spec clear-all-requires clear-all-requires-2 idle-requires returns)

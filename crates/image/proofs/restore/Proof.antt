@@ -1,5 +1,6 @@
-use mathlib.Core.Path.{ap, _∙_}
+use mathlib.Core.Path.{_∙_}
 use borrow.Author.Needs.{needs}
+use Rattle.image.proofs.States.{cached-read, fetching-read, state-read}
 use Rattle.image.proofs.Restores.{restore-short, restore-stop, restore-pass}
 use Rattle.image.proofs.restore.Statement.{statement}
 use Rattle.image.proofs.restore.Tie as tie
@@ -9,31 +10,40 @@ refuse-requires c κs = search needs
 
 returns : tie.Need-returns
 returns c =
-    c .refuse .ensures ∙ restore-short (c .before .before .before .args .image .now) (c .before .if1 .taken)
+    let e₁ = c .before .before .before in
+    c .refuse .ensures ∙ restore-short (e₁ .before .before .args .image .now) (e₁ .if1 .taken)
 
-state-in-requires : tie.Need-state-in-requires
-state-in-requires c κs = search needs
+read-words-requires : tie.Need-read-words-requires
+read-words-requires c κs = search needs
+
+read-words-requires-2 : tie.Need-read-words-requires-2
+read-words-requires-2 c κs = search needs
 
 accepted-requires : tie.Need-accepted-requires
 accepted-requires c κs =
-    let p = c .before .before .before .before in
-    let read = p .state-in .ensures in
-    (record { long = p .before .if1 .left; sizes-read = ap (λ s. s .sizes) read; fetching-read = ap (λ s. s .fetching) read }, ap (λ s. s .cached) read)
+    let e₁ = c .before .before .before .before .before .before in
+    let image = e₁ .before .before .args .image .now in
+    (e₁ .if1 .left, c .before .before .before .before .read-words .ensures ∙ cached-read image, c .before .before .read-words2 .ensures ∙ fetching-read image)
 
 refuse-requires-2 : tie.Need-refuse-requires-2
 refuse-requires-2 c κs = search needs
 
 returns-2 : tie.Need-returns-2
 returns-2 c =
-    let t = c .before .before in
-    let p = t .before .before .before .before .before in
-    c .refuse2 .ensures ∙ restore-stop (p .before .before .before .args .image .now) (p .before .if1 .left) _ (t .accepted .ensures) (c .before .if2 .taken)
+    let e₂ = c .before .before .before in
+    let e₁ = e₂ .before .before .before .before .before .before .before .before in
+    c .refuse2 .ensures ∙ restore-stop (e₁ .before .before .args .image .now) (e₁ .if1 .left) _ (e₂ .before .accepted .ensures) (e₂ .if2 .taken)
+
+view-in-requires : tie.Need-view-in-requires
+view-in-requires c κs = search needs
 
 returns-3 : tie.Need-returns-3
 returns-3 c =
-    let t = c .before in
-    let p = t .before .before .before .before .before in
-    restore-pass (p .before .before .before .args .image .now) (p .before .if1 .left) _ _ (t .accepted .ensures) (c .if2 .left) (p .state-in .ensures)
+    let e₂ = c .before in
+    let e₁ = e₂ .before .before .before .before .before .before .before .before in
+    let image = e₁ .before .before .args .image .now in
+    restore-pass image (e₁ .if1 .left) _ _ (e₂ .before .accepted .ensures) (e₂ .if2 .left)
+    (state-read image _ _ _ (c .view-in .ensures) (e₂ .before .before .before .before .before .before .read-words .ensures) (e₂ .before .before .before .before .read-words2 .ensures))
 
 pub restore-spec : {M : Type 1} → statement M
 restore-spec =
@@ -41,8 +51,10 @@ restore-spec =
     (tie.spec
     refuse-requires
     returns
-    state-in-requires
+    read-words-requires
+    read-words-requires-2
     accepted-requires
     refuse-requires-2
     returns-2
+    view-in-requires
     returns-3)

@@ -27,13 +27,13 @@ same-length c = search needs
 returns : tie.Need-returns
 returns c =
     let p₆ = c .before .before in
-    let p₅ = p₆ .before .before .before .before .before .before in
-    let p₄ = p₅ .before .before .before .before .before .before in
+    let p₅ = p₆ .before .before .before .before in
+    let p₄ = p₅ .before .before .before .before in
     let p₃ = p₄ .before .before .before .before in
     let p₂ = p₃ .before .before .before .before .before in
     let p₁ = p₂ .before .before .before .before .before .before in
     let start = p₁ .before .before .before in
-    written-image (start .args .t1) (start .pre .0) (start .args .buffer .now) _ _ _ _ _ _ (start .pre .1)
+    written-image _ (start .pre .0) (start .args .buffer .now) _ _ _ _ _ _ (start .pre .1)
     (p₁ .put-settings .ensures) (p₂ .put-sizes .ensures) (p₃ .put-readers .ensures) (p₄ .put-u32 .ensures) (p₅ .put-words .ensures) (p₆ .put-words2 .ensures)
 
 pub save-whole-spec : {M : Type 1} → statement M

@@ -1,86 +1,46 @@
-use Prim.Native.Nat.{_+_, _-_, _≤_}
-use native.Mathlib.Omega.{arith}
 use borrow.Author.Needs.{needs}
-use lib.ListN.{length, drop, length-take, length-drop}
-use Rattle.lines.proofs.Stands.{step-on, Reached, reached-none, reached-step, reached-end, reached-full}
+use Rattle.rules.proofs.Images.{done-length, lent-valid}
+use Rattle.lines.proofs.Stands.{feed-refused, feed-moved, restore-taken}
 use Rattle.lines.proofs.feed.Statement.{statement}
 use Rattle.lines.proofs.feed.Tie as tie
 
-abbrev Inv-loop : tie.InvT-loop
-Inv-loop chunk from out₀ at₀ next₀ len₀ out at next len = Reached at₀ chunk from out₀ out at next len
+restore-requires : tie.Need-restore-requires
+restore-requires c κs = search needs
 
-abbrev μ-loop : tie.MeasureT-loop
-μ-loop chunk from out₀ at₀ next₀ len₀ out at next len = length chunk - next
+enum-told : tie.Need-enum-told
+enum-told c = search needs
 
-loop-holds : tie.Need-loop-holds Inv-loop μ-loop
-loop-holds c = reached-none _ _ _ _ (c .before .before .pre .0)
+go-through-requires : tie.Need-go-through-requires
+go-through-requires c κs = lent-valid _ (c .before .before .before .before .before .before .before .before .before .before .slice-known .given) _ (c .before .before .before .before .restore .ensures)
 
-sub-if1 : tie.Need-sub-if1 Inv-loop μ-loop
-sub-if1 c = search needs
+save-whole-requires : tie.Need-save-whole-requires
+save-whole-requires c κs = (c .before .before .before .before .before .go-through .ensures .valid, done-length _ (restore-taken _ _ (c .before .before .before .before .before .before .before .before .before .before .restore .ensures) (c .before .before .before .before .before .before .before .before .before .match .keys2)))
 
-at-place-requires : tie.Need-at-place-requires Inv-loop μ-loop
-at-place-requires c κs = search needs
-
-same-length : tie.Need-same-length Inv-loop μ-loop
+same-length : tie.Need-same-length
 same-length c = search needs
 
-returns : tie.Need-returns Inv-loop μ-loop
-returns c = reached-full _ _ _ _ _ _ _ _ (c .before .before .before .loop .inv) _ (c .at-place .ensures) (c .before .before .before .before .before .before .pre .1) (c .before .if1 .taken)
+returns : tie.Need-returns
+returns c = feed-refused _ _ (c .before .before .restore .ensures) (c .before .match .keys1) _ _ _ _
 
-sub-step : tie.Need-sub-step Inv-loop μ-loop
-sub-step c = search needs
-
-part-step-start : tie.Need-part-step-start Inv-loop μ-loop
-part-step-start c = search needs
-
-part-step-end : tie.Need-part-step-end Inv-loop μ-loop
-part-step-end c = search needs
-
-step-requires : tie.Need-step-requires Inv-loop μ-loop
-step-requires c κs =
-    let l = c .before .before .before in
-    (l .loop .inv .valid, omega (arith, length-take (length (l .loop .out) - l .loop .len) (drop (l .loop .len) (l .loop .out)), length-drop (l .loop .len) (l .loop .out)))
-
-add-len : tie.Need-add-len Inv-loop μ-loop
-add-len c =
-    let l = c .before .before .before .before .before .before .before .before .loop in
-    let room : l .len + c .before .before .before .before .step .result .len ≤ length (l .out)
-    = omega (arith, l .inv .fits, l .inv .same, c .before .before .before .before .step .ensures .fits, length-take (length (l .out) - l .len) (drop (l .len) (l .out)), length-drop (l .len) (l .out)) in
-    omega (arith, l .inv .same, c .before .before .before .before .before .before .before .before .before .before .before .good .1 .1 .1 .0)
-
-loop-less : tie.Need-loop-less Inv-loop μ-loop
-loop-less c = let on = step-on _ _ _ (c .before .before .before .before .step .ensures .next) (c .before .before .before .before .before .before .before .loop-test .taken) in omega arith
-
-loop-again : tie.Need-loop-again Inv-loop μ-loop
-loop-again c = reached-step _ _ _ _ _ _ _ _ (c .before .before .before .before .before .before .before .before .loop .inv) _ _ (c .before .before .before .before .before .before .before .loop-test .taken) (search needs) (c .before .before .before .before .step .ensures)
-
-at-place-requires-2 : tie.Need-at-place-requires-2 Inv-loop μ-loop
-at-place-requires-2 c κs = search needs
-
-same-length-2 : tie.Need-same-length-2 Inv-loop μ-loop
+same-length-2 : tie.Need-same-length-2
 same-length-2 c = search needs
 
-returns-2 : tie.Need-returns-2 Inv-loop μ-loop
-returns-2 c = reached-end _ _ _ _ _ _ _ _ (c .before .before .loop .inv) _ (c .at-place2 .ensures) (c .before .loop-test .left)
+same-length-3 : tie.Need-same-length-3
+same-length-3 c = search needs
+
+returns-2 : tie.Need-returns-2
+returns-2 c = feed-moved _ _ (c .before .before .before .before .before .before .before .before .before .before .before .before .before .before .restore .ensures) _ _ _ _ _ _ _ _ _ (restore-taken _ _ (c .before .before .before .before .before .before .before .before .before .before .before .before .before .before .restore .ensures) (c .before .before .before .before .before .before .before .before .before .before .before .before .before .match .keys2)) (c .before .before .before .before .before .before .before .before .before .go-through .ensures) (c .before .before .before .save-whole .ensures)
 
 pub feed-spec : {M : Type 1} → statement M
 feed-spec =
     tie.close
     (tie.spec
-    Inv-loop
-    μ-loop
-    loop-holds
-    sub-if1
-    at-place-requires
+    restore-requires
+    enum-told
+    go-through-requires
+    save-whole-requires
     same-length
     returns
-    sub-step
-    part-step-start
-    part-step-end
-    step-requires
-    add-len
-    loop-less
-    loop-again
-    at-place-requires-2
     same-length-2
+    same-length-3
     returns-2)

@@ -1,8 +1,8 @@
 use mathlib.Core.Path.{_≡_}
-use lib.ListN.{length}
 use borrow.Author.Needs.{needs}
-use Rattle.lines.proofs.Replies.{gives-setup}
+use lib.ListN.{length}
 use Rattle.lines.proofs.Letters.{other-eleven, letter-setup, fields-sizes}
+use Rattle.lines.proofs.Replies.{gives-setup}
 use Rattle.lines.proofs.obey_eleven.Statement.{statement}
 use Rattle.lines.proofs.obey_eleven.Tie as tie
 
@@ -13,28 +13,25 @@ same-length : tie.Need-same-length
 same-length c = search needs
 
 returns : tie.Need-returns
-returns c =
-    let s = c .before .before .before .before .before .before in
-    let eleven : length (s .args .t3) ≡ 11 = search needs in
-    rw (other-eleven _ _ (s .args .t3) eleven (c .before .before .before .before .if1 .taken)) (c .before .before .refuse .ensures)
+returns c = let s = c .before .before .before .before .before .before in let eleven : length (s .args .t5) ≡ 11 = search needs in rw (other-eleven _ _ (s .args .t5) eleven (c .before .before .before .before .if1 .taken)) (c .before .before .refuse .ensures _ _)
 
 array-read-setup : tie.Need-array-read-setup
 array-read-setup c = search needs
 
-array-read-t16 : tie.Need-array-read-t16
-array-read-t16 c = search needs
+array-read-t18 : tie.Need-array-read-t18
+array-read-t18 c = search needs
 
-array-read-t19 : tie.Need-array-read-t19
-array-read-t19 c = search needs
+array-read-t21 : tie.Need-array-read-t21
+array-read-t21 c = search needs
 
-array-read-t22 : tie.Need-array-read-t22
-array-read-t22 c = search needs
+array-read-t24 : tie.Need-array-read-t24
+array-read-t24 c = search needs
 
-array-read-t25 : tie.Need-array-read-t25
-array-read-t25 c = search needs
+array-read-t27 : tie.Need-array-read-t27
+array-read-t27 c = search needs
 
-array-read-t28 : tie.Need-array-read-t28
-array-read-t28 c = search needs
+array-read-t30 : tie.Need-array-read-t30
+array-read-t30 c = search needs
 
 array-read-setup-2 : tie.Need-array-read-setup-2
 array-read-setup-2 c = search needs
@@ -54,17 +51,14 @@ array-read-setup-6 c = search needs
 setup-requires : tie.Need-setup-requires
 setup-requires c κs = search needs
 
-tell-setup-requires : tie.Need-tell-setup-requires
-tell-setup-requires c κs = search needs
+say-setup-requires : tie.Need-say-setup-requires
+say-setup-requires c κs = search needs
 
 same-length-2 : tie.Need-same-length-2
 same-length-2 c = search needs
 
 returns-2 : tie.Need-returns-2
-returns-2 c =
-    let s = c .before .before .before .before .before .before .before in
-    let eleven : length (s .args .t3) ≡ 11 = search needs in
-    rw (c .before .before .before .before .before .if1 .left, letter-setup (s .args .s) (s .args .t3) eleven, ← fields-sizes (s .args .t3) eleven) (gives-setup _ _ _ _ _ _ (c .before .before .before .before .setup .ensures) (c .before .before .tell-setup .ensures))
+returns-2 c = let s = c .before .before .before .before .before .before .before .before .before in let eleven : length (s .args .t5) ≡ 11 = search needs in rw (c .before .before .before .before .before .before .before .if1 .left, letter-setup _ (s .args .t5) eleven, ← fields-sizes (s .args .t5) eleven) (gives-setup _ _ _ _ _ _ (c .before .before .before .before .before .before .setup .ensures) (c .before .before .say-setup .ensures))
 
 pub obey-eleven-spec : {M : Type 1} → statement M
 obey-eleven-spec =
@@ -74,17 +68,17 @@ obey-eleven-spec =
     same-length
     returns
     array-read-setup
-    array-read-t16
-    array-read-t19
-    array-read-t22
-    array-read-t25
-    array-read-t28
+    array-read-t18
+    array-read-t21
+    array-read-t24
+    array-read-t27
+    array-read-t30
     array-read-setup-2
     array-read-setup-3
     array-read-setup-4
     array-read-setup-5
     array-read-setup-6
     setup-requires
-    tell-setup-requires
+    say-setup-requires
     same-length-2
     returns-2)

@@ -13,7 +13,7 @@ same-length : tie.Need-same-length
 same-length c = search needs
 
 returns : tie.Need-returns
-returns c = rw (responds-by _ _ _ (c .before .before .before .before .before .parse .ensures) (c .before .before .before .before .if1 .taken)) (c .before .before .obey .ensures)
+returns c = rw (responds-by _ _ _ (c .before .before .before .before .before .before .before .parse .ensures) (c .before .before .before .before .before .before .if1 .taken)) (c .before .before .obey .ensures)
 
 refuse-requires : tie.Need-refuse-requires
 refuse-requires c κs = search needs
@@ -22,7 +22,7 @@ same-length-2 : tie.Need-same-length-2
 same-length-2 c = search needs
 
 returns-2 : tie.Need-returns-2
-returns-2 c = rw (responds-not _ _ _ (c .before .before .before .before .before .parse .ensures) (c .before .before .before .before .if1 .left)) (c .before .before .refuse .ensures)
+returns-2 c = rw (responds-not _ _ _ (c .before .before .before .before .before .parse .ensures) (c .before .before .before .before .if1 .left)) (c .before .before .refuse .ensures _ _)
 
 pub respond-spec : {M : Type 1} → statement M
 respond-spec =

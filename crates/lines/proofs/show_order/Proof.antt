@@ -1,7 +1,9 @@
+use mathlib.Core.Path.{refl}
 use native.Mathlib.Omega.{arith}
 use borrow.Author.Needs.{needs}
-use Rattle.lines.proofs.Replies.{gives}
+use Rattle.rules.specs.Views.{stateOf}
 use Rattle.lines.proofs.Shown.{order-line}
+use Rattle.lines.proofs.Replies.{line-ended}
 use Rattle.lines.proofs.show_order.Statement.{statement}
 use Rattle.lines.proofs.show_order.Tie as tie
 
@@ -15,26 +17,16 @@ slice-aggregate-put-keys : tie.Need-slice-aggregate-put-keys
 slice-aggregate-put-keys c = search needs
 
 put-keys-requires : tie.Need-put-keys-requires
-put-keys-requires c κs =
-    let s = c .before .before .before .before .before .before in
-    let f = c .before .before .before .list-order .ensures in
-    (f .room, (search needs, omega (arith, order-line (s .args .s) (s .pre .0) _ _ (s .args .letter) (s .args .stealing) f)))
+put-keys-requires c κs = let f = c .before .before .before .list-order .ensures in (f .room, (search needs, omega (arith, order-line (stateOf (c .before .before .before .before .before .before .args .v) (c .before .before .before .before .before .before .args .cached .now) (c .before .before .before .before .before .before .args .fetching .now)) (c .before .before .before .before .before .before .pre .0) _ _ (c .before .before .before .before .before .before .args .letter) (c .before .before .before .before .before .before .args .stealing) (f))))
 
-end-line-requires : tie.Need-end-line-requires
-end-line-requires c κs =
-    let s = c .before .before .before .before .before .before .before .before .before .before in
-    omega (arith, c .before .before .before .put-keys .ensures .place, order-line (s .args .s) (s .pre .0) _ _ (s .args .letter) (s .args .stealing) (c .before .before .before .before .before .before .before .list-order .ensures))
+put-byte-requires : tie.Need-put-byte-requires
+put-byte-requires c κs = omega (arith, c .before .before .before .put-keys .ensures .place, order-line (stateOf (c .before .before .before .before .before .before .before .before .before .before .args .v) (c .before .before .before .before .before .before .before .before .before .before .args .cached .now) (c .before .before .before .before .before .before .before .before .before .before .args .fetching .now)) (c .before .before .before .before .before .before .before .before .before .before .pre .0) _ _ (c .before .before .before .before .before .before .before .before .before .before .args .letter) (c .before .before .before .before .before .before .before .before .before .before .args .stealing) (c .before .before .before .before .before .before .before .list-order .ensures))
 
 same-length : tie.Need-same-length
 same-length c = search needs
 
 returns : tie.Need-returns
-returns c =
-    let s = c .before .before .before .before .before .before .before .before .before .before .before .before .before in
-    let f = c .before .before .before .before .before .before .before .before .before .before .list-order .ensures in
-    let e = c .before .before .end-line .ensures in
-    let short = rw (f .is) at (order-line (s .args .s) (s .pre .0) _ _ (s .args .letter) (s .args .stealing) f) in
-    gives _ _ _ _ _ _ (e .0) (rw (f .is) at (c .before .before .before .before .before .before .put-keys .ensures)) (e .1) (omega arith)
+returns c = let f = c .before .before .before .before .before .before .before .before .before .before .list-order .ensures in let short = rw (f .is) at (order-line (stateOf (c .before .before .before .before .before .before .before .before .before .before .before .before .before .args .v) (c .before .before .before .before .before .before .before .before .before .before .before .before .before .args .cached .now) (c .before .before .before .before .before .before .before .before .before .before .before .before .before .args .fetching .now)) (c .before .before .before .before .before .before .before .before .before .before .before .before .before .pre .0) _ _ (c .before .before .before .before .before .before .before .before .before .before .before .before .before .args .letter) (c .before .before .before .before .before .before .before .before .before .before .before .before .before .args .stealing) (f)) in record { state = refl; line = line-ended _ _ _ _ _ _ (rw (f .is) at (c .before .before .before .before .before .before .put-keys .ensures)) (c .before .before .put-byte .ensures) (omega arith) }
 
 pub show-order-spec : {M : Type 1} → statement M
 show-order-spec =
@@ -44,6 +36,6 @@ show-order-spec =
     list-order-requires
     slice-aggregate-put-keys
     put-keys-requires
-    end-line-requires
+    put-byte-requires
     same-length
     returns)

@@ -2,7 +2,7 @@ use mathlib.Core.Path.{_≡_, sym}
 use Prim.Native.Nat.{_-_, _≤_}
 use native.Mathlib.Omega.{arith}
 use borrow.Author.Needs.{needs}
-use Rattle.order.specs.Views.{stateOf}
+use Rattle.rules.specs.Views.{stateOf}
 use Rattle.order.specs.Searches.{Soonest}
 use Rattle.order.proofs.Searching.{soonest-none, soonest-fetch, soonest-nothing}
 use Rattle.order.proofs.next_fetch.Statement.{statement}

@@ -1,4 +1,4 @@
-use mathlib.Core.Path.{sym, _∙_}
+use mathlib.Core.Path.{refl, sym, _∙_}
 use mathlib.Core.List.{[]}
 use Prim.Native.Nat.{_≤_, _<_}
 use native.Mathlib.Omega.{arith}
@@ -12,9 +12,10 @@ use Rattle.rules.proofs.Valids.{placed-at}
 use Rattle.rules.proofs.LookAheads.{Before, before-is}
 use Rattle.rules.proofs.Candidates.{FirstAbsent, absent-least}
 use Rattle.rules.specs.declared.State.{State}
-use Rattle.order.specs.Views.{stateOf, slotOf}
+use Rattle.rules.specs.Views.{stateOf}
+use Rattle.order.specs.Choices.{slotOf}
 use Rattle.order.proofs.Ranges.{valid-ranged}
-use Rattle.order.proofs.Slots.{before-any}
+use Rattle.order.proofs.Slots.{before-any, lower-least}
 use Rattle.order.proofs.Searching.{none-absent, first-absent, soonest-keep, soonest-take}
 use Rattle.order.proofs.sooner.Statement.{statement}
 use Rattle.order.proofs.sooner.Tie as tie
@@ -109,8 +110,8 @@ lowered-requires c κs =
     let s = start c in (
       valid-ranged (at s) (s .pre .0),
       (
-        (s .pre .1 .0, small c, s .pre .1 .1 .low),
-        before-any (s .args .t1) (slotOf (s .args .t1) (s .args .slot)) (c .before .next-absent .result) (s .args .cached .now) (s .args .fetching .now) [] [] (ahead c),
+        (s .pre .1 .0, small c),
+        ((refl, refl), before-any (s .args .t1) (slotOf (s .args .t1) (s .args .slot)) (c .before .next-absent .result) (s .args .cached .now) (s .args .fetching .now) [] [] (ahead c)),
       ),
     )
 
@@ -128,7 +129,7 @@ returns-4 c =
     let e = c .before .before .before in
     let s = start e in
     let k = e .before .next-absent .result in
-    soonest-keep (at s) (s .args .slot) (s .args .best) (s .pre .1 .1) (λ _. absent-least (at s) (s .args .best .value) (s .args .slot) k (lacks e) (omega (arith, c .before .before .lowered .ensures (s .args .fetching .now))))
+    soonest-keep (at s) (s .args .slot) (s .args .best) (s .pre .1 .1) (λ _. absent-least (at s) (s .args .best .value) (s .args .slot) k (lacks e) (omega (arith, c .before .before .lowered .ensures (s .args .fetching .now), lower-least (at s) k (s .args .slot) (s .args .best .value) (s .pre .1 .1 .low))))
 
 pub sooner-spec : {M : Type 1} → statement M
 sooner-spec =

@@ -1,12 +1,22 @@
+use mathlib.Core.Path.{ap, _∙_}
+use Prim.Native.Nat.{min}
 use borrow.Author.Needs.{needs}
+use Rattle.rules.specs.UseTimes.{never}
+use Rattle.rules.specs.Views.{stateOf}
+use Rattle.order.proofs.Sweeps.{use-ranked}
 use Rattle.order.proofs.use_key.Statement.{statement}
 use Rattle.order.proofs.use_key.Tie as tie
 
-swept-requires : tie.Need-swept-requires
-swept-requires c κs = search needs
+rank-requires : tie.Need-rank-requires
+rank-requires c κs = search needs
+
+lesser-requires : tie.Need-lesser-requires
+lesser-requires c κs = search needs
 
 returns : tie.Need-returns
-returns c m = c .swept .ensures m .1
+returns c m =
+    let s = c .before .before in
+    c .lesser .ensures ∙ ap (λ x. min x never) (c .before .rank .ensures m) ∙ use-ranked (stateOf (s .args .v) (s .args .cached .now) m) (s .args .key) (s .pre .0 .look-high)
 
 pub use-key-spec : {M : Type 1} → statement M
-use-key-spec = tie.close (tie.spec swept-requires returns)
+use-key-spec = tie.close (tie.spec rank-requires lesser-requires returns)

@@ -1,6 +1,7 @@
 use Prim.Native.Nat.{_-_, _≤_}
 use mathlib.Core.Path.{_≡_}
 use borrow.Author.Needs.{needs}
+use Rattle.rules.specs.Views.{stateOf}
 use Rattle.rules.specs.Valid.{Valid}
 use Rattle.rules.specs.Run.{turnsOf}
 use Rattle.run.proofs.Rounds.{turn-valid, soFar, turns-none, turns-more, with-third, run-many, run-open, run-done}
@@ -8,17 +9,17 @@ use Rattle.run.proofs.run.Statement.{statement}
 use Rattle.run.proofs.run.Tie as tie
 
 abbrev Inv-loop : tie.InvT-loop
-Inv-loop turns t₀ fetches₀ reads₀ i₀ t fetches reads i =
-    (i ≤ turns) × (fetches ≤ i) × (reads ≤ i) × Valid t × (soFar t fetches reads ≡ turnsOf i t₀)
+Inv-loop cached₀ fetching₀ turns w₀ fetches₀ reads₀ i₀ cached fetching w fetches reads i =
+    (i ≤ turns) × (fetches ≤ i) × (reads ≤ i) × Valid (stateOf w cached fetching) × (soFar (stateOf w cached fetching) fetches reads ≡ turnsOf i (stateOf w₀ cached₀ fetching₀))
 
 abbrev μ-loop : tie.MeasureT-loop
-μ-loop turns t₀ fetches₀ reads₀ i₀ t fetches reads i = turns - i
+μ-loop cached₀ fetching₀ turns w₀ fetches₀ reads₀ i₀ cached fetching w fetches reads i = turns - i
 
 refuse-requires : tie.Need-refuse-requires Inv-loop μ-loop
 refuse-requires c κs = search needs
 
 returns : tie.Need-returns Inv-loop μ-loop
-returns c = with-third _ _ _ (search (run-many, needs))
+returns c = with-third _ _ _ (rw (c .refuse .ensures) (search (run-many, needs)))
 
 count-requires : tie.Need-count-requires Inv-loop μ-loop
 count-requires c κs = search needs
@@ -27,7 +28,7 @@ refuse-requires-2 : tie.Need-refuse-requires-2 Inv-loop μ-loop
 refuse-requires-2 c κs = search needs
 
 returns-2 : tie.Need-returns-2 Inv-loop μ-loop
-returns-2 c = with-third _ _ _ (search (run-open, needs))
+returns-2 c = with-third _ _ _ (rw (c .refuse2 .ensures) (search (run-open, needs)))
 
 loop-holds : tie.Need-loop-holds Inv-loop μ-loop
 loop-holds c = search (turns-none, needs)
@@ -48,7 +49,10 @@ loop-less : tie.Need-loop-less Inv-loop μ-loop
 loop-less c = search needs
 
 loop-again : tie.Need-loop-again Inv-loop μ-loop
-loop-again c = search (turns-more, turn-valid, needs)
+loop-again c =
+    let at = c .before .before .before in
+    let l = at .before .before .before .before .loop in
+    (search needs, search needs, search needs, turn-valid _ (l .inv .3) _ (at .turn .ensures .0), turns-more _ _ _ _ _ _ (l .inv .4) (at .turn .ensures .0))
 
 returns-3 : tie.Need-returns-3 Inv-loop μ-loop
 returns-3 c = with-third _ _ _ (search (run-done, needs))

@@ -1,5 +1,5 @@
 use borrow.Author.Needs.{needs}
-use Rattle.run.proofs.Rounds.{turn-else, turn-fetch, read-valid, arrive-valid, turn-low, and-single}
+use Rattle.run.proofs.Rounds.{turn-else, turn-fetch, read-valid, arrive-valid, and-single}
 use Rattle.run.proofs.turn.Statement.{statement}
 use Rattle.run.proofs.turn.Tie as tie
 
@@ -7,16 +7,16 @@ cast-slot : tie.Need-cast-slot
 cast-slot c = search needs
 
 read-requires : tie.Need-read-requires
-read-requires c κs = search needs
+read-requires c κs = c .before .before .before .pre
 
 enum-known-answer : tie.Need-enum-known-answer
 enum-known-answer c = search needs
 
 end-turn-requires : tie.Need-end-turn-requires
-end-turn-requires c κs = search (turn-low, read-valid, needs)
+end-turn-requires c κs = read-valid _ (c .before .before .before .before .before .pre) _ _ (c .before .read .ensures .0) .turn-low
 
 returns : tie.Need-returns
-returns c = and-single _ _ (search (turn-else, needs))
+returns c = and-single _ _ _ _ (turn-else _ (c .before .before .before .before .before .before .pre) _ (c .before .before .read .ensures .0) _ (search needs) (c .end-turn .ensures _ _))
 
 cast-arrive : tie.Need-cast-arrive
 cast-arrive c = search needs
@@ -25,16 +25,16 @@ cast-arrive-2 : tie.Need-cast-arrive-2
 cast-arrive-2 c = search needs
 
 arrive-requires : tie.Need-arrive-requires
-arrive-requires c κs = search (read-valid, needs)
+arrive-requires c κs = read-valid _ (c .before .before .before .before .before .before .before .before .before .pre) _ _ (c .before .before .before .before .before .read .ensures .0)
 
 read-requires-2 : tie.Need-read-requires-2
-read-requires-2 c κs = search (arrive-valid, read-valid, needs)
+read-requires-2 c κs = arrive-valid _ (read-valid _ (c .before .before .before .before .before .before .before .before .before .before .before .before .pre) _ _ (c .before .before .before .before .before .before .before .before .read .ensures .0)) _ _ _ (c .before .before .arrive .ensures)
 
 end-turn-requires-2 : tie.Need-end-turn-requires-2
-end-turn-requires-2 c κs = search (turn-low, arrive-valid, read-valid, needs)
+end-turn-requires-2 c κs = read-valid _ (arrive-valid _ (read-valid _ (c .before .before .before .before .before .before .before .before .before .before .before .before .before .pre) _ _ (c .before .before .before .before .before .before .before .before .before .read .ensures .0)) _ _ _ (c .before .before .before .arrive .ensures)) _ _ (c .read2 .ensures .0) .turn-low
 
 returns-2 : tie.Need-returns-2
-returns-2 c = and-single _ _ (search (turn-fetch, needs))
+returns-2 c = and-single _ _ _ _ (turn-fetch _ (c .before .before .before .before .before .before .before .before .before .before .before .before .before .before .pre) _ (c .before .before .before .before .before .before .before .before .before .before .read .ensures .0) _ _ _ _ _ (search needs) (c .before .before .before .before .arrive .ensures) (c .before .read2 .ensures .0) (c .end-turn2 .ensures _ _))
 
 pub turn-spec : {M : Type 1} → statement M
 turn-spec =

@@ -1,0 +1,187 @@
+//! What the box's C entries cost beside quick's entry, and the program `quay`
+//! beside the checker's `lines`: one run, the same images and streams.
+//!
+//!     cargo build --release --bin lines
+//!     QUAY_LIB=folder QUAY_PROGRAM=path \
+//!         cargo run --release --features box --bin bench
+//!
+//! Both entries restore, call and save a 2,208-byte image each time. Every
+//! number is the median of several samples, taken in turns, in nanoseconds a
+//! call; each includes one copy of the image into the buffer. Prints markdown
+//! tables. Without `QUAY_PROGRAM` the programs are left out.
+
+mod lines;
+
+use checker::call::{Call, Entry};
+use checker::limits::{FILE_PAGES, MOST_TURNS};
+use checker::model::{Page, Reader, State};
+use checker::{ffi, quick};
+use std::hint::black_box;
+use std::time::{Duration, Instant};
+
+/// How long one sample should take at least, and how many there are.
+const SAMPLE: Duration = Duration::from_millis(4);
+const SAMPLES: usize = 11;
+
+struct Case {
+    name: String,
+    image: Vec<u8>,
+    call: Call,
+}
+
+fn main() {
+    println!("## Calls\n");
+    table(&calls());
+    println!("\n## Arrive that steals, by frames (16 readers, 8 files, L 10240, T 0)\n");
+    let by_frames = [64, 128, 256, 512, 1_024].map(|frames| {
+        let name = format!("frames: {frames}");
+        arrive(name, busy(16, 8, frames, 10_240, 0))
+    });
+    table(&by_frames);
+    println!("\n## Arrive that steals, by readers (8 files, 512 frames, L 10240, T 0)\n");
+    let by_readers = [1, 2, 4, 8, 12, 16].map(|readers| {
+        let name = format!("readers: {readers}");
+        arrive(name, busy(readers, 8, 512, 10_240, 0))
+    });
+    table(&by_readers);
+    println!("\n## Lines through pipes\n");
+    lines::table();
+}
+
+/// Every call, with 1,024 frames unless said.
+fn calls() -> Vec<Case> {
+    let mut cases = Vec::new();
+    let ticks = [
+        (10_240, 0),
+        (2_000_000, 0),
+        (1_000, 0),
+        (10_240, 100),
+        (1_000, 50),
+    ];
+    // One file alone has not enough pages to fill 1,024 frames.
+    for (files, placed, frames) in [(8, "8 files", 1_024), (1, "one file", 768)] {
+        for (l, t) in ticks {
+            let name = format!("Arrive that steals, 16 readers on {placed}, L {l}, T {t}");
+            cases.push(arrive(name, busy(16, files, frames, l, t)));
+        }
+    }
+    let image = busy(16, 8, 1_024, 10_240, 0).image();
+    for (name, call) in [
+        ("Steal", Call::Steal),
+        ("Prefetch", Call::Prefetch),
+        ("Read, a hit", Call::Read { slot: 1 }),
+        ("Read, refused (slot 16)", Call::Read { slot: 16 }),
+    ] {
+        let (name, image) = (name.to_string(), image.clone());
+        cases.push(Case { name, image, call });
+    }
+    for (frames, l, t) in [
+        (64, 10_240, 0),
+        (1_024, 10_240, 0),
+        (64, 1_000, 50),
+        (1_024, 1_000, 50),
+    ] {
+        cases.push(Case {
+            name: format!("Run of 16384 turns, {frames} frames, L {l}, T {t}"),
+            image: seated(16, 8, frames, l, t).image(),
+            call: Call::Run { turns: MOST_TURNS },
+        });
+    }
+    cases
+}
+
+/// Readers of pace 10 over so many files of 1,024 pages, a second and later
+/// reader of a file some way ahead of the one before. Nothing is cached.
+fn seated(readers: u64, files: u64, frames: u64, look_ahead: u64, fetch_time: u64) -> State {
+    let mut state = State::idle();
+    state.frames = frames;
+    state.look_ahead = look_ahead;
+    state.fetch_time = fetch_time;
+    state.sizes.fill(FILE_PAGES);
+    for slot in 0..readers {
+        let reader = Reader::running(slot % files, 10, slot / files * 55);
+        state.readers.insert(slot, reader);
+    }
+    state
+}
+
+/// The same with every frame taken by pages ahead of the readers, every seventh
+/// page missing, and the reader in slot 0 waiting for its next page.
+fn busy(readers: u64, files: u64, frames: u64, look_ahead: u64, fetch_time: u64) -> State {
+    let mut state = seated(readers, files, frames, look_ahead, fetch_time);
+    let first = state.readers.get_mut(&0).unwrap();
+    first.waiting = true;
+    let awaited = first.next_page();
+    state.in_fetch.insert(awaited);
+    for ahead in 0..FILE_PAGES {
+        for reader in state.readers.values() {
+            let Page { file, number } = reader.next_page();
+            let page = Page {
+                file,
+                number: number + ahead,
+            };
+            let cacheable =
+                page.number <= FILE_PAGES && !page.number.is_multiple_of(7) && page != awaited;
+            if cacheable && (state.cached.len() as u64) < frames {
+                state.cached.insert(page);
+            }
+        }
+    }
+    assert_eq!(state.cached.len() as u64, frames, "every frame is taken");
+    state
+}
+
+/// Arrive of the page that slot 0 waits for.
+fn arrive(name: String, state: State) -> Case {
+    let Page { file, number: page } = state.readers[&0].next_page();
+    let (image, call) = (state.image(), Call::Arrive { file, page });
+    Case { name, image, call }
+}
+
+fn table(cases: &[Case]) {
+    println!("| call | quick ns | box ns | quick / box |");
+    println!("|:-----|---------:|-------:|------------:|");
+    for case in cases {
+        let (quick, the_box) = measure(case);
+        let ratio = quick / the_box;
+        println!("| {} | {quick:.0} | {the_box:.0} | {ratio:.2} |", case.name);
+    }
+}
+
+/// Nanoseconds a call, by quick and by the box.
+fn measure(case: &Case) -> (f64, f64) {
+    let [by_quick, by_box] = [quick::entry as Entry, ffi::entry].map(|entry| {
+        let mut image = case.image.clone();
+        (entry(&mut image, case.call), image)
+    });
+    assert!(
+        by_quick == by_box,
+        "quick and the box differ: {}",
+        case.name
+    );
+
+    let once = sample(quick::entry, case, 1).max(sample(ffi::entry, case, 1));
+    let calls = (SAMPLE.as_nanos() as f64 / once).ceil() as u32;
+    let (mut quick_samples, mut box_samples) = (Vec::new(), Vec::new());
+    for _ in 0..SAMPLES {
+        quick_samples.push(sample(quick::entry, case, calls));
+        box_samples.push(sample(ffi::entry, case, calls));
+    }
+    (median(quick_samples), median(box_samples))
+}
+
+/// Nanoseconds a call over so many calls, each on a fresh copy of the image.
+fn sample(entry: Entry, case: &Case, calls: u32) -> f64 {
+    let mut buffer = case.image.clone();
+    let start = Instant::now();
+    for _ in 0..calls {
+        buffer.copy_from_slice(black_box(&case.image));
+        black_box(entry(black_box(&mut buffer), black_box(case.call)));
+    }
+    start.elapsed().as_nanos() as f64 / f64::from(calls)
+}
+
+fn median(mut samples: Vec<f64>) -> f64 {
+    samples.sort_by(f64::total_cmp);
+    samples[samples.len() / 2]
+}

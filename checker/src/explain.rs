@@ -1,0 +1,124 @@
+//! A state as a picture and two tables, for people to read.
+//!
+//! An aid outside the proofs: what it shows is the model's, and tests compare
+//! its orders with the program's own.
+
+mod labels;
+mod picture;
+mod svg;
+mod tables;
+mod text;
+
+pub use picture::{Mark, ReaderMark, Strip};
+pub use tables::{Row, Stretch, Use};
+
+use crate::model::{follow, Page, State};
+
+/// What both forms say.
+const TITLE: &str = "The quay box, explained";
+const NOTE: &str = "An aid outside the proofs.";
+const TIES: &str = "The seat distance is shown where use times are equal: there it decides.";
+
+/// Refused lines that are named one by one.
+const REFUSED_NAMED: usize = 6;
+
+/// A state, explained.
+#[derive(Clone, Debug)]
+pub struct Explained {
+    /// Sentences about the state as a whole.
+    pub sentences: Vec<String>,
+    /// The files that have pages.
+    pub strips: Vec<Strip>,
+    /// The steal order.
+    pub steal: Vec<Row>,
+    /// The fetch order.
+    pub fetch: Vec<Row>,
+}
+
+impl Explained {
+    /// Explains a state.
+    pub fn of(state: &State) -> Explained {
+        let mut sentences = vec![format!(
+            "Frames {}, {} taken. Look-ahead L {}, fetch time T {}. In fetch {}. Turn {}.",
+            state.frames,
+            state.cached.len(),
+            state.look_ahead,
+            state.fetch_time,
+            state.in_fetch.len(),
+            state.turn
+        )];
+        sentences.extend(
+            state
+                .readers
+                .keys()
+                .map(|&slot| reader_sentence(state, slot)),
+        );
+        Explained {
+            sentences,
+            strips: picture::strips(state),
+            steal: tables::rows(state, state.steal_order()),
+            fetch: tables::rows(state, state.fetch_order()),
+        }
+    }
+
+    /// Explains the state that a stream of lines leads to.
+    pub fn of_stream(input: &[u8]) -> Explained {
+        let (state, answers) = follow(input);
+        let mut explained = Explained::of(&state);
+        explained.sentences.insert(0, stream_sentence(&answers));
+        explained
+    }
+
+    /// The pages of the steal order as they are shown.
+    pub fn steal_pages(&self) -> Vec<Page> {
+        self.steal.iter().map(|row| row.page).collect()
+    }
+
+    /// The pages of the fetch order as they are shown.
+    pub fn fetch_pages(&self) -> Vec<Page> {
+        self.fetch.iter().map(|row| row.page).collect()
+    }
+
+    /// As text, in rows of about 100 columns.
+    pub fn text(&self) -> String {
+        text::text(self)
+    }
+
+    /// As an SVG file.
+    pub fn svg(&self) -> String {
+        svg::svg(self)
+    }
+}
+
+/// How many lines there were, and which were refused.
+fn stream_sentence(answers: &[String]) -> String {
+    let refused = (1..)
+        .zip(answers)
+        .filter(|(_, answer)| answer.starts_with('E'));
+    let refused: Vec<String> = refused
+        .map(|(number, answer)| format!("line {number} ({answer})"))
+        .collect();
+    let lines = format!("After {} lines", answers.len());
+    match refused.len() {
+        0 => format!("{lines}, none refused."),
+        1..=REFUSED_NAMED => format!("{lines}; refused: {}.", refused.join(", ")),
+        many => {
+            let named = refused[..REFUSED_NAMED].join(", ");
+            format!("{lines}; {many} refused, the first: {named}.")
+        }
+    }
+}
+
+fn reader_sentence(state: &State, slot: u64) -> String {
+    let reader = &state.readers[&slot];
+    let size = state.size(reader.file);
+    let waits = if reader.waiting {
+        format!(", waits for page {}", reader.position + 1)
+    } else {
+        String::new()
+    };
+    format!(
+        "Slot {slot} reads file {}, pace {}: page {} of {size} read{waits}.",
+        reader.file, reader.pace, reader.position
+    )
+}

@@ -1,0 +1,40 @@
+//! Where the pieces of an image start, by the paper's list of them.
+//!
+//! Quick and the trials go by this table. The model does not: it writes and
+//! reads an image piece by piece, so that each tries the other.
+
+/// "frames (2)".
+pub const FRAMES: usize = 0;
+
+/// "turn (1)".
+pub const TURN: usize = 2;
+
+/// "0 (1)".
+pub const ZERO_BYTE: usize = 3;
+
+/// "L (4)".
+pub const LOOK_AHEAD: usize = 4;
+
+/// "T (4)".
+pub const FETCH_TIME: usize = 8;
+
+/// "sizes (8 of 2)".
+pub const SIZES: usize = 12;
+
+/// "sixteen readers of 8 bytes".
+pub const READERS: usize = 28;
+
+/// The bytes of one reader.
+pub const READER_BYTES: usize = 8;
+
+/// "4 bytes of 0".
+pub const FOUR_ZEROS: usize = 156;
+
+/// "cached map 1,024".
+pub const CACHED: usize = 160;
+
+/// "fetch map 1,024".
+pub const IN_FETCH: usize = 1_184;
+
+/// Behind the last piece: "Save writes 2,208 bytes".
+pub const END: usize = 2_208;

@@ -1,0 +1,116 @@
+-- The readers' array: the last slot with a reader of a file, and the array slot by slot. Assumes nothing.
+use mathlib.Core.Path.{_≡_, refl, sym, ap, _∙_}
+use mathlib.Core.Bool.{Bool, true, false, cond}
+use mathlib.Core.List.{List}
+use mathlib.Core.Logic.{_≢_}
+use Prim.Native.Nat.{ℕ, zero, suc, _+_, _-_, _≤_, _<_}
+use native.Mathlib.Decide.{ℕ-discrete, decLt}
+use native.Mathlib.Numerals.{add-one}
+use native.Mathlib.Omega.{arith}
+use borrow.Author.Tests.{eq-eqb, ne-eqb}
+use lib.Dec.{T, eqb}
+use lib.ListN.{length, getD, set, replicate, length-set}
+use lib.Seq.{getD-set-same, getD-set-other}
+use Rattle.rules.specs.Readers.{attached}
+use Rattle.rules.proofs.Below.{one-more}
+use Rattle.rules.proofs.Cases.{failed}
+use Rattle.rules.proofs.Kept.{same-at}
+use Rattle.rules.specs.declared.Reader.{Reader}
+use Rattle.order.specs.Seats.{readerIn, reads, lastSeat, Seated}
+
+-- r is the last one of the first n slots with a reader of file f, or 0
+pub record Seat (readers : List Reader) (f n r : ℕ) : Type 0 where
+  pub high : r ≤ n
+  pub found : 0 < r → T (reads f (readerIn readers (r - 1)))
+  pub after : (j : ℕ) → r ≤ j → j < n → T (reads f (readerIn readers j)) → ⊥
+
+-- `lastSeat` is that slot
+pub seat-is : (readers : List Reader) (f n : ℕ) → Seat readers f n (lastSeat readers f n)
+unfolding lastSeat
+seat-is readers f zero = record { high = omega arith; found = λ h. absurd (omega arith); after = λ j l u. absurd (omega arith) }
+seat-is readers f (suc n) = go (reads f (readerIn readers n)) refl (seat-is readers f n)
+  where
+    go : (b : Bool) → reads f (readerIn readers n) ≡ b → Seat readers f n (lastSeat readers f n) → Seat readers f (suc n) (cond b (suc n) (lastSeat readers f n))
+    go true e t = let q : suc n - 1 ≡ n = omega arith in record { high = omega arith; found = λ h. rw (q, e) tt; after = λ j l u. absurd (omega arith) }
+    go false e t = record { high = omega (arith, t .high); found = t .found; after = λ j l u h. by j l u h (decLt j n) }
+      where
+        by : (j : ℕ) → lastSeat readers f n ≤ j → j < suc n → T (reads f (readerIn readers j)) → Dec (j < n) → ⊥
+        by j l u h (yes g) = t .after j l g h
+        by j l u h (no g) = let q : j ≡ n = omega arith in rw (q, e) at h
+
+-- one slot more
+seat-more : (readers : List Reader) (f n : ℕ) → lastSeat readers f (n + 1) ≡ cond (reads f (readerIn readers n)) (n + 1) (lastSeat readers f n)
+unfolding lastSeat
+seat-more readers f n = rw (add-one n) refl
+
+-- ---- the array, slot by slot
+
+-- no slot
+pub seated-none : (readers : List Reader) → Seated readers 0 (replicate 56 0)
+unfolding lastSeat
+seated-none readers = record {
+  long = refl;
+  position = λ j u. absurd (omega arith);
+  pace = λ j u. absurd (omega arith);
+  next = λ j u. absurd (omega arith);
+  last = λ f u. same-at 56 (48 + f) 0;
+}
+
+module _ (readers : List Reader) (n : ℕ) (seats : List ℕ) (a : Seated readers n seats) where
+  -- slot n is empty
+  pub seated-empty : attached (readerIn readers n) ≡ false → Seated readers (n + 1) seats
+  seated-empty e = record {
+    long = a .long;
+    position = one-more (λ j. T (attached (readerIn readers j)) → getD seats j 0 ≡ readerIn readers j .position) n (a .position) (λ h. absurd (failed _ e h));
+    pace = one-more (λ j. T (attached (readerIn readers j)) → getD seats (16 + j) 0 ≡ readerIn readers j .pace) n (a .pace) (λ h. absurd (failed _ e h));
+    next = one-more (λ j. T (attached (readerIn readers j)) → getD seats (32 + j) 0 ≡ lastSeat readers (readerIn readers j .file) j) n (a .next) (λ h. absurd (failed _ e h));
+    last = λ f u. a .last f u ∙ sym (rw (seat-more readers f n, e) refl);
+  }
+
+  -- slot n has the reader r
+  module _ (l : n < 16) (r : Reader) (er : r ≡ readerIn readers n) (h : attached r ≡ true) (u : r .file < 8) where
+    abbrev one : List ℕ
+    one = set seats n (r .position)
+
+    abbrev two : List ℕ
+    two = set one (16 + n) (r .pace)
+
+    abbrev three : List ℕ
+    three = set two (32 + n) (getD two (48 + r .file) 0)
+
+    abbrev four : List ℕ
+    four = set three (48 + r .file) (n + 1)
+
+    kept : (i : ℕ) → i ≢ n → i ≢ 16 + n → i ≢ 32 + n → i ≢ 48 + r .file → getD four i 0 ≡ getD seats i 0
+    kept i p q v w = getD-set-other three (48 + r .file) i (n + 1) 0 w ∙ getD-set-other two (32 + n) i _ 0 v ∙ getD-set-other one (16 + n) i (r .pace) 0 q ∙ getD-set-other seats n i (r .position) 0 p
+
+    long : (length one ≡ 56) × (length two ≡ 56) × (length three ≡ 56) × (length four ≡ 56)
+    long =
+        let e = a .long in
+        (simp length-set e, simp length-set e, simp length-set e, simp length-set e)
+
+    position : getD four n 0 ≡ readerIn readers n .position
+    position = getD-set-other three (48 + r .file) n (n + 1) 0 (omega arith) ∙ getD-set-other two (32 + n) n _ 0 (omega arith) ∙ getD-set-other one (16 + n) n (r .pace) 0 (omega arith) ∙ getD-set-same seats n (r .position) 0 (omega (arith, a .long)) ∙ ap (λ r. r .position) er
+
+    pace : getD four (16 + n) 0 ≡ readerIn readers n .pace
+    pace = getD-set-other three (48 + r .file) (16 + n) (n + 1) 0 (omega arith) ∙ getD-set-other two (32 + n) (16 + n) _ 0 (omega arith) ∙ getD-set-same one (16 + n) (r .pace) 0 (omega (arith, long .0)) ∙ ap (λ r. r .pace) er
+
+    next : getD four (32 + n) 0 ≡ lastSeat readers (readerIn readers n .file) n
+    next = getD-set-other three (48 + r .file) (32 + n) (n + 1) 0 (omega arith) ∙ getD-set-same two (32 + n) _ 0 (omega (arith, long .1)) ∙ getD-set-other one (16 + n) (48 + r .file) (r .pace) 0 (omega arith) ∙ getD-set-other seats n (48 + r .file) (r .position) 0 (omega arith) ∙ a .last (r .file) u ∙ ap (λ r. lastSeat readers (r .file) n) er
+
+    -- the last slots: its file's is n, and any other's is as it was
+    last : (f : ℕ) → f < 8 → getD four (48 + f) 0 ≡ lastSeat readers f (n + 1)
+    last f v = rw (seat-more readers f n, ← er, h) (by (ℕ-discrete (r .file) f))
+      where
+        by : Dec (r .file ≡ f) → getD four (48 + f) 0 ≡ cond (eqb (r .file) f) (n + 1) (lastSeat readers f n)
+        by (yes e) = rw (eq-eqb (r .file) f e, ← e) (getD-set-same three (48 + r .file) (n + 1) 0 (omega (arith, long .2)))
+        by (no e) = rw (ne-eqb (r .file) f e) (kept (48 + f) (omega arith) (omega arith) (omega arith) (omega arith) ∙ a .last f v)
+
+    pub seated-reader : Seated readers (n + 1) four
+    seated-reader = record {
+      long = long .3;
+      position = one-more (λ j. T (attached (readerIn readers j)) → getD four j 0 ≡ readerIn readers j .position) n (λ j v t. kept j (omega arith) (omega arith) (omega arith) (omega arith) ∙ a .position j v t) (λ t. position);
+      pace = one-more (λ j. T (attached (readerIn readers j)) → getD four (16 + j) 0 ≡ readerIn readers j .pace) n (λ j v t. kept (16 + j) (omega arith) (omega arith) (omega arith) (omega arith) ∙ a .pace j v t) (λ t. pace);
+      next = one-more (λ j. T (attached (readerIn readers j)) → getD four (32 + j) 0 ≡ lastSeat readers (readerIn readers j .file) j) n (λ j v t. kept (32 + j) (omega arith) (omega arith) (omega arith) (omega arith) ∙ a .next j v t) (λ t. next);
+      last = last;
+    }

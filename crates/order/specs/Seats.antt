@@ -1,0 +1,31 @@
+-- What the sweeps read of the readers, in one array: positions, paces, and for each file its slots with a reader, chained. Assumes nothing: these are
+-- definitions.
+use Prim.Native.Nat.{ℕ, zero, suc, _+_, _<_}
+use mathlib.Core.Path.{_≡_}
+use mathlib.Core.Bool.{Bool, cond, _&&_}
+use mathlib.Core.List.{List}
+use lib.ListN.{getD, length}
+use lib.Dec.{T, eqb}
+use Rattle.rules.specs.Readers.{noReader, attached}
+use Rattle.rules.specs.declared.Reader.{Reader}
+
+-- the record of a slot
+abbrev pub readerIn : List Reader → ℕ → Reader
+readerIn readers j = getD readers j noReader
+
+-- a reader of file f
+abbrev pub reads : ℕ → Reader → Bool
+reads f r = attached r && eqb (r .file) f
+
+-- the last one of the first n slots with a reader of file f, counted from 1; 0 where there is none
+unfoldable pub lastSeat : List Reader → ℕ → ℕ → ℕ
+lastSeat readers f zero = 0
+lastSeat readers f (suc n) = cond (reads f (readerIn readers n)) (suc n) (lastSeat readers f n)
+
+-- the array has the first n slots
+pub record Seated (readers : List Reader) (n : ℕ) (seats : List ℕ) : Type 0 where
+  pub long : length seats ≡ 56
+  pub position : (j : ℕ) → j < n → T (attached (readerIn readers j)) → getD seats j 0 ≡ readerIn readers j .position
+  pub pace : (j : ℕ) → j < n → T (attached (readerIn readers j)) → getD seats (16 + j) 0 ≡ readerIn readers j .pace
+  pub next : (j : ℕ) → j < n → T (attached (readerIn readers j)) → getD seats (32 + j) 0 ≡ lastSeat readers (readerIn readers j .file) j
+  pub last : (f : ℕ) → f < 8 → getD seats (48 + f) 0 ≡ lastSeat readers f n
