@@ -11,6 +11,7 @@ ghost use mathlib.Core.Bool.{true};
 ghost use mathlib.Core.List.{List, map};
 ghost use Prim.Native.Nat.{ℕ, _≤_, _<_};
 ghost use lib.ListN.{getD};
+ghost use Rattle.bits.specs.Map.{ones};
 ghost use Rattle.rules.specs.Views.{stateOf, noPages, replyOf};
 ghost use Rattle.rules.specs.Lists.{within, every};
 ghost use Rattle.rules.specs.Pages.{fileOf, pageOf, keyOf};
@@ -32,7 +33,7 @@ ghost use Rattle.rules.specs.Calls.{
   lostOf,
   prefetchOf,
 };
-ghost use Rattle.order.specs.Choices.{chosen};
+ghost use Rattle.order.specs.Choices.{chosen, Housed};
 ghost use Rattle.calls.specs.Parts.{outcomeOf, refusal, noFileIn, noPageIn, Small, fetchRefusal, OthersStay, closed, InMap, eased, landedWith, arrivalOf};
 
 // ---- outcomes and refusals
@@ -413,12 +414,27 @@ pub fn arrival(gone: Choice) -> Answer
     }
 }
 
+// How many frames are taken. Only the pages that a file has are looked at.
+fn frames_taken(v: View, cached: &[u64; 128]) -> u32
+    requires { ⌜ ((file : ℕ) → getD (v .sizes) file 0 ≤ 1024) ⌝ }
+    requires { ⌜ Housed v (now cached) ⌝ }
+    ensures { λ r. ⌜ r ≡ ones (now (cached .entry)) 0 8192 ⌝ }
+{
+    let mut taken: u32 = 0;
+    let mut file: usize = 0;
+    while file < 8 {
+        taken += bits::count(cached, file * 1024, v.sizes[file] as usize);
+        file += 1;
+    }
+    taken
+}
+
 // The page that gives up its frame for one that arrives: where all frames are taken, the head of the steal order.
 fn give_up<'a>(v: View, cached: &'a [u64; 128], fetching: &'a [u64; 128]) -> Choice
     requires { ⌜ Valid (stateOf v (now cached) (now fetching)) ⌝ }
     ensures { λ r. ⌜ chosen r ≡ dropped (stateOf v (now (cached .entry)) (now (fetching .entry))) ⌝ }
 {
-    if bits::count(cached, 0, 8192) < v.frames as u32 {
+    if frames_taken(v, cached) < v.frames as u32 {
         return Choice::Nothing;
     }
     order::victim(v, cached, fetching)

@@ -9,16 +9,18 @@ use native.Mathlib.Omega.{arith}
 use types.Run.{OneOf, miss}
 use denote.Enum.Declared.{tagOf}
 use borrow.Rule.Slice.PartMut.{putMid}
-use borrow.Author.Tests.{eqb-true, eqb-false, ne-eqb, le-leb, leb-true, leb-false, ltb-false}
+use borrow.Author.Tests.{ne-eqb, le-leb, leb-true, leb-false, ltb-false}
 use lib.ListN.{length, take, drop, replicate, length-append, length-take, length-drop, drop-of-length-le}
 use lib.Seq.{slice, take-add, drop-at, length-take-le, take-all, drop-drop}
-use lib.Dec.{leb, eqb}
+use lib.Dec.{leb}
 use Rattle.rules.specs.Lists.{each}
+use Rattle.rules.specs.Views.{stateOf}
 use Rattle.rules.specs.Valid.{Valid}
 use Rattle.rules.specs.Calls.{refused, idle}
 use Rattle.rules.specs.Image.{imageOf, restoreOf}
 use Rattle.rules.specs.Lines.{split, told, respondOf, linesOf, answers, programOf}
 use Rattle.rules.specs.declared.State.{State}
+use Rattle.rules.specs.declared.View.{View}
 use Rattle.rules.specs.declared.Reply.{Reply}
 use Rattle.rules.specs.declared.Answer.{Answer}
 use Rattle.rules.specs.declared.Answer.the-variants.{Refused, Done}
@@ -35,8 +37,9 @@ use Rattle.text.proofs.Puts.{written-none, put-more}
 use Rattle.text.proofs.Keeps.{stands-short, stands-long}
 use Rattle.text.proofs.Feeds.{OnePiece, split-whole, feed-part, feed-line, feed-one, feed-none, none-one, long-refused, fed-whole}
 use Rattle.text.proofs.Chunks.{Holds, holds-none, cut-text, cut-rest}
-use Rattle.lines.specs.Responses.{Roomy, lineEnd, Answered, Gives}
-use Rattle.lines.specs.Sessions.{Session, Stepped, StandsAt, Answers, stepOf, addedBy, Steps, Grown, Moves, StandsIn, Feeds, lastOf, Finishes}
+use Rattle.lines.specs.Responses.{Roomy, lineEnd, Answered, saidOf, Gives}
+use Rattle.lines.specs.Sessions.{Session, Stepped, sessionOf, StandsAt, Answers, stepOf, addedBy, Steps, Grown, Moves, StandsIn, Feeds, lastOf, Finishes}
+use Rattle.lines.specs.declared.Said.{Said}
 use Rattle.lines.specs.declared.Progress.{Progress}
 use Rattle.lines.proofs.Kept.{respond-kept}
 use Rattle.lines.proofs.Replies.{others}
@@ -169,6 +172,11 @@ module _ (f : Fed) (chunk : List ℕ) (from : ℕ) where
       let past : length chunk ≤ next = omega (arith, length-drop from chunk) in
       rw (t, drop-of-length-le chunk past) (last ∙ ap (λ g. feed g []) part))
 
+-- where no line ends it adds nothing
+part-none : (f : Fed) (chunk : List ℕ) (from : ℕ) → hasEnd (drop from chunk) ≡ false → addedBy f chunk from ≡ []
+unfolding addedBy
+part-none f chunk from e = rw e
+
 -- a step takes some of the chunk
 pub step-on : (chunk : List ℕ) (from next : ℕ) → next ≡ from + length (lineIn (drop from chunk)) + passed (hasEnd (drop from chunk)) → from < length chunk → from < next
 step-on chunk from next e h =
@@ -193,72 +201,140 @@ module _ (m part : List ℕ) (at len : ℕ) (bytes : List ℕ) (inside : at ≤ 
       let behind : part ≡ bytes ++ drop (at + length bytes) m = p .buffer ∙ rw (whole, drop-drop, sums) in
       record { buffer = rw (none, append-nil) (ap (λ l. take at m ++ l) behind); place = omega (arith, p .place) }
 
--- a session has come so far in a chunk
-pub record Reached (session : Session) (chunk : List ℕ) (from : ℕ) (before out : List ℕ) (at : Session) (next len : ℕ) : Type 0 where
-  pub grown : (f : Fed) → StandsAt session f → (g : Grown f chunk from before out next len) × StandsAt at (g .to)
-  pub moved : from ≤ next
-  pub fresh : next ≡ from → len ≡ 0
-  pub fits : len ≤ length before
-  pub same : length out ≡ length before
-  pub valid : Valid (at .state)
-
--- at first
-pub reached-none : (session : Session) (chunk : List ℕ) (from : ℕ) (out : List ℕ) → Valid (session .state) → Reached session chunk from out out session from 0
-reached-none session chunk from out v =
+-- no step
+pub moves-none : (session : Session) (chunk : List ℕ) (from : ℕ) (out : List ℕ) → Valid (session .state) → Moves session chunk from out out (record { session = session; next = from; len = 0 })
+moves-none session chunk from out v =
     record {
       grown = λ f at. (record { to = f; added = []; output = sym (append-nil (f .output)); put = put-none out; rest = refl }, at);
       moved = omega arith;
-      fresh = λ _. refl;
       fits = omega arith;
       same = refl;
       valid = v;
     }
 
-module _ (session : Session) (chunk : List ℕ) (from : ℕ) (before out : List ℕ) (at : Session) (next len : ℕ) (k : Reached session chunk from before out at next len) where
-  -- one step more
-  pub reached-step : (part : List ℕ) (r : Stepped) → next < length chunk → length (putMid len (length out - len) out part) ≡ length out
-      → Steps at chunk next (take (length out - len) (drop len out)) part r
-      → Reached session chunk from before (putMid len (length out - len) out part) (r .session) (r .next) (len + r .len)
-  reached-step part r h same s =
-      let on = step-on chunk next (r .next) (s .next) h in
+-- one step
+pub moves-step : (session : Session) (chunk : List ℕ) (from : ℕ) (before after : List ℕ) (r : Stepped) → length after ≡ length before → Steps session chunk from before after r
+    → Moves session chunk from before after r
+moves-step session chunk from before after r same s =
+    record {
+      grown = λ f at. (
+        record {
+          to = stepOf f chunk from;
+          added = addedBy f chunk from;
+          output = step-output f chunk from;
+          put = s .put f at;
+          rest = step-rest f chunk from (at .text .one) (r .next) (s .next);
+        },
+        s .stands f at,
+      );
+      moved = omega (arith, s .next);
+      fits = s .fits;
+      same = same;
+      valid = s .valid;
+    }
+
+module _ (session : Session) (chunk : List ℕ) (from : ℕ) (before out : List ℕ) (at : Session) (next len : ℕ)
+    (k : Moves session chunk from before out (record { session = at; next = next; len = len })) where
+  -- some steps, and then some
+  pub moves-on : (part : List ℕ) (r : Stepped) → length (putMid len (length out - len) out part) ≡ length out
+      → Moves at chunk next (take (length out - len) (drop len out)) part r
+      → Moves session chunk from before (putMid len (length out - len) out part) (record { session = r .session; next = r .next; len = len + r .len })
+  moves-on part r same m =
       let low : len ≤ length out = omega (arith, k .fits, k .same) in
-      let room : len + r .len ≤ length before = omega (arith, s .fits, length-take (length out - len) (drop len out), length-drop len out, k .same, low) in
+      let room : len + r .len ≤ length before = omega (arith, m .fits, length-take (length out - len) (drop len out), length-drop len out, k .same, low) in
+      record {
+        grown = λ f start.
+            let g = k .grown f start .0 in
+            let h = m .grown (g .to) (k .grown f start .1) in
+            let p = put-behind out part len (r .len) (h .0 .added) low (h .0 .put) in
+            let fit : 0 + length (g .added) + length (h .0 .added) ≤ length before = omega (arith, g .put .place, h .0 .put .place, room) in (
+              record {
+                to = h .0 .to;
+                added = g .added ++ h .0 .added;
+                output = h .0 .output ∙ ap (λ l. l ++ h .0 .added) (g .output) ∙ append-assoc (f .output) (g .added) (h .0 .added);
+                put = put-more before out (putMid len (length out - len) out part) 0 len (len + r .len) (g .added) (h .0 .added) (g .put) p fit;
+                rest = g .rest ∙ h .0 .rest;
+              },
+              h .1,
+            );
+        moved = omega (arith, k .moved, m .moved);
+        fits = room;
+        same = same ∙ k .same;
+        valid = m .valid;
+      }
+
+  -- and what follows the last line end is pending
+  pub moves-cut : (c : Taken) → CutAs (at .pending) chunk next c → c .ended ≡ false
+      → Moves session chunk from before out (record { session = record { state = at .state; pending = c .pending }; next = c .next; len = len })
+  moves-cut c cut e =
+      let s = step-part at chunk next c cut [] (k .valid) e in
       record {
         grown = λ f start.
             let g = k .grown f start .0 in
             let stands = k .grown f start .1 in
-            let bytes = addedBy (g .to) chunk next in
-            let p = put-behind out part len (r .len) bytes low (s .put (g .to) stands) in
-            let fit : 0 + length (g .added) + length bytes ≤ length before = omega (arith, g .put .place, s .put (g .to) stands .place, room) in (
+            let none : addedBy (g .to) chunk next ≡ [] = part-none (g .to) chunk next (sym (cut .ended) ∙ e) in (
               record {
                 to = stepOf (g .to) chunk next;
-                added = g .added ++ bytes;
-                output = step-output (g .to) chunk next ∙ rw (g .output, append-assoc);
-                put = put-more before out (putMid len (length out - len) out part) 0 len (len + r .len) (g .added) bytes (g .put) p fit;
-                rest = g .rest ∙ step-rest (g .to) chunk next (stands .text .one) (r .next) (s .next);
+                added = g .added;
+                output = step-output (g .to) chunk next ∙ ap (λ l. g .to .output ++ l) none ∙ append-nil (g .to .output) ∙ g .output;
+                put = g .put;
+                rest = g .rest ∙ step-rest (g .to) chunk next (stands .text .one) (c .next) (s .next);
               },
               s .stands (g .to) stands,
             );
-        moved = omega (arith, k .moved);
-        fresh = λ e. let z : ⊥ = omega (arith, k .moved) in absurd z;
-        fits = room;
-        same = same ∙ k .same;
-        valid = s .valid;
+        moved = omega (arith, k .moved, s .next);
+        fits = k .fits;
+        same = k .same;
+        valid = k .valid;
       }
 
-  -- the chunk is used up
-  pub reached-end : length chunk ≤ next → Moves session chunk from before out (record { session = at; next = next; len = len })
-  reached-end h = record { grown = k .grown; on = λ _ l. omega arith; fits = k .fits; valid = k .valid }
+-- ---- lines that stand whole in a chunk
 
-  -- the buffer is
-  pub reached-full : length out - len < 57351 → Moves session chunk from before out (record { session = at; next = next; len = len })
-  reached-full h = record { grown = k .grown; on = λ room _. on room; fits = k .fits; valid = k .valid }
-    where
-      on : Roomy before → from < next
-      on room =
-          by-test (eqb next from)
-          (λ t. let z : ⊥ = omega (arith, k .fresh (eqb-true _ _ t), k .same) in absurd z)
-          (λ t. let n = eqb-false next from t in omega (arith, k .moved))
+-- a part that was lent and came back has its length
+mid-length : (out part : List ℕ) (len : ℕ) → len ≤ length out → length (putMid len (length out - len) out part) ≡ length out → length part ≡ length (take (length out - len) (drop len out))
+mid-length out part len low same =
+    let past : length (drop len out) ≤ length out - len = omega (arith, length-drop len out) in
+    let none : drop (length out - len) (drop len out) ≡ [] = drop-of-length-le (drop len out) past in
+    let sum : length (take len out) + (length part + 0) ≡ length out = rw (none, length-append, length-append) at same in
+    omega (arith, length-take-le len out low, length-take-le (length out - len) (drop len out) (omega (arith, length-drop len out)), length-drop len out)
+
+-- some were answered: so far whatever text without a byte was pending
+pub record WentOn (v : View) (cached fetching chunk : List ℕ) (from : ℕ) (before out : List ℕ) (w : View) (left still : List ℕ) (next len stop : ℕ) : Type 0 where
+  pub moves : (p : Pending) → p .len ≡ 0 → Moves (sessionOf v cached fetching p) chunk from before out (record { session = sessionOf w left still p; next = next; len = len })
+  pub ends : EndsAt chunk next stop
+
+-- there is such a text
+pub went-at : (v : View) (cached fetching chunk : List ℕ) (from : ℕ) (before out : List ℕ) (w : View) (left still : List ℕ) (next len stop : ℕ)
+    → WentOn v cached fetching chunk from before out w left still next len stop
+    → Moves (sessionOf v cached fetching (record { bytes = []; len = 0 })) chunk from before out (record { session = sessionOf w left still (record { bytes = []; len = 0 }); next = next; len = len })
+went-at v cached fetching chunk from before out w left still next len stop k = k .moves (record { bytes = []; len = 0 }) refl
+
+-- none yet
+pub went-none : (v : View) (cached fetching chunk : List ℕ) (from : ℕ) (out : List ℕ) (stop : ℕ) → Valid (stateOf v cached fetching) → EndsAt chunk from stop
+    → WentOn v cached fetching chunk from out out v cached fetching from 0 stop
+went-none v cached fetching chunk from out stop valid ends = record { moves = λ p _. moves-none (sessionOf v cached fetching p) chunk from out valid; ends = ends }
+
+module _ (v : View) (cached fetching chunk : List ℕ) (from : ℕ) (before out : List ℕ) (w : View) (left still : List ℕ) (next len stop : ℕ)
+    (k : WentOn v cached fetching chunk from before out w left still next len stop) (inside : stop < length chunk) where
+  -- one more
+  pub went-more : (part : List ℕ) (a : Said) (after opened : List ℕ) (to : ℕ) → Gives (respondOf (stateOf w left still) (take (stop - next) (drop next chunk))) (take (length out - len) (drop len out)) part (saidOf a after opened)
+      → length (putMid len (length out - len) out part) ≡ length out → EndsAt chunk (stop + 1) to
+      → WentOn v cached fetching chunk from before (putMid len (length out - len) out part) (a .view) after opened (stop + 1) (len + a .len) to
+  went-more part a after opened to g same ends =
+      let m = went-at v cached fetching chunk from before out w left still next len stop k in
+      let low : len ≤ length out = omega (arith, m .fits, m .same) in
+      let whole = mid-length out part len low same in
+      record {
+        moves = λ p none.
+            moves-on (sessionOf v cached fetching p) chunk from before out (sessionOf w left still p) next len (k .moves p none) part
+            (record { session = sessionOf (a .view) after opened p; next = stop + 1; len = a .len }) same
+            (moves-step (sessionOf w left still p) chunk next _ part _ whole (step-whole (sessionOf w left still p) chunk next stop none (k .ends) inside _ part (saidOf a after opened) (m .valid) whole g));
+        ends = ends;
+      }
+
+  -- the next line is further on
+  pub went-far : next ≤ stop
+  went-far = omega (arith, k .ends .long inside)
 
 -- ---- on an image
 
@@ -293,17 +369,28 @@ module _ (image : List ℕ) (r : Reply) (restored : r ≡ restoreOf image) where
 
   -- lines taken of a chunk, and the image of the state after them
   pub feed-moved : (pending : Pending) (chunk : List ℕ) (from : ℕ) (before left after : List ℕ) (at : Session) (next len : ℕ)
-      → (restoreOf image .answer ≡ Done) → Moves (record { state = r .state; pending = pending }) chunk from before left (record { session = at; next = next; len = len })
-      → after ≡ imageOf (at .state) → Feeds image pending chunk from before after left (record { pending = at .pending; next = next; len = len })
-  feed-moved pending chunk from before left after at next len done m saved =
+      → restoreOf image .answer ≡ Done → Roomy before → Moves (record { state = r .state; pending = pending }) chunk from before left (record { session = at; next = next; len = len })
+      → (from < length chunk → from < next) → after ≡ imageOf (at .state) → Feeds image pending chunk from before after left (record { pending = at .pending; next = next; len = len })
+  feed-moved pending chunk from before left after at next len done room m on saved =
       record {
         grown = λ f in-it.
             let g = m .grown f (record { state = state-in pending f in-it; text = in-it .text }) in
             (g .0, record { valid = rw (← g .1 .state) (m .valid); image-is = saved ∙ ap imageOf (g .1 .state); text = g .1 .text });
-        on = λ f in-it. m .on;
+        on = λ _ _ _. on;
         fits = m .fits;
-        refused = λ no. absurd (no done);
+        refused = λ no. absurd (no (done, room));
       }
+
+-- a buffer too short for any answer
+pub feed-short : (image : List ℕ) (pending : Pending) (chunk : List ℕ) (from : ℕ) (out : List ℕ) → length out < 57351
+    → Feeds image pending chunk from out image out (record { pending = pending; next = from; len = 0 })
+feed-short image pending chunk from out h =
+    record {
+      grown = λ f at. (record { to = f; added = []; output = sym (append-nil (f .output)); put = put-none out; rest = refl }, at);
+      on = λ _ _ room _. let z : ⊥ = omega arith in absurd z;
+      fits = omega arith;
+      refused = λ _. (refl, refl, refl);
+    }
 
 -- ---- from the first byte to the last
 

@@ -18,6 +18,7 @@ use Rattle.text.specs.declared.Pending.{Pending}
 use Rattle.text.proofs.Chunks.{Holds}
 use Rattle.lines.specs.Responses.{Roomy, lineEnd, Answered, Gives}
 use Rattle.lines.specs.declared.Moved.{Moved}
+use Rattle.lines.specs.declared.Went.{Went}
 use Rattle.lines.specs.declared.Progress.{Progress}
 
 -- ---- the state and the text in hand
@@ -80,9 +81,16 @@ pub record Grown (f : Fed) (chunk : List ℕ) (from : ℕ) (before after : List 
 -- steps from a place of a chunk on
 pub record Moves (session : Session) (chunk : List ℕ) (from : ℕ) (before after : List ℕ) (r : Stepped) : Type 0 where
   pub grown : (f : Fed) → StandsAt session f → (g : Grown f chunk from before after (r .next) (r .len)) × StandsAt (r .session) (g .to)
-  pub on : Roomy before → from < length chunk → from < r .next
+  pub moved : from ≤ r .next
   pub fits : r .len ≤ length before
+  pub same : length after ≡ length before
   pub valid : Valid (r .session .state)
+
+-- lines that stand whole in a chunk, where no text is pending
+abbrev pub GoesOn : View → List ℕ → List ℕ → List ℕ → ℕ → List ℕ → List ℕ → List ℕ → List ℕ → Went → Type 0
+GoesOn v cached fetching chunk from before after left still r =
+    (p : Pending) → p .len ≡ 0
+    → Moves (sessionOf v cached fetching p) chunk from before after (record { session = sessionOf (r .view) left still p; next = r .next; len = r .len })
 
 -- ---- the state in an image
 
@@ -92,12 +100,12 @@ pub record StandsIn (image : List ℕ) (pending : Pending) (f : Fed) : Type 0 wh
   pub image-is : image ≡ imageOf (f .state)
   pub text : Holds pending f
 
--- what is done with a chunk from a place on: an image that Restore refuses, and the buffer, are left
+-- what is done with a chunk from a place on. Where Restore refuses the image, or the buffer has no room for any answer, all is left.
 pub record Feeds (image : List ℕ) (pending : Pending) (chunk : List ℕ) (from : ℕ) (before after left : List ℕ) (r : Progress) : Type 0 where
   pub grown : (f : Fed) → StandsIn image pending f → (g : Grown f chunk from before left (r .next) (r .len)) × StandsIn after (r .pending) (g .to)
   pub on : (f : Fed) → StandsIn image pending f → Roomy before → from < length chunk → from < r .next
   pub fits : r .len ≤ length before
-  pub refused : (restoreOf image .answer ≡ Done → ⊥) → (after ≡ image) × (left ≡ before) × (r ≡ record { pending = pending; next = from; len = 0 })
+  pub refused : ((restoreOf image .answer ≡ Done) × Roomy before → ⊥) → (after ≡ image) × (left ≡ before) × (r ≡ record { pending = pending; next = from; len = 0 })
 
 -- what is answered at the end of the input: a text that is not empty is one last line
 unfoldable pub lastOf : Fed → List ℕ
@@ -107,4 +115,4 @@ lastOf f = answers (f .state) (linesOf (f .text ∷ []))
 pub record Finishes (image : List ℕ) (pending : Pending) (before after left : List ℕ) (len : ℕ) : Type 0 where
   pub put : (f : Fed) → StandsIn image pending f → Roomy before → Put before 0 (lastOf f) left len
   pub fits : len ≤ length before
-  pub refused : (restoreOf image .answer ≡ Done → ⊥) → (after ≡ image) × (left ≡ before) × (len ≡ 0)
+  pub refused : ((restoreOf image .answer ≡ Done) × Roomy before → ⊥) → (after ≡ image) × (left ≡ before) × (len ≡ 0)

@@ -18,7 +18,7 @@ ghost use Rattle.rules.specs.Image.{imageOf};
 ghost use Rattle.rules.specs.Lines.{lineOf, answerLine, orderLine, clustersLine, told, toldSetup, shown, obeyed, respondOf};
 ghost use Rattle.text.specs.Written.{fieldOf, Put};
 ghost use Rattle.lines.specs.Responses.{Roomy, lineEnd, countIn, orderOf, Front, clustersShown, saidOf, Gives};
-ghost use Rattle.lines.specs.Sessions.{sessionOf, steppedOf, Answers, Steps, Moves, Feeds, Finishes};
+ghost use Rattle.lines.specs.Sessions.{sessionOf, steppedOf, Answers, Steps, Moves, GoesOn, Feeds, Finishes};
 
 // A line's answer: the view after it, and how many bytes were written.
 struct Said {
@@ -34,7 +34,14 @@ struct Moved {
     len: usize,
 }
 
-// The same where the box is an image.
+// The view after some lines that stood whole in a chunk, the place after them, and how many bytes of answers were written.
+struct Went {
+    view: View,
+    next: usize,
+    len: usize,
+}
+
+// How far a chunk is taken where the box is an image: the text since the last line end, the place, and how many bytes of answers were written.
 pub struct Progress {
     pub pending: Pending,
     pub next: usize,
@@ -441,7 +448,7 @@ fn respond_to(
 }
 
 // Takes bytes of the chunk from `from` on, to the first line end or all, behind a pending text; a line that ends is answered.
-fn step_on(
+fn step(
     v: View,
     cached: &mut [u64; 128],
     fetching: &mut [u64; 128],
@@ -476,8 +483,36 @@ fn step_on(
     }
 }
 
-// The same: a line that stands whole in the chunk is answered where it stands.
-fn step(
+// Answers the lines that stand whole in the chunk from `from` on, where they stand, as long as there is room for one more answer.
+fn go_lines(
+    v: View,
+    cached: &mut [u64; 128],
+    fetching: &mut [u64; 128],
+    chunk: &[u8],
+    from: usize,
+    out: &mut [u8],
+) -> Went
+    requires { ⌜ Valid (stateOf v (now cached) (now fetching)) ⌝ }
+    ensures { λ r.
+        ⌜ GoesOn v (now (cached .entry)) (now (fetching .entry)) (now (chunk .entry)) from (now (out .entry)) (now (out .exit)) (now (cached .exit)) (now (fetching .exit)) r ⌝ }
+{
+    let mut w = v;
+    let mut next = from;
+    let mut len: usize = 0;
+    let mut end = text::line_end(chunk, from);
+    while end < chunk.len() && ROOM <= out.len() - len {
+        let a = respond(w, cached, fetching, &chunk[next..end], &mut out[len..]);
+        w = a.view;
+        next = end + 1;
+        len += a.len;
+        end = text::line_end(chunk, next);
+    }
+    Went { view: w, next, len }
+}
+
+// Takes lines of the chunk from `from` on, as long as there is room for one more answer: the first with the pending text, then those that stand whole
+// in the chunk. What follows the last of them is pending.
+fn go_through(
     v: View,
     cached: &mut [u64; 128],
     fetching: &mut [u64; 128],
@@ -489,61 +524,33 @@ fn step(
     requires { ⌜ Valid (stateOf v (now cached) (now fetching)) ⌝ }
     requires { ⌜ Roomy (now out) ⌝ }
     ensures { λ r.
-        ⌜ Steps (sessionOf v (now (cached .entry)) (now (fetching .entry)) pending) (now (chunk .entry)) from (now (out .entry)) (now (out .exit)) (steppedOf r (now (cached .exit)) (now (fetching .exit))) ⌝ }
-{
-    if pending.len == 0 {
-        let end = text::line_end(chunk, from);
-        if end < chunk.len() {
-            let a = respond(v, cached, fetching, &chunk[from..end], out);
-            let view = a.view;
-            return Moved {
-                view,
-                pending,
-                next: end + 1,
-                len: a.len,
-            };
-        }
-    }
-    step_on(v, cached, fetching, pending, chunk, from, out)
-}
-
-// Takes lines of the chunk from `from` on, as long as there is room for one more answer.
-fn go_through(
-    v: View,
-    cached: &mut [u64; 128],
-    fetching: &mut [u64; 128],
-    pending: Pending,
-    chunk: &[u8],
-    from: usize,
-    out: &mut [u8],
-) -> Moved
-    requires { ⌜ Valid (stateOf v (now cached) (now fetching)) ⌝ }
-    ensures { λ r.
         ⌜ Moves (sessionOf v (now (cached .entry)) (now (fetching .entry)) pending) (now (chunk .entry)) from (now (out .entry)) (now (out .exit)) (steppedOf r (now (cached .exit)) (now (fetching .exit))) ⌝ }
+    ensures on { λ r. ⌜ (from < length (now (chunk .entry)) → from < r .next) ⌝ }
 {
-    let mut w = v;
-    let mut text = pending;
-    let mut next = from;
-    let mut len: usize = 0;
-    while next < chunk.len() {
-        if out.len() - len < ROOM {
-            return Moved {
-                view: w,
-                pending: text,
-                next,
-                len,
-            };
-        }
-        let r = step(w, cached, fetching, text, chunk, next, &mut out[len..]);
-        w = r.view;
-        text = r.pending;
-        next = r.next;
-        len += r.len;
+    let first = step(v, cached, fetching, pending, chunk, from, out);
+    let text = first.pending;
+    if text.len != 0 {
+        return first;
     }
+    let view = first.view;
+    let start = first.len;
+    let rest = go_lines(view, cached, fetching, chunk, first.next, &mut out[start..]);
+    let view = rest.view;
+    let len = start + rest.len;
+    let left = text::cut(text, chunk, rest.next);
+    if left.ended {
+        return Moved {
+            view,
+            pending: text,
+            next: rest.next,
+            len,
+        };
+    }
+    let pending = left.pending;
     Moved {
-        view: w,
-        pending: text,
-        next,
+        view,
+        pending,
+        next: left.next,
         len,
     }
 }
@@ -561,7 +568,8 @@ pub fn idle_image() -> [u8; 2208]
     image
 }
 
-// Takes lines of the chunk from `from` on, as long as there is room for one more answer. An image that Restore refuses takes none.
+// Takes lines of the chunk from `from` on, as long as there is room for one more answer. With an image that Restore refuses, or a buffer too short for
+// any answer, none is taken.
 pub fn feed(
     image: &mut [u8],
     pending: Pending,
@@ -571,6 +579,13 @@ pub fn feed(
 ) -> Progress
     ensures { λ r. ⌜ Feeds (now (image .entry)) pending (now (chunk .entry)) from (now (out .entry)) (now (image .exit)) (now (out .exit)) r ⌝ }
 {
+    if out.len() < ROOM {
+        return Progress {
+            pending,
+            next: from,
+            len: 0,
+        };
+    }
     let mut cached = [0u64; 128];
     let mut fetching = [0u64; 128];
     let restored = image::restore(image, &mut cached, &mut fetching);

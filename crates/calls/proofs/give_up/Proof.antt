@@ -1,10 +1,11 @@
 use borrow.Author.Needs.{needs}
+use Rattle.order.proofs.Ranges.{valid-housed}
 use Rattle.calls.proofs.Frames.{free-none, taken-victim}
 use Rattle.calls.proofs.give_up.Statement.{statement}
 use Rattle.calls.proofs.give_up.Tie as tie
 
-count-requires : tie.Need-count-requires
-count-requires c κs = search needs
+frames-taken-requires : tie.Need-frames-taken-requires
+frames-taken-requires c κs = (c .pre .sizes-high, valid-housed _ _ _ (c .pre))
 
 cast-if1 : tie.Need-cast-if1
 cast-if1 c = search needs
@@ -19,4 +20,5 @@ returns-2 : tie.Need-returns-2
 returns-2 c = rw (c .victim .ensures) (search (taken-victim, needs))
 
 pub give-up-spec : {M : Type 1} → statement M
-give-up-spec = tie.close (tie.spec count-requires cast-if1 returns victim-requires returns-2)
+give-up-spec =
+    tie.close (tie.spec frames-taken-requires cast-if1 returns victim-requires returns-2)
