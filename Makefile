@@ -28,7 +28,7 @@ lib:
 # the C entries and the program beside the checker's own, in one run
 bench: lib program
 	@cd checker && cargo build --offline --quiet --release --bin lines
-	@cd checker && QUAY_LIB=../$(LIB) QUAY_PROGRAM=../$(QUAY) cargo run --offline --quiet --release --features box --bin bench
+	@cd checker && QUAY_LIB=../$(LIB) QUAY_PROGRAM=../$(QUAY) cargo run --offline --quiet --release --features box --bin bench | tee ../docs/PERFORMANCE.md
 
 install: lib program
 	install -d $(DESTDIR)$(PREFIX)/bin $(DESTDIR)$(PREFIX)/lib/pkgconfig $(DESTDIR)$(PREFIX)/include $(DESTDIR)$(PREFIX)/share/man/man1

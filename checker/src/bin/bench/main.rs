@@ -30,8 +30,20 @@ struct Case {
 }
 
 fn main() {
-    println!("## Calls\n");
+    println!("# What the box costs\n");
+    println!(
+        "Written by `make bench` on {}. Read the ratios, which are of one run;",
+        machine()
+    );
+    println!("the nanoseconds are this machine's, and change with what else it does.\n");
+    println!("`quick` is the checker's plain version, built for release: it walks every look-ahead once into an array of");
+    println!("numbers, without sets and without an allocation. The box is its C entries. Both restore the image, carry the call");
+    println!("out and save it, on the same images. Readers have pace 10 and files 1,024 pages, so that L 10240 reaches a file's end.\n");
+    println!("## Calls, with a look-ahead that reaches the files' ends\n");
     table(&calls());
+    println!("\n## The same, with a look-ahead that ends early\n");
+    println!("Quick's cost is its walk: with less to walk it comes nearer. The box walks no look-ahead, and costs what it did.\n");
+    table(&short_calls());
     println!("\n## Arrive that steals, by frames (16 readers, 8 files, L 10240, T 0)\n");
     let by_frames = [64, 128, 256, 512, 1_024].map(|frames| {
         let name = format!("frames: {frames}");
@@ -45,26 +57,24 @@ fn main() {
     });
     table(&by_readers);
     println!("\n## Lines through pipes\n");
+    println!("The program `quay` beside `lines`, the checker's own on quick's state, from start to end through the same pipes.\n");
     lines::table();
+}
+
+/// The processor and how many there are, as the system names them.
+fn machine() -> String {
+    let processors = std::fs::read_to_string("/proc/cpuinfo").unwrap_or_default();
+    let mut names = processors
+        .lines()
+        .filter(|line| line.starts_with("model name"))
+        .filter_map(|line| line.split(':').nth(1));
+    let name = names.next().unwrap_or("an unnamed processor").trim();
+    format!("{name}, {} of them", names.count() + 1)
 }
 
 /// Every call, with 1,024 frames unless said.
 fn calls() -> Vec<Case> {
-    let mut cases = Vec::new();
-    let ticks = [
-        (10_240, 0),
-        (2_000_000, 0),
-        (1_000, 0),
-        (10_240, 100),
-        (1_000, 50),
-    ];
-    // One file alone has not enough pages to fill 1,024 frames.
-    for (files, placed, frames) in [(8, "8 files", 1_024), (1, "one file", 768)] {
-        for (l, t) in ticks {
-            let name = format!("Arrive that steals, 16 readers on {placed}, L {l}, T {t}");
-            cases.push(arrive(name, busy(16, files, frames, l, t)));
-        }
-    }
+    let mut cases = arrivals(&[(10_240, 0), (2_000_000, 0), (10_240, 1), (2_000_000, 100)]);
     let image = busy(16, 8, 1_024, 10_240, 0).image();
     for (name, call) in [
         ("Steal", Call::Steal),
@@ -75,19 +85,39 @@ fn calls() -> Vec<Case> {
         let (name, image) = (name.to_string(), image.clone());
         cases.push(Case { name, image, call });
     }
-    for (frames, l, t) in [
-        (64, 10_240, 0),
-        (1_024, 10_240, 0),
-        (64, 1_000, 50),
-        (1_024, 1_000, 50),
-    ] {
-        cases.push(Case {
-            name: format!("Run of 16384 turns, {frames} frames, L {l}, T {t}"),
-            image: seated(16, 8, frames, l, t).image(),
-            call: Call::Run { turns: MOST_TURNS },
-        });
+    cases.extend(runs(10_240, 0));
+    cases.extend(runs(2_000_000, 100));
+    cases
+}
+
+/// Those in which a walk ends early: after 100 pages, or after so many missing
+/// ones as T allows.
+fn short_calls() -> Vec<Case> {
+    let mut cases = arrivals(&[(10_240, 100), (1_000, 0), (1_000, 50)]);
+    cases.extend(runs(1_000, 50));
+    cases
+}
+
+/// An arrival that steals, for each L and T on 8 files and on one, which alone
+/// has not enough pages to fill 1,024 frames.
+fn arrivals(ticks: &[(u64, u64)]) -> Vec<Case> {
+    let mut cases = Vec::new();
+    for (files, placed, frames) in [(8, "8 files", 1_024), (1, "one file", 768)] {
+        for &(l, t) in ticks {
+            let name = format!("Arrive that steals, 16 readers on {placed}, L {l}, T {t}");
+            cases.push(arrive(name, busy(16, files, frames, l, t)));
+        }
     }
     cases
+}
+
+/// A run, with few frames and with many.
+fn runs(l: u64, t: u64) -> [Case; 2] {
+    [64, 1_024].map(|frames| Case {
+        name: format!("Run of {MOST_TURNS} turns, {frames} frames, L {l}, T {t}"),
+        image: seated(16, 8, frames, l, t).image(),
+        call: Call::Run { turns: MOST_TURNS },
+    })
 }
 
 /// Readers of pace 10 over so many files of 1,024 pages, a second and later
