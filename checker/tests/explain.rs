@@ -34,18 +34,18 @@ File 2, 4 pages
 ^ the last page read, with its reader's slot, w if it waits
 
 Steal order, 6 in all, the first is the next to be dropped
-  place  file  page  stretch                           use time  slot  seat distance
-      1     0     1  no reader still has it before it
-      2     0     6  ahead, but in no look-ahead
-      3     0     5  in a look-ahead                         30     0
-      4     0     4  in a look-ahead                         20     0
-      5     0     2  in a look-ahead                         10     1              1
-      6     0     3  in a look-ahead                         10     0              0
+  place  file  page  list                              use time  slot  seat distance
+      1     0     1  behind last: no reader needs it
+      2     0     6  not seen: in no look-ahead
+      3     0     5  use time: in a look-ahead               30     0
+      4     0     4  use time: in a look-ahead               20     0
+      5     0     2  use time: in a look-ahead               10     1              1
+      6     0     3  use time: in a look-ahead               10     0              0
 
 Fetch order, 2 in all, the first is the next to be fetched early
-  place  file  page  stretch                           use time  slot  seat distance
-      1     2     2  in a look-ahead                         20    12
-      2     2     3  in a look-ahead                         30    12
+  place  file  page  list                              use time  slot  seat distance
+      1     2     2  use time: in a look-ahead               20    12
+      2     2     3  use time: in a look-ahead               30    12
 
 The seat distance is shown where use times are equal: there it decides.
 ";

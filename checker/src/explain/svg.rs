@@ -26,7 +26,7 @@ const STEAL_COLUMNS: [(&str, usize); 7] = [
     ("place", 40),
     ("file", 80),
     ("page", 125),
-    ("stretch", 145),
+    ("list", 145),
     ("use time", 420),
     ("slot", 460),
     ("seat distance", 560),
@@ -202,7 +202,7 @@ impl Sheet {
 
     /// A number ends where its column does; the words of a stretch start there.
     fn cell(&mut self, class: &str, left: usize, head: &str, at: usize, text: &str) {
-        let side = if head == "stretch" { "" } else { " number" };
+        let side = if head == "list" { "" } else { " number" };
         if !text.is_empty() {
             self.text(&format!("{class}{side}"), left + at, text);
         }
@@ -219,7 +219,7 @@ fn cell_text(row: &Row, head: &str) -> String {
         "place" => row.place.to_string(),
         "file" => row.page.file.to_string(),
         "page" => row.page.number.to_string(),
-        "stretch" => row.stretch.words().to_string(),
+        "list" => row.stretch.words().to_string(),
         "use time" => read(|read| Some(read.time)),
         "slot" => read(|read| Some(read.slot)),
         _ => read(|read| read.seat_in_tie),

@@ -16,12 +16,12 @@ pub enum Stretch {
 }
 
 impl Stretch {
-    /// The stretch in the paper's words.
+    /// The list of the patent that it is, and what that means.
     pub fn words(self) -> &'static str {
         match self {
-            Stretch::BeforeNoReader => "no reader still has it before it",
-            Stretch::AheadOfSome => "ahead, but in no look-ahead",
-            Stretch::InLookAhead => "in a look-ahead",
+            Stretch::BeforeNoReader => "behind last: no reader needs it",
+            Stretch::AheadOfSome => "not seen: in no look-ahead",
+            Stretch::InLookAhead => "use time: in a look-ahead",
         }
     }
 }

@@ -85,7 +85,7 @@ fn table(name: &str, done: &str, rows: &[Row]) -> String {
     let count = rows.len();
     let mut table = format!("\n{name}, {count} in all, the first is the next to be {done}\n");
     table +=
-        "  place  file  page  stretch                           use time  slot  seat distance\n";
+        "  place  file  page  list                              use time  slot  seat distance\n";
     for row in rows {
         table += &row_text(row);
     }
