@@ -1,16 +1,15 @@
 -- Laws of the counts of a map's set bits.
 use mathlib.Core.Path.{_≡_, refl, sym, ap, ap₂, _∙_}
-use mathlib.Core.Logic.{_⊎_, inl, inr, ⊎-elim}
 use mathlib.Core.List.{List, [], _∷_}
 use Prim.Native.Nat.{ℕ, zero, suc, _+_, _-_, _*_, _/_, _%_, _^_, _≤_, _<_}
 use native.Mathlib.Nat.{zero-add, add-zero, add-suc, pow-suc}
 use native.Mathlib.Omega.{arith}
 use lib.Arith.{lt-one}
 use lib.Count.{ones-step, ones as digitSum}
-use lib.ListN.{length, getD}
-use Rattle.bits.specs.Map.{digit, bit, putBit, ones}
+use lib.ListN.{getD}
+use Rattle.bits.specs.Map.{digit, bit, ones}
 use Rattle.bits.proofs.Words.{digit-step, digit-shr, shl-low, shl-high}
-use Rattle.bits.proofs.Bits.{Same, bit-le, bit-word, whole-same, put-same, put-other}
+use Rattle.bits.proofs.Bits.{Same, bit-le, bit-word, whole-same}
 
 -- no key
 pub ones-none : (words : List ℕ) (a : ℕ) → ones words a 0 ≡ 0
@@ -44,33 +43,12 @@ pub ones-clear : (words : List ℕ) (a n : ℕ) → ((j : ℕ) → j < n → bit
 ones-clear words a zero z = ones-none words a
 ones-clear words a (suc n) z = omega (arith, ones-more words a n, ones-clear words a n (λ j h. z j (omega arith)), z n (omega arith))
 
--- a bit put outside the keys that are counted changes nothing
-pub ones-put-out : (words : List ℕ) (k v a n : ℕ) → v ≤ 1 → (k < a) ⊎ (a + n ≤ k) → ones (putBit words k v) a n ≡ ones words a n
-ones-put-out words k v a n p o = ones-same (putBit words k v) a words a n (λ j h. put-other words k v (a + j) p (λ e. ⊎-elim (λ q. omega arith) (λ q. omega arith) o))
-
 -- the first of the keys
 pub ones-first : (words : List ℕ) (a n : ℕ) → ones words a (suc n) ≡ bit words a + ones words (a + 1) n
 ones-first words a zero = rw (ones-more words a 0, add-zero a, ones-none words a, ones-none words (a + 1)) (omega arith)
 ones-first words a (suc n) =
     let e : a + suc n ≡ a + 1 + n = omega arith in
     rw (ones-more words a (suc n), ones-more words (a + 1) n, e) (omega (arith, ones-first words a n))
-
--- the keys before k, k, and those after it
-pub ones-split : (words : List ℕ) (k a n : ℕ) → a ≤ k → k < a + n → ones words a n ≡ ones words a (k - a) + bit words k + ones words (k + 1) (a + n - (k + 1))
-ones-split words k a n l u =
-    let m : ℕ = a + n - (k + 1) in
-    let e : n ≡ (k - a) + suc m = omega arith in
-    let f : a + (k - a) ≡ k = omega arith in
-    ap (ones words a) e ∙ ones-add words a (k - a) (suc m) ∙ rw (f, ones-first words k m) (omega arith)
-
--- a bit put within takes the place of the old one
-pub ones-put : (words : List ℕ) (k v a n : ℕ) → v ≤ 1 → k / 64 < length words → a ≤ k → k < a + n
-    → ones (putBit words k v) a n + bit words k ≡ ones words a n + v
-ones-put words k v a n p h l u =
-    let m : ℕ = a + n - (k + 1) in
-    let b : ones (putBit words k v) a (k - a) ≡ ones words a (k - a) = ones-put-out words k v a (k - a) p (inr (omega arith)) in
-    let c : ones (putBit words k v) (k + 1) m ≡ ones words (k + 1) m = ones-put-out words k v (k + 1) m p (inl (omega arith)) in
-    rw (ones-split (putBit words k v) k a n l u, ones-split words k a n l u, put-same words k v p h, b, c) (omega arith)
 
 -- ---- the ones of a word
 

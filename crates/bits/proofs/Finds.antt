@@ -233,12 +233,12 @@ without-clear words a b s k l u =
     let h : bit words k ≡ 1 → ⊥ = s k l u in
     omega (arith, bit-le words k)
 
--- the walk down has come to a set bit
-pub last-at : (words : List ℕ) (a n b : ℕ) → a < b → b ≤ a + n → Without words 1 b (a + n) → bit words (b - 1) ≡ 1 → b - a ≡ lastBit words a n
-last-at words a n b l u s e =
-    let f : a + (b - a) - 1 ≡ b - 1 = omega arith in
-    last-only words a n (b - a) record { high = omega arith; found = λ h. rw f e; after = λ k p q. without-clear words b (a + n) s k (omega arith) q }
-
--- the walk down has come to the first key
-pub last-none : (words : List ℕ) (a n b : ℕ) → b ≤ a → Without words 1 b (a + n) → 0 ≡ lastBit words a n
-last-none words a n b h s = last-only words a n 0 record { high = omega arith; found = λ p. absurd (omega arith); after = λ k p q. without-clear words b (a + n) s k (omega arith) q }
+-- the walk down has come to key b: no bit from it on is set, and the one before it is, if that is one of the keys
+pub last-reached : (words : List ℕ) (a n b : ℕ) → b ≤ a + n → Without words 1 b (a + n) → (a < b → bit words (b - 1) ≡ 1) → b - a ≡ lastBit words a n
+last-reached words a n b u s e = last-only words a n (b - a) record {
+  high = omega arith;
+  found = λ h.
+      let f : a + (b - a) - 1 ≡ b - 1 = omega arith in
+      rw f (e (omega arith));
+  after = λ k p q. without-clear words b (a + n) s k (omega arith) q;
+}

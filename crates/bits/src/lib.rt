@@ -1,6 +1,6 @@
 ghost use mathlib.Core.Path.{_≡_};
 ghost use mathlib.Core.List.{[], _∷_};
-ghost use Prim.Native.Nat.{_+_, _-_, _*_, _<_, _≤_, _%_};
+ghost use Prim.Native.Nat.{_+_, _-_, _*_, _/_, _<_, _≤_, _%_};
 ghost use lib.ListN.{replicate};
 ghost use lib.Dec.{eqb};
 ghost use Rattle.bits.specs.Map.{bit, putBit, ones, nextBit, lastBit};
@@ -140,19 +140,47 @@ fn last_one(w: u64, m: usize) -> usize
     0
 }
 
-// Of the n keys from `from` on, how far after `from` the last one ends whose bit is set; 0 where there is none.
+// Of the bits of the word that `end` is in, how far the last set one before `end` ends; 0 where there is none.
+fn last_part(words: &[u64; 128], end: usize) -> usize
+    requires { ⌜ end ≤ 8192 ⌝ }
+    ensures { λ r. ⌜ r ≡ lastBit (now (words .entry)) (end / 64 * 64) (end % 64) ⌝ }
+{
+    let m = end % 64;
+    if m == 0 {
+        return 0;
+    }
+    last_one(words[end / 64], m)
+}
+
+// Of the bits of the words from `first` to before `end`, how far the last set one ends; 0 where there is none.
+fn last_words(words: &[u64; 128], first: usize, end: usize) -> usize
+    requires { ⌜ (first ≤ end) × (end ≤ 128) ⌝ }
+    ensures { λ r. ⌜ r ≡ lastBit (now (words .entry)) (first * 64) ((end - first) * 64) ⌝ }
+{
+    let mut i = end;
+    let mut r = 0;
+    while first < i && r == 0 {
+        i -= 1;
+        r = last_one(words[i], 64);
+    }
+    (i - first) * 64 + r
+}
+
+// Of the n keys from `from` on, how far after `from` the last one ends whose bit is set; 0 where there is none: a part of the last word, then whole
+// words.
 pub fn last_set(words: &[u64; 128], from: usize, n: usize) -> usize
     requires { ⌜ from + n ≤ 8192 ⌝ }
     ensures { λ r. ⌜ r ≡ lastBit (now (words .entry)) from n ⌝ }
 {
-    let mut end = from + n;
-    while from < end {
-        let i = (end - 1) / 64;
-        let r = last_one(words[i], end - i * 64);
-        end = i * 64 + r;
-        if 0 < r && from < end {
-            return end - from;
-        }
+    let end = from + n;
+    let first = from / 64;
+    let part = last_part(words, end);
+    let mut at = end / 64 * 64 + part;
+    if part == 0 {
+        at = first * 64 + last_words(words, first, end / 64);
+    }
+    if from < at {
+        return at - from;
     }
     0
 }

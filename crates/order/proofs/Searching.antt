@@ -1,18 +1,15 @@
 -- The searches for the heads of the two orders, page by page. Assumes nothing.
 use mathlib.Core.Path.{_≡_, refl, sym, ap, ap₂, _∙_, subst}
 use mathlib.Core.Bool.{Bool, not, _&&_}
-use mathlib.Core.List.{List}
 use mathlib.Core.Option.{none, some}
-use Prim.Native.Nat.{ℕ, zero, suc, _+_, _-_, _*_, _%_, _^_, _≤_, _<_}
-use native.Mathlib.Nat.{zero-div}
+use Prim.Native.Nat.{ℕ, zero, suc, _+_, _-_, _*_, _≤_, _<_}
 use native.Mathlib.Decide.{decLt}
 use native.Mathlib.Omega.{arith}
 use borrow.Author.Tests.{eq-eqb}
 use lib.Dec.{T, eqb, eqb→eq}
-use lib.ListN.{getD}
-use Rattle.bits.specs.Map.{bit, lastBit}
-use Rattle.bits.proofs.Bits.{bit-le, bit-at}
-use Rattle.bits.proofs.Finds.{Without, Next, next-is, Last, last-is, last-only}
+use Rattle.bits.specs.Map.{bit}
+use Rattle.bits.proofs.Bits.{bit-le}
+use Rattle.bits.proofs.Finds.{Next, next-is}
 use Rattle.rules.specs.Lists.{head}
 use Rattle.rules.specs.Pages.{cached}
 use Rattle.rules.specs.Readers.{readerAt, attached, lastPage}
@@ -92,29 +89,6 @@ module _ (s : State) where
     -- none is kept, and there is none
     pub highest-nothing : p .value ≡ 0 → victim s ≡ none
     highest-nothing e = no-candidate s w 16 (subst (NoneAbove s 8 16) e above)
-
--- ---- words with no page cached
-
--- a word that is 0 has no set bit
-pub zero-word : (words : List ℕ) (i : ℕ) → getD words i 0 ≡ 0 → Without words 1 (i * 64) ((i + 1) * 64)
-zero-word words i z k l u e =
-    let q : i * 64 + (k - i * 64) ≡ k = omega arith in
-    omega (arith, sym e ∙ (rw (q, z) at (bit-at words i (k - i * 64) (omega arith))) ∙ ap (λ n. n % 2) (zero-div (2 ^ (k - i * 64))))
-
--- the last set bit is as far where the keys past it are passed over
-pub last-trimmed : (words : List ℕ) (a m n r : ℕ) → m ≤ n → Without words 1 (a + m) (a + n) → r ≡ lastBit words a m → r ≡ lastBit words a n
-last-trimmed words a m n r l w e = last-only words a n r record {
-  high = omega (arith, e, t .high);
-  found = λ h. rw e (t .found (omega arith));
-  after = λ k p q. by k p q (decLt k (a + m));
-}
-  where
-    t : Last words a m (lastBit words a m)
-    t = last-is words a m
-
-    by : (k : ℕ) → a + r ≤ k → k < a + n → Dec (k < a + m) → bit words k ≡ 0
-    by k p q (yes h) = t .after k (omega arith) h
-    by k p q (no h) = let z : (bit words k ≡ 1 → ⊥) = w k (omega arith) q in omega (arith, bit-le words k)
 
 -- ---- the next fetch
 

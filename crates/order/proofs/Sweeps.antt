@@ -1,5 +1,5 @@
 -- A pass over the slots finds a page's rank. Assumes nothing.
-use mathlib.Core.Path.{_≡_, sym, ap, subst}
+use mathlib.Core.Path.{_≡_, subst}
 use mathlib.Core.Bool.{not}
 use mathlib.Core.Logic.{_⊎_, inl, inr}
 use Prim.Native.Nat.{ℕ, min, _+_, _*_, _≤_, _<_}
@@ -7,7 +7,7 @@ use native.Mathlib.Decide.{decLt}
 use native.Mathlib.Omega.{arith}
 use borrow.Author.Tests.{eq-eqb}
 use lib.Dec.{T, not-T, ltb}
-use Rattle.rules.specs.Pages.{size, fileOf, pageOf}
+use Rattle.rules.specs.Pages.{fileOf}
 use Rattle.rules.specs.Readers.{readerAt, attached}
 use Rattle.rules.specs.UseTimes.{before, sees, never, useFor, useKey, ahead, seen}
 use Rattle.rules.specs.Orders.{place}
@@ -69,13 +69,6 @@ module _ (s : State) (k : ℕ) where
       go : T (ahead s k) ⊎ T (not (ahead s k)) → rank s k ≤ 2 * never + place k
       go (inl h) = omega (arith, rank-ahead h)
       go (inr h) = omega (arith, rank-behind h)
-
-  -- no file has the page
-  pub rank-outside : size s (fileOf k) < pageOf k → 2 * never + place k ≡ rank s k
-  rank-outside l = sym (rank-behind (not-T (ahead s k) (λ h.
-      let a = ahead-of h in
-      let b = before-is s (readerAt s (a .0)) k (a .2) in
-      omega (arith, b .in-file, ap (size s) (b .of-file)))))
 
   used-seen : useKey s k < never → T (seen s k)
   used-seen l = let a = used-by l in seen-by s k (a .0) (a .1) (a .2)

@@ -6,8 +6,6 @@ ghost use mathlib.Core.Bool.{cond};
 ghost use mathlib.Core.List.{List, [], _∷_};
 ghost use Prim.Native.Nat.{ℕ, min, _+_, _-_, _*_, _%_, _<_, _≤_};
 ghost use lib.Dec.{T};
-ghost use Rattle.bits.specs.Map.{lastBit};
-ghost use Rattle.bits.proofs.Finds.{Without};
 ghost use Rattle.rules.specs.declared.State.{State};
 ghost use Rattle.rules.specs.Lists.{head};
 ghost use Rattle.rules.specs.Pages.{Page};
@@ -117,7 +115,7 @@ fn lowered(
 
 // What the sweeps read of the readers, in one array that can be lent. At `slot`: its reader's position; at 16 + slot: the pace; at 32 + slot: the last
 // slot before it with a reader of the same file; at 48 + file: the last slot with a reader of the file. These slots count from 1, and 0 is none.
-fn seats_of(readers: [Reader; 16]) -> [u16; 56]
+pub fn seats_of(readers: [Reader; 16]) -> [u16; 56]
     requires { ⌜ ((j : ℕ) → T (attached (readerIn readers j)) → readerIn readers j .file < 8) ⌝ }
     ensures { λ r. ⌜ Seated readers 16 r ⌝ }
 {
@@ -163,54 +161,22 @@ fn rank_over(v: View, seats: &[u16; 56], cached: &[u64; 128], key: usize, floor:
     top
 }
 
-// A page's rank: the higher, the sooner it is given up.
-pub fn rank(v: View, cached: &[u64; 128], key: usize) -> u64
-    requires { ⌜ Ranged v ⌝ }
-    requires { ⌜ key < 8192 ⌝ }
+// A page's rank: the higher, the sooner it is given up. The seats are lent, so that a list of pages has them made once.
+pub fn rank(v: View, seats: &[u16; 56], cached: &[u64; 128], key: usize) -> u64
+    requires { ⌜ Ranged v × Seated (v .readers) 16 (now seats) ⌝ }
+    requires { ⌜ Page (stateOf v [] []) key ⌝ }
     ensures { λ r. ⌜ ((m : List ℕ) → r ≡ rank (stateOf v (now (cached .entry)) m) key) ⌝ }
 {
-    let page = key % 1024 + 1;
-    let last = v.sizes[key / 1024];
-    if (last as usize) < page {
-        return 2 * NEVER + (page * 8 + key / 1024) as u64;
-    }
-    let readers = v.readers;
-    let seats = seats_of(readers);
-    rank_over(v, &seats, cached, key, 0)
+    rank_over(v, seats, cached, key, 0)
 }
 
 // A page's use key; NEVER where the page is in no look-ahead.
-pub fn use_key(v: View, cached: &[u64; 128], key: usize) -> u64
-    requires { ⌜ Ranged v ⌝ }
-    requires { ⌜ key < 8192 ⌝ }
+pub fn use_key(v: View, seats: &[u16; 56], cached: &[u64; 128], key: usize) -> u64
+    requires { ⌜ Ranged v × Seated (v .readers) 16 (now seats) ⌝ }
+    requires { ⌜ Page (stateOf v [] []) key ⌝ }
     ensures { λ r. ⌜ ((m : List ℕ) → r ≡ useKey (stateOf v (now (cached .entry)) m) key) ⌝ }
 {
-    lesser(rank(v, cached, key), NEVER)
-}
-
-// Of the words from `first` to before `end`, how far the last one reaches that is not 0; `first` where all are.
-fn used_words(words: &[u64; 128], first: usize, end: usize) -> usize
-    requires { ⌜ (first ≤ end) × (end ≤ 128) ⌝ }
-    ensures { λ r. ⌜ (first ≤ r) × (r ≤ end) × Without (now (words .entry)) 1 (r * 64) (end * 64) ⌝ }
-{
-    let mut i = end;
-    while first < i && words[i - 1] == 0 {
-        i -= 1;
-    }
-    i
-}
-
-// The last cached one of the file's first n pages, or 0. Words with no page cached are passed over.
-fn last_cached(cached: &[u64; 128], file: usize, n: usize) -> usize
-    requires { ⌜ (file < 8) × (n ≤ 1024) ⌝ }
-    ensures { λ r. ⌜ r ≡ lastBit (now (cached .entry)) (file * 1024) n ⌝ }
-{
-    let first = file * 16;
-    let m = (used_words(cached, first, first + (n + 63) / 64) - first) * 64;
-    if m < n {
-        return bits::last_set(cached, file * 1024, m);
-    }
-    bits::last_set(cached, file * 1024, n)
+    lesser(rank(v, seats, cached, key), NEVER)
 }
 
 // The last cached one of the file's first n pages, if there is one and its rank is higher than the best.
@@ -228,7 +194,7 @@ fn higher(
     requires { ⌜ ((m : List ℕ) → Ranked (stateOf v (now cached) m) best) ⌝ }
     ensures { λ r. ⌜ ((m : List ℕ) → Raised (stateOf v (now (cached .entry)) m) file n best r) ⌝ }
 {
-    let page = last_cached(cached, file, n);
+    let page = bits::last_set(cached, file * 1024, n);
     if page == 0 {
         return best;
     }

@@ -8,8 +8,8 @@ use lib.ListN.{length, getD, take, drop, length-append, length-take, length-drop
 use lib.Seq.{take-at, drop-at, drop-drop, length-take-le}
 use Rattle.rules.specs.Lists.{each}
 use Rattle.rules.specs.Image.{Field, field, bytesOf, numberOf, numbersIn}
-use Rattle.rules.proofs.Parts.{Always, always-take, always-drop, always-each}
-use Rattle.rules.proofs.Numbers.{Bytes, bytes-length, bytes-low, number-bytes, bytes-number, number-low}
+use Rattle.rules.proofs.Parts.{Always, always-take, always-drop}
+use Rattle.rules.proofs.Numbers.{Bytes, bytes-length, number-bytes, bytes-number, number-low}
 
 -- a table's widths
 abbrev pub widths : List Field → List ℕ
@@ -42,10 +42,6 @@ unfolding each total
 encoded-length [] = refl
 encoded-length (f ∷ fs) =
     omega (arith, length-append (bytesOf (f .width) (f .value)) (encoded fs), bytes-length (f .width) (f .value), encoded-length fs)
-
--- they are bytes
-pub encoded-bytes : (fs : List Field) → Bytes (encoded fs)
-encoded-bytes fs = always-each (λ b. b < 256) 0 (omega arith) (field 0 0) (λ f. bytesOf (f .width) (f .value)) fs (λ j. bytes-low (getD fs j (field 0 0) .width) (getD fs j (field 0 0) .value))
 
 -- the numbers of a table's bytes are its values
 pub numbers-encoded : (fs : List Field) (rest : List ℕ) → Fits fs → numbersIn fs (encoded fs ++ rest) ≡ values fs

@@ -1,112 +1,97 @@
 use mathlib.Core.Path.{_≡_}
 use mathlib.Core.Logic.{⊎-elim}
-use Prim.Native.Nat.{_+_, _-_, _*_, _/_, _≤_}
+use Prim.Native.Nat.{_+_, _-_, _*_, _/_, _%_, _≤_, _<_}
 use native.Mathlib.Omega.{arith}
 use borrow.Author.Needs.{needs}
-use borrow.Author.Tests.{ltb-true, ltb-false}
-use Rattle.bits.proofs.Finds.{Without, Last, without-join, last-word, last-without, last-at, last-none}
+use Rattle.bits.specs.Map.{bit}
+use Rattle.bits.proofs.Finds.{Without, Last, without-join, last-is, last-without, last-reached}
 use Rattle.bits.proofs.last_set.Statement.{statement}
 use Rattle.bits.proofs.last_set.Tie as tie
 
--- no bit is set from `end` on
-abbrev Inv-loop : tie.InvT-loop
-Inv-loop words from n end₀ end = (end ≤ from + n) × Without words 1 end (from + n)
-
-abbrev μ-loop : tie.MeasureT-loop
-μ-loop words from n end₀ end = end
-
--- the last set bit of the turn's word
-found : (c : tie.After-last-one Inv-loop μ-loop)
-    → Last (c .before .before .before .before .args .words .now) ((c .before .before .before .loop .end - 1) / 64 * 64) (c .before .before .before .loop .end - (c .before .before .before .loop .end - 1) / 64 * 64) (c .last-one .result)
-found c =
-    let l = c .before .before .before in
-    let i = (l .loop .end - 1) / 64 in
-    last-word (l .before .args .words .now) i (l .loop .end - i * 64) (c .last-one .result) (omega arith) (c .last-one .ensures)
+-- the last set bit of the last word's part
+part : (c : tie.After-last-part) → let a = c .before .args in Last (a .words .now) ((a .from + a .n) / 64 * 64) ((a .from + a .n) % 64) (c .last-part .result)
+part c = let a = c .before .args in rw (c .last-part .ensures) (last-is (a .words .now) ((a .from + a .n) / 64 * 64) ((a .from + a .n) % 64))
 
 -- no bit is set past it
-cleared : (c : tie.After-last-one Inv-loop μ-loop)
-    → Without (c .before .before .before .before .args .words .now) 1 ((c .before .before .before .loop .end - 1) / 64 * 64 + c .last-one .result) (c .before .before .before .before .args .from + c .before .before .before .before .args .n)
+cleared : (c : tie.After-last-part) → let a = c .before .args in Without (a .words .now) 1 ((a .from + a .n) / 64 * 64 + c .last-part .result) (a .from + a .n)
 cleared c =
-    let l = c .before .before .before in
-    let a = l .before .args in
-    let b = (l .loop .end - 1) / 64 * 64 in
-    let e : b + (l .loop .end - b) ≡ l .loop .end = omega arith in
-    without-join (a .words .now) 1 (b + c .last-one .result) (l .loop .end) (a .from + a .n) (rw e at (last-without (a .words .now) b (l .loop .end - b) (c .last-one .result) (found c))) (l .loop .inv .1)
+    let a = c .before .args in
+    let e : (a .from + a .n) / 64 * 64 + (a .from + a .n) % 64 ≡ a .from + a .n = omega arith in
+    rw e at (last-without (a .words .now) ((a .from + a .n) / 64 * 64) ((a .from + a .n) % 64) (c .last-part .result) (part c))
 
-add-end : tie.Need-add-end Inv-loop μ-loop
+-- the last set bit of the whole words
+whole : (c : tie.After-last-words) → let a = c .before .before .before .args in Last (a .words .now) (a .from / 64 * 64) (((a .from + a .n) / 64 - a .from / 64) * 64) (c .last-words .result)
+whole c = let a = c .before .before .before .args in rw (c .last-words .ensures) (last-is (a .words .now) (a .from / 64 * 64) (((a .from + a .n) / 64 - a .from / 64) * 64))
+
+-- no bit is set from `at` on, and the one before it is set, if it is one of the keys
+reached : (c : tie.Joined1) → let a = c .before .before .args in (c .if1 .at ≤ a .from + a .n) × Without (a .words .now) 1 (c .if1 .at) (a .from + a .n) × (a .from < c .if1 .at → bit (a .words .now) (c .if1 .at - 1) ≡ 1)
+reached c =
+    let p = c .before in
+    let a = p .before .args in
+    let b = (a .from + a .n) / 64 in
+    let f = a .from / 64 in
+    ⊎-elim
+    (λ w.
+    let t = whole record { before = record { before = p; if1 = w .0 }; last-words = w .1 } in
+    let e : f * 64 + (b - f) * 64 ≡ b * 64 = omega arith in
+    let g : b * 64 + p .last-part .result ≡ b * 64 = omega (arith, w .0 .taken) in
+    rw (w .2) (
+      omega (arith, t .high),
+      without-join (a .words .now) 1 (f * 64 + w .1 .result) (b * 64) (a .from + a .n) (rw e at (last-without (a .words .now) (f * 64) ((b - f) * 64) (w .1 .result) t)) (rw g at (cleared p)),
+      λ l. t .found (omega arith),
+    ))
+    (λ w. rw (w .1) (omega (arith, part p .high), cleared p, λ l. part p .found (omega (arith, w .0 .left))))
+    (c .if1 .came)
+
+add-end : tie.Need-add-end
 add-end c = search needs
 
-loop-holds : tie.Need-loop-holds Inv-loop μ-loop
-loop-holds c = (search needs, λ k l u e. omega arith)
+last-part-requires : tie.Need-last-part-requires
+last-part-requires c κs = search needs
 
-sub-i : tie.Need-sub-i Inv-loop μ-loop
-sub-i c = search needs
+mul-at : tie.Need-mul-at
+mul-at c = search needs
 
-mul-last-one : tie.Need-mul-last-one Inv-loop μ-loop
-mul-last-one c = search needs
+add-at : tie.Need-add-at
+add-at c = omega (arith, part c .high)
 
-element-copy-out-last-one : tie.Need-element-copy-out-last-one Inv-loop μ-loop
-element-copy-out-last-one c = search needs
+mul-at-2 : tie.Need-mul-at-2
+mul-at-2 c = search needs
 
-mul-last-one-2 : tie.Need-mul-last-one-2 Inv-loop μ-loop
-mul-last-one-2 c = search needs
+last-words-requires : tie.Need-last-words-requires
+last-words-requires c κs = search needs
 
-sub-last-one : tie.Need-sub-last-one Inv-loop μ-loop
-sub-last-one c = search needs
+add-at-2 : tie.Need-add-at-2
+add-at-2 c = omega (arith, whole c .high)
 
-last-one-requires : tie.Need-last-one-requires Inv-loop μ-loop
-last-one-requires c κs = search needs
+sub-result : tie.Need-sub-result
+sub-result c = search needs
 
-mul-end : tie.Need-mul-end Inv-loop μ-loop
-mul-end c = search needs
-
-add-end-2 : tie.Need-add-end-2 Inv-loop μ-loop
-add-end-2 c = omega (arith, found c)
-
-sub-result : tie.Need-sub-result Inv-loop μ-loop
-sub-result c = omega (arith, ltb-true)
-
-returns : tie.Need-returns Inv-loop μ-loop
+returns : tie.Need-returns
 returns c =
-    let a = c .before .before .before .before .before .before .args in
-    let t = found (c .before .before) in
-    let q = (c .before .before .before .before .before .loop .end - 1) / 64 * 64 + c .before .before .last-one .result in
-    last-at (a .words .now) (a .from) (a .n) q (omega (arith, ltb-true)) (omega arith) (cleared (c .before .before)) (t .found (omega arith))
+    let j = c .before .before in
+    let a = j .before .before .args in
+    let r = reached j in
+    last-reached (a .words .now) (a .from) (a .n) (j .if1 .at) (r .0) (r .1) (r .2)
 
-loop-less : tie.Need-loop-less Inv-loop μ-loop
-loop-less c =
-    let t = found (c .before) in
-    ⊎-elim (λ w. omega (arith, ltb-false)) (λ w. omega arith) (c .if1 .came)
-
-loop-again : tie.Need-loop-again Inv-loop μ-loop
-loop-again c =
-    let t = found (c .before) in
-    (omega arith, cleared (c .before))
-
-returns-2 : tie.Need-returns-2 Inv-loop μ-loop
+returns-2 : tie.Need-returns-2
 returns-2 c =
-    let l = c .before in
-    let a = l .before .args in
-    last-none (a .words .now) (a .from) (a .n) (l .loop .end) (c .loop-test .left) (l .loop .inv .1)
+    let j = c .before in
+    let a = j .before .before .args in
+    let r = reached j in
+    omega (arith, c .if2 .left, last-reached (a .words .now) (a .from) (a .n) (j .if1 .at) (r .0) (r .1) (r .2))
 
 pub last-set-spec : {M : Type 1} → statement M
 last-set-spec =
     tie.close
     (tie.spec
-    Inv-loop
-    μ-loop
     add-end
-    loop-holds
-    sub-i
-    mul-last-one
-    element-copy-out-last-one
-    mul-last-one-2
-    sub-last-one
-    last-one-requires
-    mul-end
-    add-end-2
+    last-part-requires
+    mul-at
+    add-at
+    mul-at-2
+    last-words-requires
+    add-at-2
     sub-result
     returns
-    loop-less
-    loop-again
     returns-2)

@@ -18,17 +18,20 @@ abbrev at : tie.Start → List ℕ → State
 at c m = stateOf (c .args .v) (c .args .cached .now) m
 
 -- the candidate is one of the n pages
-within : (c : tie.After-last-cached) → c .last-cached .result ≤ c .before .args .n
-within c = let a = c .before .args in omega (arith, c .last-cached .ensures, last-is (a .cached .now) (a .file * 1024) (a .n) .high)
+within : (c : tie.After-last-set) → c .last-set .result ≤ c .before .args .n
+within c = let a = c .before .args in omega (arith, c .last-set .ensures, last-is (a .cached .now) (a .file * 1024) (a .n) .high)
 
-last-cached-requires : tie.Need-last-cached-requires
-last-cached-requires c κs = search needs
+mul-last-set : tie.Need-mul-last-set
+mul-last-set c = search needs
+
+last-set-requires : tie.Need-last-set-requires
+last-set-requires c κs = search needs
 
 returns : tie.Need-returns
 returns c m =
     let l = c .before in
     let a = l .before .args in
-    raised-none (at (l .before) m) (a .file) (a .n) (l .last-cached .result) (l .last-cached .ensures) (a .best) (l .before .pre .1 .1 .1 m) (c .if1 .taken)
+    raised-none (at (l .before) m) (a .file) (a .n) (l .last-set .result) (l .last-set .ensures) (a .best) (l .before .pre .1 .1 .1 m) (c .if1 .taken)
 
 mul-key : tie.Need-mul-key
 mul-key c = search needs
@@ -43,8 +46,8 @@ rank-over-requires : tie.Need-rank-over-requires
 rank-over-requires c κs =
     let l = c .before in
     let a = l .before .args in
-    let h : T (cached (at (l .before) []) (a .file * 1024 + l .last-cached .result - 1)) = subst (λ i. T (cached (at (l .before) []) (a .file * 1024 + i - 1))) (sym (l .last-cached .ensures)) (candidate-cached (at (l .before) []) (a .file) (a .n) (omega (arith, l .last-cached .ensures, c .if1 .left))) in
-    (l .before .pre .0, l .before .pre .1 .0 (a .file * 1024 + l .last-cached .result - 1) h)
+    let h : T (cached (at (l .before) []) (a .file * 1024 + l .last-set .result - 1)) = subst (λ i. T (cached (at (l .before) []) (a .file * 1024 + i - 1))) (sym (l .last-set .ensures)) (candidate-cached (at (l .before) []) (a .file) (a .n) (omega (arith, l .last-set .ensures, c .if1 .left))) in
+    (l .before .pre .0, l .before .pre .1 .0 (a .file * 1024 + l .last-set .result - 1) h)
 
 cast-t13 : tie.Need-cast-t13
 cast-t13 c = omega (arith, within (c .before .before .before .before))
@@ -54,20 +57,21 @@ returns-2 c m =
     let k = c .before .before in
     let l = k .before .before in
     let a = l .before .args in
-    raised-take (at (l .before) m) (a .file) (a .n) (l .last-cached .result) (l .last-cached .ensures) (a .best) (k .rank-over .result) (k .rank-over .ensures m) (k .before .if1 .left) (c .if2 .taken)
+    raised-take (at (l .before) m) (a .file) (a .n) (l .last-set .result) (l .last-set .ensures) (a .best) (k .rank-over .result) (k .rank-over .ensures m) (k .before .if1 .left) (c .if2 .taken)
 
 returns-3 : tie.Need-returns-3
 returns-3 c m =
     let k = c .before .before in
     let l = k .before .before in
     let a = l .before .args in
-    raised-keep (at (l .before) m) (a .file) (a .n) (l .last-cached .result) (l .last-cached .ensures) (a .best) (k .rank-over .result) (k .rank-over .ensures m) (l .before .pre .1 .1 .1 m) (c .if2 .left)
+    raised-keep (at (l .before) m) (a .file) (a .n) (l .last-set .result) (l .last-set .ensures) (a .best) (k .rank-over .result) (k .rank-over .ensures m) (l .before .pre .1 .1 .1 m) (c .if2 .left)
 
 pub higher-spec : {M : Type 1} → statement M
 higher-spec =
     tie.close
     (tie.spec
-    last-cached-requires
+    mul-last-set
+    last-set-requires
     returns
     mul-key
     add-key

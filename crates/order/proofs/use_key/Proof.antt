@@ -16,7 +16,7 @@ lesser-requires c κs = search needs
 returns : tie.Need-returns
 returns c m =
     let s = c .before .before in
-    c .lesser .ensures ∙ ap (λ x. min x never) (c .before .rank .ensures m) ∙ use-ranked (stateOf (s .args .v) (s .args .cached .now) m) (s .args .key) (s .pre .0 .look-high)
+    c .lesser .ensures ∙ ap (λ x. min x never) (c .before .rank .ensures m) ∙ use-ranked (stateOf (s .args .v) (s .args .cached .now) m) (s .args .key) (s .pre .0 .0 .look-high)
 
 pub use-key-spec : {M : Type 1} → statement M
 use-key-spec = tie.close (tie.spec rank-requires lesser-requires returns)
