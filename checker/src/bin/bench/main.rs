@@ -47,13 +47,29 @@ fn main() {
     println!("\n## Arrive that steals, by frames (16 readers, 8 files, L 10240, T 0)\n");
     let by_frames = [64, 128, 256, 512, 1_024].map(|frames| {
         let name = format!("frames: {frames}");
-        arrive(name, busy(16, 8, frames, 10_240, 0))
+        arrive(name, busy(Quay { frames, ..FULL }))
     });
     table(&by_frames);
+    println!("\n## Arrive that steals, by pages of a file (16 readers, 8 files, 64 frames, L 10240, T 0)\n");
+    let by_pages = [128, 256, 512, 1_024].map(|pages| {
+        let name = format!("pages: {pages}");
+        let quay = Quay {
+            pages,
+            frames: 64,
+            ..FULL
+        };
+        arrive(name, busy(quay))
+    });
+    table(&by_pages);
     println!("\n## Arrive that steals, by readers (8 files, 512 frames, L 10240, T 0)\n");
     let by_readers = [1, 2, 4, 8, 12, 16].map(|readers| {
         let name = format!("readers: {readers}");
-        arrive(name, busy(readers, 8, 512, 10_240, 0))
+        let quay = Quay {
+            readers,
+            frames: 512,
+            ..FULL
+        };
+        arrive(name, busy(quay))
     });
     table(&by_readers);
     println!("\n## Lines through pipes\n");
@@ -75,7 +91,7 @@ fn machine() -> String {
 /// Every call, with 1,024 frames unless said.
 fn calls() -> Vec<Case> {
     let mut cases = arrivals(&[(10_240, 0), (2_000_000, 0), (10_240, 1), (2_000_000, 100)]);
-    let image = busy(16, 8, 1_024, 10_240, 0).image();
+    let image = busy(FULL).image();
     for (name, call) in [
         ("Steal", Call::Steal),
         ("Prefetch", Call::Prefetch),
@@ -103,33 +119,72 @@ fn short_calls() -> Vec<Case> {
 fn arrivals(ticks: &[(u64, u64)]) -> Vec<Case> {
     let mut cases = Vec::new();
     for (files, placed, frames) in [(8, "8 files", 1_024), (1, "one file", 768)] {
-        for &(l, t) in ticks {
-            let name = format!("Arrive that steals, 16 readers on {placed}, L {l}, T {t}");
-            cases.push(arrive(name, busy(16, files, frames, l, t)));
+        for &(look_ahead, fetch_time) in ticks {
+            let quay = Quay {
+                files,
+                frames,
+                look_ahead,
+                fetch_time,
+                ..FULL
+            };
+            let name = format!(
+                "Arrive that steals, 16 readers on {placed}, L {look_ahead}, T {fetch_time}"
+            );
+            cases.push(arrive(name, busy(quay)));
         }
     }
     cases
 }
 
 /// A run, with few frames and with many.
-fn runs(l: u64, t: u64) -> [Case; 2] {
-    [64, 1_024].map(|frames| Case {
-        name: format!("Run of {MOST_TURNS} turns, {frames} frames, L {l}, T {t}"),
-        image: seated(16, 8, frames, l, t).image(),
-        call: Call::Run { turns: MOST_TURNS },
+fn runs(look_ahead: u64, fetch_time: u64) -> [Case; 2] {
+    [64, 1_024].map(|frames| {
+        let quay = Quay {
+            frames,
+            look_ahead,
+            fetch_time,
+            ..FULL
+        };
+        Case {
+            name: format!(
+                "Run of {MOST_TURNS} turns, {frames} frames, L {look_ahead}, T {fetch_time}"
+            ),
+            image: seated(quay).image(),
+            call: Call::Run { turns: MOST_TURNS },
+        }
     })
 }
 
-/// Readers of pace 10 over so many files of 1,024 pages, a second and later
-/// reader of a file some way ahead of the one before. Nothing is cached.
-fn seated(readers: u64, files: u64, frames: u64, look_ahead: u64, fetch_time: u64) -> State {
+/// What a state is made of.
+#[derive(Clone, Copy)]
+struct Quay {
+    files: u64,
+    pages: u64,
+    readers: u64,
+    frames: u64,
+    look_ahead: u64,
+    fetch_time: u64,
+}
+
+const FULL: Quay = Quay {
+    files: 8,
+    pages: FILE_PAGES,
+    readers: 16,
+    frames: 1_024,
+    look_ahead: 10_240,
+    fetch_time: 0,
+};
+
+/// Readers of pace 10, a second and later reader of a file some way ahead of
+/// the one before. Nothing is cached.
+fn seated(quay: Quay) -> State {
     let mut state = State::idle();
-    state.frames = frames;
-    state.look_ahead = look_ahead;
-    state.fetch_time = fetch_time;
-    state.sizes.fill(FILE_PAGES);
-    for slot in 0..readers {
-        let reader = Reader::running(slot % files, 10, slot / files * 55);
+    state.frames = quay.frames;
+    state.look_ahead = quay.look_ahead;
+    state.fetch_time = quay.fetch_time;
+    state.sizes.fill(quay.pages);
+    for slot in 0..quay.readers {
+        let reader = Reader::running(slot % quay.files, 10, slot / quay.files * 55);
         state.readers.insert(slot, reader);
     }
     state
@@ -137,13 +192,13 @@ fn seated(readers: u64, files: u64, frames: u64, look_ahead: u64, fetch_time: u6
 
 /// The same with every frame taken by pages ahead of the readers, every seventh
 /// page missing, and the reader in slot 0 waiting for its next page.
-fn busy(readers: u64, files: u64, frames: u64, look_ahead: u64, fetch_time: u64) -> State {
-    let mut state = seated(readers, files, frames, look_ahead, fetch_time);
+fn busy(quay: Quay) -> State {
+    let mut state = seated(quay);
     let first = state.readers.get_mut(&0).unwrap();
     first.waiting = true;
     let awaited = first.next_page();
     state.in_fetch.insert(awaited);
-    for ahead in 0..FILE_PAGES {
+    for ahead in 0..quay.pages {
         for reader in state.readers.values() {
             let Page { file, number } = reader.next_page();
             let page = Page {
@@ -151,13 +206,14 @@ fn busy(readers: u64, files: u64, frames: u64, look_ahead: u64, fetch_time: u64)
                 number: number + ahead,
             };
             let cacheable =
-                page.number <= FILE_PAGES && !page.number.is_multiple_of(7) && page != awaited;
-            if cacheable && (state.cached.len() as u64) < frames {
+                page.number <= quay.pages && !page.number.is_multiple_of(7) && page != awaited;
+            if cacheable && (state.cached.len() as u64) < quay.frames {
                 state.cached.insert(page);
             }
         }
     }
-    assert_eq!(state.cached.len() as u64, frames, "every frame is taken");
+    let taken = state.cached.len() as u64;
+    assert_eq!(taken, quay.frames, "every frame is taken");
     state
 }
 
