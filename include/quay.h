@@ -5,7 +5,7 @@
  * leaves the image of the new state in the same buffer. There is no other state, nothing is allocated, and a call on one image
  * does not touch another.
  *
- * Every call may be made with any numbers and any bytes. It is carried out, or refused under one number; a refusal leaves the
+ * Every call may be made with any numbers and any bytes; `image` must point to `length` of them. It is carried out, or refused under one number; a refusal leaves the
  * buffer byte for byte as it was. Link with -lquay. */
 #ifndef QUAY_H
 #define QUAY_H
@@ -33,7 +33,10 @@ extern "C" {
  *      156      4  0
  *      160   1024  cached pages, 128 bytes a file, page 1 in the lowest bit of the first
  *     1184   1024  pages in fetch, likewise
- */
+ *
+ * A reader's file is 0 to 7 and of a size above 0, its pace 1 to 1,000, its position 0 to the size; an empty slot is all 0. A waiting
+ * reader's next page is in fetch. No page is above its file's size or in both maps, and no more pages are cached than there are
+ * frames. Any other image is refused: 13. */
 #define QUAY_IMAGE_SIZE 2208
 #define QUAY_AT_FRAMES 0
 #define QUAY_AT_TURN 2
@@ -107,15 +110,16 @@ uint64_t quay_arrive(uint8_t *image, size_t length, uint64_t file, uint64_t page
  * QUAY_DONE. Refusals: 13, 3, 8, 9. */
 uint64_t quay_lost(uint8_t *image, size_t length, uint64_t file, uint64_t page);
 
-/* The link is idle: which page is worth fetching early?
+/* The link is idle: the page that is worth fetching early is put in fetch.
  * QUAY_FETCH with the page, or QUAY_NOTHING. Refusal: 13. */
 uint64_t quay_prefetch(uint8_t *image, size_t length);
 
-/* A frame is wanted back: the page that is needed last is dropped.
+/* A frame is wanted back: the head of the steal order is dropped.
  * QUAY_STOLEN with the page, or QUAY_NOTHING. Refusal: 13. */
 uint64_t quay_steal(uint8_t *image, size_t length);
 
-/* So many turns at once, each the next slot's read with its fetch, if it needs one, made on the spot.
+/* So many turns at once, starting with the slot whose turn it is. Each reads for its slot; a page not cached is fetched and arrives
+ * within the turn.
  * 4,294,967,296 + fetches x 65,536 + reads: take it apart by quay_fetches and quay_reads. Refusals: 13, 11, 10. */
 uint64_t quay_run(uint8_t *image, size_t length, uint64_t turns);
 

@@ -17,8 +17,8 @@ pub fn table() {
         println!("Left out: cargo build --release --bin lines was not done.");
         return;
     };
-    println!("| stream | lines | MB | lines MB/s | quay MB/s | lines lines/s | quay lines/s | quay / lines |");
-    println!("|:-------|------:|---:|-----------:|----------:|--------------:|-------------:|-------------:|");
+    println!("| stream | lines | MB | checker MB/s | quay MB/s | checker lines/s | quay lines/s | quay / checker |");
+    println!("|:-------|------:|---:|-------------:|----------:|----------------:|-------------:|---------------:|");
     for (name, stream) in streams() {
         let (lines_seconds, quay_seconds) = measure(&lines, &quay, &stream);
         let (count, megabytes) = (stream.lines as f64, stream.input.len() as f64 / 1e6);

@@ -73,7 +73,7 @@ fn main() {
     });
     table(&by_readers);
     println!("\n## Lines through pipes\n");
-    println!("The program `quay` beside `lines`, the checker's own on quick's state, from start to end through the same pipes.\n");
+    println!("The program `quay` beside the checker's own, built on quick, from start to end through the same pipes.\n");
     lines::table();
 }
 
@@ -85,7 +85,7 @@ fn machine() -> String {
         .filter(|line| line.starts_with("model name"))
         .filter_map(|line| line.split(':').nth(1));
     let name = names.next().unwrap_or("an unnamed processor").trim();
-    format!("{name}, {} of them", names.count() + 1)
+    format!("{name}, {} cores", names.count() + 1)
 }
 
 /// Every call, with 1,024 frames unless said.
