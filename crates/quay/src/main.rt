@@ -5,6 +5,8 @@ use libc::STDOUT_FILENO;
 use text::Pending;
 ghost use mathlib.Core.Path.{_≡_};
 ghost use mathlib.Core.Bool.{true};
+ghost use Prim.Native.Nat.{_≤_};
+ghost use lib.ListN.{length};
 ghost use Rattle.rules.specs.Calls.{idle};
 ghost use Rattle.rules.specs.Image.{imageOf};
 ghost use Rattle.text.specs.Streams.{Fed, feed};
@@ -18,13 +20,29 @@ struct Pumped {
     written: bool,
 }
 
+// Says on standard error why the last call of the system failed.
+fn complain() {
+    os::fail(&[b'q', b'u', b'a', b'y']);
+}
+
 // Writes answers, or says why it cannot.
 fn put(answers: &[u8]) -> bool {
     if io::write_all(STDOUT_FILENO, answers) {
         return true;
     }
-    os::fail(&[b'q', b'u', b'a', b'y']);
+    complain();
     false
+}
+
+// Reads some bytes, and returns how many: 0 at the end of the input, or where it cannot be read, which it says.
+fn get(chunk: &mut [u8]) -> usize
+    ensures { λ r. ⌜ r ≤ length (now (chunk .exit)) ⌝ }
+{
+    let got = libc::read(STDIN_FILENO, chunk);
+    if got < 0 {
+        complain();
+    }
+    io::count(got, chunk)
 }
 
 // Feeds the box a chunk of the input, and writes the answers.
@@ -61,8 +79,7 @@ fn serve(image: &mut [u8], chunk: &mut [u8], out: &mut [u8])
     let mut pending = lines::no_text();
     let mut turns = u64::MAX;
     while turns > 0 {
-        let got = libc::read(STDIN_FILENO, chunk);
-        let n = io::count(got, chunk);
+        let n = get(chunk);
         if n == 0 {
             let len = lines::finish(image, pending, out);
             put(&out[..len]);

@@ -21,11 +21,8 @@ no-text-requires c κs = search needs
 loop-holds : tie.Need-loop-holds Inv-loop μ-loop
 loop-holds c = (starts _ _ (c .before .before .before .before .pre .0) (c .no-text .ensures), c .before .before .before .before .pre .1, refl, refl, refl)
 
-read-requires : tie.Need-read-requires Inv-loop μ-loop
-read-requires c κs = search needs
-
-count-requires : tie.Need-count-requires Inv-loop μ-loop
-count-requires c κs = search needs
+get-requires : tie.Need-get-requires Inv-loop μ-loop
+get-requires c κs = search needs
 
 finish-requires : tie.Need-finish-requires Inv-loop μ-loop
 finish-requires c κs = search needs
@@ -55,10 +52,10 @@ slice-reshare-prefix-pump : tie.Need-slice-reshare-prefix-pump Inv-loop μ-loop
 slice-reshare-prefix-pump c = search needs
 
 slice-aggregate-pump : tie.Need-slice-aggregate-pump Inv-loop μ-loop
-slice-aggregate-pump c = search needs
+slice-aggregate-pump c = sym (length-take-le _ _ (c .before .before .before .before .before .get .ensures))
 
 pump-requires : tie.Need-pump-requires Inv-loop μ-loop
-pump-requires c κs = (c .before .before .before .before .before .before .before .before .before .before .before .loop .inv .0, c .before .before .before .before .before .before .before .before .before .before .before .loop .inv .1)
+pump-requires c κs = (c .before .before .before .before .before .before .before .before .before .loop .inv .0, c .before .before .before .before .before .before .before .before .before .loop .inv .1)
 
 same-length-4 : tie.Need-same-length-4 Inv-loop μ-loop
 same-length-4 c = search needs
@@ -101,8 +98,7 @@ serve-spec =
     μ-loop
     no-text-requires
     loop-holds
-    read-requires
-    count-requires
+    get-requires
     finish-requires
     slice-reshare-prefix-put
     slice-aggregate-put
