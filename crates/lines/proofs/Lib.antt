@@ -6,4 +6,5 @@ pub mod Replies
 pub mod Shown
 pub mod Letters
 pub mod Kept
+pub mod Taking
 pub mod Stands

@@ -66,40 +66,41 @@ gives-told r q before after a e g = rw e at g
 pub gives-setup : (s : State) (r q : Reply) (before after : List ℕ) (a : Answered) → r ≡ q → Gives (toldSetup s r) before after a → Gives (toldSetup s q) before after a
 gives-setup s r q before after a e g = rw e at g
 
+-- by the variant that a `match` met, a call was refused or carried out
+pub refused-by : (a : Answer) → OneOf (0 ∷ []) (tagOf the-type a) → carriedOut a ≡ false
+refused-by (Refused number) k = refl
+refused-by Done k = absurd (miss (0 ∷ []) 1 tt k)
+refused-by (Hit file page) k = absurd (miss (0 ∷ []) 2 tt k)
+refused-by (Wait file page) k = absurd (miss (0 ∷ []) 3 tt k)
+refused-by (Fetch file page) k = absurd (miss (0 ∷ []) 4 tt k)
+refused-by End k = absurd (miss (0 ∷ []) 5 tt k)
+refused-by Nothing k = absurd (miss (0 ∷ []) 6 tt k)
+refused-by (Stolen file page) k = absurd (miss (0 ∷ []) 7 tt k)
+refused-by Arrived k = absurd (miss (0 ∷ []) 8 tt k)
+refused-by (Replaced file page) k = absurd (miss (0 ∷ []) 9 tt k)
+refused-by (Ran fetches reads) k = absurd (miss (0 ∷ []) 10 tt k)
+
+pub carried-by : (a : Answer) → OneOf others (tagOf the-type a) → carriedOut a ≡ true
+carried-by (Refused number) k = absurd (miss others 0 tt k)
+carried-by Done k = refl
+carried-by (Hit file page) k = refl
+carried-by (Wait file page) k = refl
+carried-by (Fetch file page) k = refl
+carried-by End k = refl
+carried-by Nothing k = refl
+carried-by (Stolen file page) k = refl
+carried-by Arrived k = refl
+carried-by (Replaced file page) k = refl
+carried-by (Ran fetches reads) k = refl
+
 module _ (s : State) (r : Reply) (before after : List ℕ) (a : Answered) where
   -- refused, it leaves the old state
   pub setup-left : OneOf (0 ∷ []) (tagOf the-type (r .answer)) → Gives (told (record { state = s; answer = r .answer })) before after a → Gives (toldSetup s r) before after a
-  setup-left k g = rw (no (r .answer) k) g
-    where
-      no : (a : Answer) → OneOf (0 ∷ []) (tagOf the-type a) → carriedOut a ≡ false
-      no (Refused number) k = refl
-      no Done k = absurd (miss (0 ∷ []) 1 tt k)
-      no (Hit file page) k = absurd (miss (0 ∷ []) 2 tt k)
-      no (Wait file page) k = absurd (miss (0 ∷ []) 3 tt k)
-      no (Fetch file page) k = absurd (miss (0 ∷ []) 4 tt k)
-      no End k = absurd (miss (0 ∷ []) 5 tt k)
-      no Nothing k = absurd (miss (0 ∷ []) 6 tt k)
-      no (Stolen file page) k = absurd (miss (0 ∷ []) 7 tt k)
-      no Arrived k = absurd (miss (0 ∷ []) 8 tt k)
-      no (Replaced file page) k = absurd (miss (0 ∷ []) 9 tt k)
-      no (Ran fetches reads) k = absurd (miss (0 ∷ []) 10 tt k)
+  setup-left k g = rw (refused-by (r .answer) k) g
 
   -- carried out, it gives its own
   pub setup-taken : OneOf others (tagOf the-type (r .answer)) → Gives (told r) before after a → Gives (toldSetup s r) before after a
-  setup-taken k g = rw (yes (r .answer) k) g
-    where
-      yes : (a : Answer) → OneOf others (tagOf the-type a) → carriedOut a ≡ true
-      yes (Refused number) k = absurd (miss others 0 tt k)
-      yes Done k = refl
-      yes (Hit file page) k = refl
-      yes (Wait file page) k = refl
-      yes (Fetch file page) k = refl
-      yes End k = refl
-      yes Nothing k = refl
-      yes (Stolen file page) k = refl
-      yes Arrived k = refl
-      yes (Replaced file page) k = refl
-      yes (Ran fetches reads) k = refl
+  setup-taken k g = rw (carried-by (r .answer) k) g
 
 -- ---- lists
 

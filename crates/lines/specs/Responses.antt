@@ -17,8 +17,12 @@ use Rattle.text.specs.Written.{Put}
 use Rattle.lines.specs.declared.Said.{Said}
 
 -- the longest answer, that of 8,192 pairs, has 57,351 bytes with its line end
+abbrev pub longest : ℕ
+longest = 57351
+
+-- a buffer has room for it
 abbrev pub Roomy : List ℕ → Type 0
-Roomy buffer = 57351 ≤ length buffer
+Roomy buffer = longest ≤ length buffer
 
 -- behind every answer line
 abbrev pub lineEnd : List ℕ

@@ -5,7 +5,6 @@ use rules::Listing;
 use rules::Outcome;
 use rules::View;
 use text::Command;
-use text::Pending;
 ghost use Prim.Native.Nat.{ℕ, _+_, _≤_, _<_};
 ghost use mathlib.Core.Path.{_≡_};
 ghost use mathlib.Core.List.{List, [], _∷_, _++_};
@@ -18,7 +17,8 @@ ghost use Rattle.rules.specs.Image.{imageOf};
 ghost use Rattle.rules.specs.Lines.{lineOf, answerLine, orderLine, clustersLine, told, toldSetup, shown, obeyed, respondOf};
 ghost use Rattle.text.specs.Written.{fieldOf, Put};
 ghost use Rattle.lines.specs.Responses.{Roomy, lineEnd, countIn, orderOf, Front, clustersShown, saidOf, Gives};
-ghost use Rattle.lines.specs.Sessions.{sessionOf, steppedOf, Answers, Steps, Moves, GoesOn, Feeds, Finishes};
+ghost use Rattle.text.specs.Cuts.{textIn};
+ghost use Rattle.lines.specs.Sessions.{noText, ready, goneIn, goneOf, leftIn, fedIn, feedOf, finishOf};
 
 // A line's answer: the view after it, and how many bytes were written.
 struct Said {
@@ -26,24 +26,15 @@ struct Said {
     len: usize,
 }
 
-// The view and the text since the last line end after some of a chunk, the place after that, and how many bytes of answers were written.
-struct Moved {
-    view: View,
-    pending: Pending,
-    next: usize,
-    len: usize,
-}
-
-// The view after some lines that stood whole in a chunk, the place after them, and how many bytes of answers were written.
+// The view after some lines of a chunk, the place after them, and how many bytes of answers were written.
 struct Went {
     view: View,
     next: usize,
     len: usize,
 }
 
-// How far a chunk is taken where the box is an image: the text since the last line end, the place, and how many bytes of answers were written.
+// How far a chunk is taken, and how many bytes of answers were written.
 pub struct Progress {
-    pub pending: Pending,
     pub next: usize,
     pub len: usize,
 }
@@ -416,146 +407,75 @@ fn respond(
 
 // ---- the input in chunks
 
-// No text since the last line end.
-pub fn no_text() -> Pending
-    ensures { λ r. ⌜ r .len ≡ 0 ⌝ }
-{
-    Pending {
-        bytes: [0; 200],
-        len: 0,
-    }
-}
-
-// Answers the pending text as a line, whatever it holds where it is too long.
-fn respond_to(
+// Answers the line that a piece of a chunk completes: it stands behind the text that came before the chunk.
+fn answer_line(
     v: View,
     cached: &mut [u64; 128],
     fetching: &mut [u64; 128],
-    p: Pending,
+    text: &[u8],
+    piece: &[u8],
     out: &mut [u8],
 ) -> Said
     requires { ⌜ Valid (stateOf v (now cached) (now fetching)) ⌝ }
-    requires { ⌜ Roomy (now out) ⌝ }
+    requires { ⌜ (length (now text) ≡ 201) × Roomy (now out) ⌝ }
     ensures { λ a.
-        ⌜ Answers (stateOf v (now (cached .entry)) (now (fetching .entry))) p (now (out .entry)) (now (out .exit)) (saidOf a (now (cached .exit)) (now (fetching .exit))) ⌝ }
+        ⌜ Gives (respondOf (stateOf v (now (cached .entry)) (now (fetching .entry))) (textIn (now (text .entry)) ++ now (piece .entry))) (now (out .entry)) (now (out .exit)) (saidOf a (now (cached .exit)) (now (fetching .exit))) ⌝ }
 {
-    let len = p.len;
-    if 200 < len {
+    if text[0] == 0 {
+        return respond(v, cached, fetching, piece, out);
+    }
+    let mut line = [0u8; 201];
+    text::put_bytes(&mut line, 0, text);
+    text::append(&mut line, piece);
+    let end = line[0] as usize;
+    if 200 < end {
         return refuse(v, out);
     }
-    let bytes = p.bytes;
-    respond(v, cached, fetching, &bytes[..len], out)
+    respond(v, cached, fetching, &line[1..1 + end], out)
 }
 
-// Takes bytes of the chunk from `from` on, to the first line end or all, behind a pending text; a line that ends is answered.
-fn step(
+// Takes lines of the chunk from `from` on, as long as there is room for one more answer. The bytes behind the last line end go behind the text.
+fn go_through(
     v: View,
     cached: &mut [u64; 128],
     fetching: &mut [u64; 128],
-    pending: Pending,
-    chunk: &[u8],
-    from: usize,
-    out: &mut [u8],
-) -> Moved
-    requires { ⌜ Valid (stateOf v (now cached) (now fetching)) ⌝ }
-    requires { ⌜ Roomy (now out) ⌝ }
-    ensures { λ r.
-        ⌜ Steps (sessionOf v (now (cached .entry)) (now (fetching .entry)) pending) (now (chunk .entry)) from (now (out .entry)) (now (out .exit)) (steppedOf r (now (cached .exit)) (now (fetching .exit))) ⌝ }
-{
-    let taken = text::cut(pending, chunk, from);
-    let text = taken.pending;
-    if taken.ended {
-        let a = respond_to(v, cached, fetching, text, out);
-        let view = a.view;
-        let pending = no_text();
-        return Moved {
-            view,
-            pending,
-            next: taken.next,
-            len: a.len,
-        };
-    }
-    Moved {
-        view: v,
-        pending: text,
-        next: taken.next,
-        len: 0,
-    }
-}
-
-// Answers the lines that stand whole in the chunk from `from` on, where they stand, as long as there is room for one more answer.
-fn go_lines(
-    v: View,
-    cached: &mut [u64; 128],
-    fetching: &mut [u64; 128],
+    text: &mut [u8],
     chunk: &[u8],
     from: usize,
     out: &mut [u8],
 ) -> Went
     requires { ⌜ Valid (stateOf v (now cached) (now fetching)) ⌝ }
+    requires { ⌜ (length (now text) ≡ 201) × (from ≤ length (now chunk)) × Roomy (now out) ⌝ }
     ensures { λ r.
-        ⌜ GoesOn v (now (cached .entry)) (now (fetching .entry)) (now (chunk .entry)) from (now (out .entry)) (now (out .exit)) (now (cached .exit)) (now (fetching .exit)) r ⌝ }
+        ⌜ goneIn r (now (cached .exit)) (now (fetching .exit)) (now (text .exit)) (now (out .exit)) ≡ goneOf (stateOf v (now (cached .entry)) (now (fetching .entry))) (now (text .entry)) (now (chunk .entry)) from (now (out .entry)) ⌝ }
 {
     let mut w = v;
     let mut next = from;
     let mut len: usize = 0;
     let mut end = text::line_end(chunk, from);
     while end < chunk.len() && ROOM <= out.len() - len {
-        let a = respond(w, cached, fetching, &chunk[next..end], &mut out[len..]);
+        let a = answer_line(
+            w,
+            cached,
+            fetching,
+            text,
+            &chunk[next..end],
+            &mut out[len..],
+        );
+        text[0] = 0;
         w = a.view;
         next = end + 1;
         len += a.len;
         end = text::line_end(chunk, next);
     }
+    if chunk.len() <= end {
+        text::append(text, &chunk[next..]);
+        next = chunk.len();
+    }
     Went { view: w, next, len }
 }
 
-// Takes lines of the chunk from `from` on, as long as there is room for one more answer: the first with the pending text, then those that stand whole
-// in the chunk. What follows the last of them is pending.
-fn go_through(
-    v: View,
-    cached: &mut [u64; 128],
-    fetching: &mut [u64; 128],
-    pending: Pending,
-    chunk: &[u8],
-    from: usize,
-    out: &mut [u8],
-) -> Moved
-    requires { ⌜ Valid (stateOf v (now cached) (now fetching)) ⌝ }
-    requires { ⌜ Roomy (now out) ⌝ }
-    ensures { λ r.
-        ⌜ Moves (sessionOf v (now (cached .entry)) (now (fetching .entry)) pending) (now (chunk .entry)) from (now (out .entry)) (now (out .exit)) (steppedOf r (now (cached .exit)) (now (fetching .exit))) ⌝ }
-    ensures on { λ r. ⌜ (from < length (now (chunk .entry)) → from < r .next) ⌝ }
-{
-    let first = step(v, cached, fetching, pending, chunk, from, out);
-    let text = first.pending;
-    if text.len != 0 {
-        return first;
-    }
-    let view = first.view;
-    let start = first.len;
-    let rest = go_lines(view, cached, fetching, chunk, first.next, &mut out[start..]);
-    let view = rest.view;
-    let len = start + rest.len;
-    let left = text::cut(text, chunk, rest.next);
-    if left.ended {
-        return Moved {
-            view,
-            pending: text,
-            next: rest.next,
-            len,
-        };
-    }
-    let pending = left.pending;
-    Moved {
-        view,
-        pending,
-        next: left.next,
-        len,
-    }
-}
-
-// ---- the program, on an image
+// ---- the program, on lent buffers: the image of the box, and the text since the last line end
 
 // The image of the idle state, with which the program starts.
 pub fn idle_image() -> [u8; 2208]
@@ -568,48 +488,61 @@ pub fn idle_image() -> [u8; 2208]
     image
 }
 
-// Takes lines of the chunk from `from` on, as long as there is room for one more answer. With an image that Restore refuses, or a buffer too short for
-// any answer, none is taken.
+// No text, with which the program starts.
+pub fn no_text() -> [u8; 201]
+    ensures { λ r. ⌜ r ≡ noText ⌝ }
+{
+    [0; 201]
+}
+
+// The buffers and the place are such that lines can be taken.
+fn ready(text: &[u8], chunk: &[u8], from: usize, out: &[u8]) -> bool
+    ensures { λ r. ⌜ r ≡ ready (now (text .entry)) (now (chunk .entry)) from (now (out .entry)) ⌝ }
+{
+    if out.len() < ROOM {
+        return false;
+    }
+    if text.len() != 201 {
+        return false;
+    }
+    if chunk.len() < from {
+        return false;
+    }
+    true
+}
+
+// Takes lines of the chunk from `from` on, as long as there is room for one more answer. With an image that Restore refuses, no buffer of 201 bytes for
+// the text, a place past the chunk, or a buffer too short for any answer, none is taken and all is left.
 pub fn feed(
     image: &mut [u8],
-    pending: Pending,
+    text: &mut [u8],
     chunk: &[u8],
     from: usize,
     out: &mut [u8],
 ) -> Progress
-    ensures { λ r. ⌜ Feeds (now (image .entry)) pending (now (chunk .entry)) from (now (out .entry)) (now (image .exit)) (now (out .exit)) r ⌝ }
+    ensures { λ r. ⌜ fedIn r (now (image .exit)) (now (text .exit)) (now (out .exit)) ≡ feedOf (now (image .entry)) (now (text .entry)) (now (chunk .entry)) from (now (out .entry)) ⌝ }
 {
-    if out.len() < ROOM {
-        return Progress {
-            pending,
-            next: from,
-            len: 0,
-        };
+    if !ready(text, chunk, from, out) {
+        return Progress { next: from, len: 0 };
     }
     let mut cached = [0u64; 128];
     let mut fetching = [0u64; 128];
     let restored = image::restore(image, &mut cached, &mut fetching);
     let answer = restored.answer;
     match answer {
-        Answer::Refused(_) => Progress {
-            pending,
-            next: from,
-            len: 0,
-        },
+        Answer::Refused(_) => Progress { next: from, len: 0 },
         _ => {
             let r = go_through(
                 restored.view,
                 &mut cached,
                 &mut fetching,
-                pending,
+                text,
                 chunk,
                 from,
                 out,
             );
             image::save_whole(r.view, &cached, &fetching, image);
-            let pending = r.pending;
             Progress {
-                pending,
                 next: r.next,
                 len: r.len,
             }
@@ -618,13 +551,16 @@ pub fn feed(
 }
 
 // The end of the input: a text that is not empty is one last line, as if its line end followed.
-pub fn finish(image: &mut [u8], pending: Pending, out: &mut [u8]) -> usize
-    ensures { λ r. ⌜ Finishes (now (image .entry)) pending (now (out .entry)) (now (image .exit)) (now (out .exit)) r ⌝ }
+pub fn finish(image: &mut [u8], text: &mut [u8], out: &mut [u8]) -> usize
+    ensures { λ r. ⌜ leftIn r (now (image .exit)) (now (text .exit)) (now (out .exit)) ≡ finishOf (now (image .entry)) (now (text .entry)) (now (out .entry)) ⌝ }
 {
-    if pending.len == 0 {
+    if text.len() == 0 {
+        return 0;
+    }
+    if text[0] == 0 {
         return 0;
     }
     let end = [b'\n'];
-    let r = feed(image, pending, &end, 0, out);
+    let r = feed(image, text, &end, 0, out);
     r.len
 }

@@ -1,52 +1,67 @@
 -- A chunk fed piece by piece. Assumes nothing.
 use Prim.Native.Nat.{ℕ, _≤_, _<_}
-use mathlib.Core.Path.{_≡_, refl, sym, subst, _∙_}
+use mathlib.Core.Path.{_≡_, refl, sym, subst, _∙_, ap}
 use mathlib.Core.List.{List}
+use native.Mathlib.Omega.{arith}
 use lib.ListN.{length, drop, drop-of-length-le}
 use Rattle.rules.specs.Calls.{idle}
 use Rattle.rules.specs.Image.{imageOf}
 use Rattle.text.specs.Streams.{Fed, feed, unfed}
-use Rattle.text.specs.declared.Pending.{Pending}
 use Rattle.text.proofs.Feeds.{feed-none}
 use Rattle.lines.specs.Responses.{Roomy}
-use Rattle.lines.specs.Sessions.{StandsIn, Feeds}
-use Rattle.lines.specs.declared.Progress.{Progress}
-use Rattle.lines.proofs.Stands.{stands-first}
-use Rattle.quay.specs.Runs.{Stands}
+use Rattle.lines.specs.Sessions.{noText, Taken, feedOf, StandsIn}
+use Rattle.lines.proofs.Stands.{StandsOn, stands-on, stands-first}
+use Rattle.quay.specs.Runs.{Stands, Within, Told, told, handed}
+use Rattle.quay.specs.declared.Input.{Input}
+use Rattle.quay.specs.declared.Input.the-variants.{Bytes}
 
 -- the program starts idle, with no text
-pub starts : (image : List ℕ) (pending : Pending) → image ≡ imageOf idle → pending .len ≡ 0 → Stands image pending
-starts image pending e none = (unfed, subst (λ i. StandsIn i pending unfed) (sym e) (stands-first pending none))
+pub starts : (image text : List ℕ) → image ≡ imageOf idle → text ≡ noText → Stands image text
+starts image text e t = (unfed, subst (λ i. StandsIn i text unfed) (sym e) (subst (λ u. StandsIn (imageOf idle) u unfed) (sym t) stands-first))
+
+-- bytes that were read are in the chunk
+pub bytes-within : (r : Input) (n : ℕ) (chunk : List ℕ) → r ≡ Bytes n → Within r chunk → n ≤ length chunk
+bytes-within r n chunk e w = subst (λ q. Within q chunk) e w
 
 -- a chunk is fed so far: what is left of it is still to be fed
-pub record FedTo (image : List ℕ) (pending : Pending) (chunk now : List ℕ) (text : Pending) (next : ℕ) : Type 0 where
-  pub stands : Stands now text
-  pub left : (f : Fed) → StandsIn image pending f → (to : Fed) × StandsIn now text to × (feed f chunk ≡ feed to (drop next chunk))
+pub record FedTo (image text chunk now held : List ℕ) (next : ℕ) : Type 0 where
+  pub stands : Stands now held
+  pub left : (f : Fed) → StandsIn image text f → (to : Fed) × StandsIn now held to × (feed f chunk ≡ feed to (drop next chunk))
 
 -- at first
-pub fed-none : (image : List ℕ) (pending : Pending) (chunk : List ℕ) → Stands image pending → FedTo image pending chunk image pending 0
-fed-none image pending chunk s = record { stands = s; left = λ f at. (f, at, refl) }
+pub fed-none : (image text chunk : List ℕ) → Stands image text → FedTo image text chunk image text 0
+fed-none image text chunk s = record { stands = s; left = λ f at. (f, at, refl) }
 
-module _ (image : List ℕ) (pending : Pending) (chunk now : List ℕ) (text : Pending) (next : ℕ) (k : FedTo image pending chunk now text next) where
-  module _ (before after out : List ℕ) (r : Progress) (g : Feeds now text chunk next before after out r) where
+module _ (image text chunk now held : List ℕ) (next : ℕ) (k : FedTo image text chunk now held next) where
+  module _ (out : List ℕ) (roomy : Roomy out) (inside : next < length chunk) (after kept said : List ℕ) (to : ℕ)
+      (e : told after kept said to ≡ handed (feedOf now held chunk next out)) where
+    -- what the call left stands for the program that it was fed to
+    on : (f : Fed) → StandsIn now held f → (g : Fed) × StandsIn after kept g × (feed f (drop next chunk) ≡ feed g (drop to chunk)) × (next < to)
+    on f at =
+        let s = stands-on now held chunk next out f at roomy (omega arith) in
+        let image-is = ap (λ (t : Told). t .image) e in
+        let text-is = ap (λ (t : Told). t .text) e in
+        let next-is = ap (λ (t : Told). t .next) e in
+        (s .to, rw (image-is, text-is) (s .stands), rw next-is (s .rest), rw next-is (s .more inside))
+
     -- some more
-    pub fed-more : FedTo image pending chunk after (r .pending) (r .next)
+    pub fed-more : FedTo image text chunk after kept to
     fed-more =
-        let s = g .grown (k .stands .0) (k .stands .1) in
+        let s = on (k .stands .0) (k .stands .1) in
         record {
-          stands = (s .0 .to, s .1);
+          stands = (s .0, s .1);
           left = λ f at.
               let l = k .left f at in
-              let h = g .grown (l .0) (l .1) in
-              (h .0 .to, h .1, l .2 ∙ h .0 .rest);
+              let h = on (l .0) (l .1) in
+              (h .0, h .1, l .2 ∙ h .2);
         }
 
     -- it goes on
-    pub fed-on : Roomy before → next < length chunk → next < r .next
-    fed-on room h = g .on (k .stands .0) (k .stands .1) room h
+    pub fed-far : next < to
+    fed-far = on (k .stands .0) (k .stands .1) .3
 
   -- all of it
-  pub fed-all : length chunk ≤ next → (f : Fed) → StandsIn image pending f → StandsIn now text (feed f chunk)
+  pub fed-all : length chunk ≤ next → (f : Fed) → StandsIn image text f → StandsIn now held (feed f chunk)
   fed-all h f at =
       let l = k .left f at in
-      subst (StandsIn now text) (sym (l .2 ∙ rw (drop-of-length-le chunk h) (feed-none (l .0) (l .1 .text .one)))) (l .1)
+      subst (StandsIn now held) (sym (l .2 ∙ rw (drop-of-length-le chunk h) (feed-none (l .0) (l .1 .one)))) (l .1)

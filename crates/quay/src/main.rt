@@ -2,22 +2,22 @@
 
 use libc::STDIN_FILENO;
 use libc::STDOUT_FILENO;
-use text::Pending;
 ghost use mathlib.Core.Path.{_≡_};
 ghost use mathlib.Core.Bool.{true};
 ghost use Prim.Native.Nat.{_≤_};
-ghost use lib.ListN.{length};
+ghost use lib.ListN.{length, take};
 ghost use Rattle.rules.specs.Calls.{idle};
 ghost use Rattle.rules.specs.Image.{imageOf};
 ghost use Rattle.text.specs.Streams.{Fed, feed};
 ghost use Rattle.lines.specs.Responses.{Roomy};
-ghost use Rattle.lines.specs.Sessions.{StandsIn};
-ghost use Rattle.quay.specs.Runs.{Stands};
+ghost use Rattle.lines.specs.Sessions.{noText, feedOf, finishOf, StandsIn};
+ghost use Rattle.quay.specs.Runs.{Stands, Within, answersIn, handed, told};
 
-// The text since the last line end, and whether all answers could be written.
-struct Pumped {
-    pending: Pending,
-    written: bool,
+// What reading came to: so many bytes, the end of the input, or a failure.
+enum Input {
+    Bytes(usize),
+    End,
+    Failed,
 }
 
 // Says on standard error why the last call of the system failed.
@@ -34,69 +34,94 @@ fn put(answers: &[u8]) -> bool {
     false
 }
 
-// Reads some bytes, and returns how many: 0 at the end of the input, or where it cannot be read, which it says.
-fn get(chunk: &mut [u8]) -> usize
-    ensures { λ r. ⌜ r ≤ length (now (chunk .exit)) ⌝ }
+// Reads some bytes, or says why it cannot.
+fn get(chunk: &mut [u8]) -> Input
+    ensures { λ r. ⌜ Within r (now (chunk .exit)) ⌝ }
 {
     let got = libc::read(STDIN_FILENO, chunk);
     if got < 0 {
         complain();
+        return Input::Failed;
     }
-    io::count(got, chunk)
+    let n = io::count(got, chunk);
+    if n == 0 {
+        return Input::End;
+    }
+    Input::Bytes(n)
 }
 
-// Feeds the box a chunk of the input, and writes the answers.
-fn pump(image: &mut [u8], pending: Pending, chunk: &[u8], out: &mut [u8]) -> Pumped
-    requires { ⌜ Stands (now image) pending × Roomy (now out) ⌝ }
-    ensures { λ r. ⌜ Stands (now (image .exit)) (r .pending) ⌝ }
-    ensures whole { λ r.
-        ⌜ ((f : Fed) → StandsIn (now (image .entry)) pending f → r .written ≡ true → StandsIn (now (image .exit)) (r .pending) (feed f (now (chunk .entry)))) ⌝ }
+// Feeds the box a chunk from a place on. What is handed back, to be written, are the answers, and the place is moved on.
+fn answers<'a>(
+    image: &mut [u8],
+    text: &mut [u8],
+    chunk: &[u8],
+    next: &mut usize,
+    out: &'a mut [u8],
+) -> &'a [u8]
+    ensures { λ r.
+        ⌜ told (now (image .exit)) (now (text .exit)) (now r) (now (next .exit)) ≡ handed (feedOf (now (image .entry)) (now (text .entry)) (now (chunk .entry)) (now (next .entry)) (now (out .entry))) ⌝ }
 {
-    let mut text = pending;
+    let from = *next;
+    let r = lines::feed(image, text, chunk, from, out);
+    *next = r.next;
+    let len = r.len;
+    let written = &out[..];
+    &written[..len]
+}
+
+// At the end of the input: the answer to the text in hand, if any.
+fn last<'a>(image: &mut [u8], text: &mut [u8], out: &'a mut [u8]) -> &'a [u8]
+    ensures { λ r. ⌜ now r ≡ answersIn (finishOf (now (image .entry)) (now (text .entry)) (now (out .entry))) ⌝ }
+{
+    let len = lines::finish(image, text, out);
+    let written = &out[..];
+    &written[..len]
+}
+
+// Feeds the box the first n bytes of a chunk, and writes the answers. Answers whether all could be written.
+fn pump(image: &mut [u8], text: &mut [u8], chunk: &[u8], n: usize, out: &mut [u8]) -> bool
+    requires { ⌜ Stands (now image) (now text) × Roomy (now out) × (n ≤ length (now chunk)) ⌝ }
+    ensures { λ r. ⌜ Stands (now (image .exit)) (now (text .exit)) ⌝ }
+    ensures whole { λ r.
+        ⌜ ((f : Fed) → StandsIn (now (image .entry)) (now (text .entry)) f → r ≡ true → StandsIn (now (image .exit)) (now (text .exit)) (feed f (take n (now (chunk .entry))))) ⌝ }
+{
     let mut next: usize = 0;
-    while next < chunk.len() {
-        let r = lines::feed(image, text, chunk, next, out);
-        text = r.pending;
-        next = r.next;
-        if !put(&out[..r.len]) {
-            return Pumped {
-                pending: text,
-                written: false,
-            };
+    while next < n {
+        if !put(answers(image, text, &chunk[..n], &mut next, out)) {
+            return false;
         }
     }
-    Pumped {
-        pending: text,
-        written: true,
-    }
+    true
 }
 
-// Reads chunks until the input ends or an answer cannot be written. A proved loop has to end, and nothing says that an input does:
-// so the loop counts its turns down, from a number that no run uses up.
-fn serve(image: &mut [u8], chunk: &mut [u8], out: &mut [u8])
-    requires { ⌜ (now image ≡ imageOf idle) × Roomy (now out) ⌝ }
+// Reads chunks until the input ends, cannot be read, or an answer cannot be written. Where it cannot be read, the text in hand is no line. A proved loop has
+// to end, and nothing says that an input does: so the loop counts its turns down, from a number that no run uses up.
+fn serve(image: &mut [u8], text: &mut [u8], chunk: &mut [u8], out: &mut [u8])
+    requires { ⌜ (now image ≡ imageOf idle) × (now text ≡ noText) × Roomy (now out) ⌝ }
 {
-    let mut pending = lines::no_text();
     let mut turns = u64::MAX;
     while turns > 0 {
-        let n = get(chunk);
-        if n == 0 {
-            let len = lines::finish(image, pending, out);
-            put(&out[..len]);
-            return;
+        let input = get(chunk);
+        match input {
+            Input::Bytes(n) => {
+                if !pump(image, text, chunk, n, out) {
+                    return;
+                }
+            }
+            Input::End => {
+                put(last(image, text, out));
+                return;
+            }
+            Input::Failed => return,
         }
-        let r = pump(image, pending, &chunk[..n], out);
-        if !r.written {
-            return;
-        }
-        pending = r.pending;
         turns -= 1;
     }
 }
 
 fn main() {
     let mut image = lines::idle_image();
+    let mut text = lines::no_text();
     let mut chunk = io::large_buffer();
     let mut out = [0u8; 131072];
-    serve(&mut image, &mut chunk, &mut out);
+    serve(&mut image, &mut text, &mut chunk, &mut out);
 }

@@ -5,8 +5,8 @@ use mathlib.Core.Path.{_≡_, refl, sym, _∙_, ap}
 use mathlib.Core.Bool.{true, false}
 use mathlib.Core.List.{List, [], _∷_, _++_, append-assoc, append-nil}
 use native.Mathlib.Omega.{arith}
-use borrow.Author.Tests.{lt-leb, ltb-true, ltb-false}
-use lib.ListN.{length, drop}
+use borrow.Author.Tests.{lt-leb}
+use lib.ListN.{length, drop, length-drop}
 use lib.Seq.{drop-drop}
 use lib.Dec.{eqb}
 use Rattle.rules.specs.Lists.{each}
@@ -14,8 +14,7 @@ use Rattle.rules.specs.Calls.{refused}
 use Rattle.rules.specs.Lines.{split, wellFormed, told, respondOf, linesOf, answers, programOf}
 use Rattle.rules.specs.declared.State.{State}
 use Rattle.text.specs.Commands.{firstPiece}
-use Rattle.text.specs.Cuts.{lineIn, hasEnd}
-use Rattle.text.specs.Streams.{complete, rest, stateAfter, Fed, obeying, answered, feed, feedAll, unfed, outputOf}
+use Rattle.text.specs.Streams.{OnePiece, complete, rest, stateAfter, Fed, obeying, behind, answered, feed, feedAll, unfed, outputOf}
 use Rattle.text.proofs.Pieces.{by-test, onto, onto-onto, onto-none, split-some, split-at, split-on, first-on}
 
 -- ---- the pieces of two inputs, one after the other
@@ -47,11 +46,7 @@ split-join sep (x ∷ xs) b =
     ∙ ap (onto (x ∷ [])) (split-join sep xs b)
     ∙ rw (split-on sep x xs e, split-some sep xs) (onto-join x (firstPiece sep xs) (drop 1 (split sep xs)) (split sep b)))
 
--- a text without a separator is one piece
-abbrev pub OnePiece : ℕ → List ℕ → Type 0
-OnePiece sep text = split sep text ≡ text ∷ []
-
--- such a text goes to the front of what follows
+-- a text of one piece goes to the front of what follows
 pub one-join : (sep : ℕ) (text b : List ℕ) → OnePiece sep text → split sep (text ++ b) ≡ onto text (split sep b)
 unfolding complete rest
 one-join sep text b e = split-join sep text b ∙ rw e
@@ -203,16 +198,22 @@ on-count sep b bs e = rw (split-on sep b bs e, split-some sep bs)
 at-count : (sep b : ℕ) (bs : List ℕ) → eqb b sep ≡ true → 2 ≤ length (split sep (b ∷ bs))
 at-count sep b bs e = rw (split-at sep b bs e, split-some sep bs) (omega arith)
 
--- the bytes after the first separator
-pub split-ended : (sep : ℕ) (l : List ℕ) → 1 < length (split sep l) → split sep l ≡ firstPiece sep l ∷ split sep (drop (suc (length (firstPiece sep l))) l)
+-- a separator follows the first piece: the other pieces stand behind it
+pub record Ended (sep : ℕ) (l : List ℕ) : Type 0 where
+  pub inside : length (firstPiece sep l) < length l
+  pub pieces : split sep l ≡ firstPiece sep l ∷ split sep (drop (suc (length (firstPiece sep l))) l)
+
+-- where there are more pieces
+pub split-ended : (sep : ℕ) (l : List ℕ) → 1 < length (split sep l) → Ended sep l
 unfolding split
 split-ended sep [] h = absurd (omega arith)
 split-ended sep (b ∷ bs) h =
     by-test (eqb b sep)
-    (λ e. split-at sep b bs e ∙ rw (split-at sep b bs e))
+    (λ e. let p = split-at sep b bs e in record { inside = rw p (omega arith); pieces = p ∙ rw p })
     (λ e.
-    let more : 1 < length (split sep bs) = rw (on-count sep b bs e) at h in
-    ended-on sep b bs e _ (split-ended sep bs more) ∙ rw (first-on sep b bs e))
+    let more = split-ended sep bs (rw (on-count sep b bs e) at h) in
+    let first = first-on sep b bs e in
+    record { inside = rw first (omega (arith, more .inside)); pieces = ended-on sep b bs e _ (more .pieces) ∙ rw first })
 
 -- with no separator there is one piece, all of it
 pub split-whole : (sep : ℕ) (l : List ℕ) → length (split sep l) ≤ 1 → OnePiece sep l
@@ -223,27 +224,40 @@ split-whole sep (b ∷ bs) h =
     (λ e. let z : ⊥ = omega (arith, at-count sep b bs e, h) in absurd z)
     (λ e. split-on sep b bs e ∙ rw (split-whole sep bs (rw (on-count sep b bs e) at h)))
 
--- a chunk with a line end: the line is answered, and the bytes after it are left
-pub feed-line : (f : Fed) (chunk : List ℕ) (from : ℕ) → OnePiece (ascii "\n") (f .text) → hasEnd (drop from chunk) ≡ true
-    → feed f (drop from chunk) ≡ feed (answered f (f .text ++ lineIn (drop from chunk))) (drop (from + length (lineIn (drop from chunk)) + 1) chunk)
-unfolding feed stateAfter answers
-feed-line f chunk from e h =
-    let r = drop from chunk in
-    let n = length (lineIn r) in
-    let line = f .text ++ lineIn r in
-    let sums : from + suc n ≡ from + n + 1 = omega arith in
-    let place : drop (suc n) r ≡ drop (from + n + 1) chunk = drop-drop (suc n) from chunk ∙ rw sums in
-    let pieces : split (ascii "\n") (f .text ++ r) ≡ line ∷ split (ascii "\n") (drop (from + n + 1) chunk)
-    = one-join (ascii "\n") (f .text) r e ∙ ap (onto (f .text)) (split-ended (ascii "\n") r (ltb-true _ _ h)) ∙ rw place in
-    rw (pieces, complete-more, rest-more)
-    (sym (obeying-two f (line ∷ []) (complete (split (ascii "\n") (drop (from + n + 1) chunk))) [] (rest (split (ascii "\n") (drop (from + n + 1) chunk)))))
+-- the pieces of a chunk from a place on: one is left, or the first ends at a line end and the others stand behind it
+module _ (chunk : List ℕ) (at : ℕ) (piece : List ℕ) where
+  pub piece-last : split (ascii "\n") (drop at chunk) ≡ piece ∷ [] → piece ≡ drop at chunk
+  piece-last e =
+      let one : length (split (ascii "\n") (drop at chunk)) ≤ 1 = rw e (omega arith) in
+      let whole = split-whole (ascii "\n") (drop at chunk) one in cc
 
--- a chunk without one: its bytes go behind the text
-pub feed-part : (f : Fed) (chunk : List ℕ) → OnePiece (ascii "\n") (f .text) → hasEnd chunk ≡ false → feed f chunk ≡ record { state = f .state; text = f .text ++ lineIn chunk; output = f .output }
+  module _ (more : List ℕ) (pieces : List (List ℕ)) (e : split (ascii "\n") (drop at chunk) ≡ piece ∷ (more ∷ pieces)) where
+    ended : Ended (ascii "\n") (drop at chunk)
+    ended = split-ended (ascii "\n") (drop at chunk) (rw e (omega arith))
+
+    pub piece-inside : at + length piece < length chunk
+    piece-inside =
+        let first : length piece < length (drop at chunk) = rw e at (ended .inside) in
+        omega (arith, length-drop at chunk)
+
+    pub pieces-behind : split (ascii "\n") (drop (at + length piece + 1) chunk) ≡ more ∷ pieces
+    pieces-behind =
+        let sums : at + suc (length piece) ≡ at + length piece + 1 = omega arith in
+        let two : piece ∷ (more ∷ pieces) ≡ piece ∷ split (ascii "\n") (drop (suc (length piece)) (drop at chunk)) = rw e at (ended .pieces) in
+        rw (← sums, ← drop-drop) (sym (ap (drop 1) two))
+
+  -- the line is answered, and the bytes after it are left
+  pub feed-line : (f : Fed) → OnePiece (ascii "\n") (f .text) → (more : List ℕ) (pieces : List (List ℕ)) → split (ascii "\n") (drop at chunk) ≡ piece ∷ (more ∷ pieces)
+      → feed f (drop at chunk) ≡ feed (answered f (f .text ++ piece)) (drop (at + length piece + 1) chunk)
+  unfolding feed stateAfter answers complete rest
+  feed-line f one more pieces e =
+      rw (one-join (ascii "\n") (f .text) (drop at chunk) one, e, pieces-behind more pieces e)
+      (sym (obeying-two f ((f .text ++ piece) ∷ []) (complete (more ∷ pieces)) [] (rest (more ∷ pieces))))
+
+-- a chunk without a line end: its bytes go behind the text
+pub feed-part : (f : Fed) (chunk : List ℕ) → OnePiece (ascii "\n") (f .text) → OnePiece (ascii "\n") chunk → feed f chunk ≡ behind f chunk
 unfolding feed complete rest stateAfter answers
-feed-part f chunk e h =
-    let one = split-whole (ascii "\n") chunk (ltb-false _ _ h) in
-    rw (one-join (ascii "\n") (f .text) chunk e, one, append-nil)
+feed-part f chunk e one = rw (one-join (ascii "\n") (f .text) chunk e, one, append-nil)
 
 -- ---- long lines
 

@@ -1,137 +1,215 @@
--- The pending text, byte by byte, and what a walk over a chunk leaves. Assumes nothing.
-use Prim.Native.Nat.{ℕ, _+_, _≤_, _<_}
+-- Where a line of a chunk ends, and the text in its buffer. Assumes nothing.
+use Prim.Native.Nat.{ℕ, suc, _+_, _-_, _≤_, _<_}
 use Prim.Native.Char.{code as ascii}
 use mathlib.Core.Path.{_≡_, refl, sym, _∙_, ap}
 use mathlib.Core.Bool.{true, false}
 use mathlib.Core.List.{List, [], _∷_, _++_, append-assoc, append-nil}
-use mathlib.Core.Option.{Option, none, some}
 use native.Mathlib.Omega.{arith}
-use native.Mathlib.Numerals.{add-one}
-use borrow.Author.Tests.{le-leb, lt-leb, leb-true, leb-false, lt-ltb}
-use lib.ListN.{length, getD, take, drop, set, length-append}
-use lib.Seq.{slice, length-take-le, take-suc-set}
-use lib.Dec.{leb}
+use borrow.Author.Tests.{le-leb, lt-leb, leb-true, leb-false}
+use lib.ListN.{length, getD, take, drop, set, length-append, length-drop, drop-of-length-le}
+use lib.Seq.{slice, length-take-le, take-length, take-at, drop-drop, paste}
+use lib.Dec.{leb, eqb}
 use Rattle.rules.specs.Lines.{split}
-use Rattle.text.specs.Cuts.{kept, textIn, textOf, StandsFor, longer, CutAs, EndsAt}
-use Rattle.text.specs.declared.Pending.{Pending}
-use Rattle.text.proofs.Pieces.{by-test, split-some, slice-more, Walked, walked-at, walked-end}
+use Rattle.text.specs.Commands.{firstPiece}
+use Rattle.text.specs.Written.{written}
+use Rattle.text.specs.Cuts.{lineIn, endOf, tooLong, clipped, textIn, kept}
+use Rattle.text.proofs.Pieces.{by-test, split-at, first-on, Walked, walked-at, walked-end}
+use Rattle.text.proofs.Feeds.{split-ended, split-whole}
 
-by-most : {A : Type 0} (a b : ℕ) → (a ≤ b → A) → (b < a → A) → A
+pub by-most : {A : Type 0} (a b : ℕ) → (a ≤ b → A) → (b < a → A) → A
 by-most a b f g = by-test (leb a b) (λ e. f (leb-true a b e)) (λ e. g (leb-false a b e))
 
-kept-short : (t : List ℕ) → length t ≤ 200 → kept t ≡ some t
+-- ---- where a line ends
+
+module _ (chunk : List ℕ) (from i : ℕ) (w : Walked (ascii "\n") chunk from i) where
+  -- at a line end
+  pub end-met : i < length chunk → getD chunk i 0 ≡ ascii "\n" → i ≡ endOf chunk from
+  end-met h e = rw (walked-at (ascii "\n") chunk from i w h e) (sym (w .long))
+
+  -- with the chunk
+  pub end-all : length chunk ≤ i → i ≡ endOf chunk from
+  end-all h = rw (walked-end (ascii "\n") chunk from i w h) (sym (w .long))
+
+-- the first piece is the front
+pub first-front : (sep : ℕ) (l : List ℕ) → firstPiece sep l ≡ take (length (firstPiece sep l)) l
+unfolding split
+first-front sep [] = refl
+first-front sep (b ∷ bs) =
+    by-test (eqb b sep)
+    (λ e. rw (split-at sep b bs e))
+    (λ e. rw (first-on sep b bs e) (ap (λ l. b ∷ l) (first-front sep bs)))
+
+module _ (chunk : List ℕ) (from : ℕ) where
+  -- a line that ends within the chunk, and the pieces behind it
+  pub end-line : endOf chunk from < length chunk
+      → split (ascii "\n") (drop from chunk) ≡ take (endOf chunk from - from) (drop from chunk) ∷ split (ascii "\n") (drop (endOf chunk from + 1) chunk)
+  end-line h =
+      let l = drop from chunk in
+      let n = length (lineIn l) in
+      let long : n < length l = omega (arith, length-drop from chunk) in
+      let two : 1 < length (split (ascii "\n") l) = by-most (length (split (ascii "\n") l)) 1 (λ few. absurd (one few)) (λ k. k) in
+      let parts = split-ended (ascii "\n") l two .pieces in
+      let behind : from + suc n ≡ endOf chunk from + 1 = omega arith in
+      let width : n ≡ endOf chunk from - from = omega arith in
+      parts ∙ rw (drop-drop, behind) (ap (λ x. x ∷ split (ascii "\n") (drop (endOf chunk from + 1) chunk)) (first-front (ascii "\n") l ∙ ap (λ m. take m l) width))
+    where
+      one : length (split (ascii "\n") (drop from chunk)) ≤ 1 → ⊥
+      one few =
+          let whole = ap (λ ps. length (getD ps 0 [])) (split-whole (ascii "\n") (drop from chunk) few) in
+          omega (arith, length-drop from chunk, h)
+
+  -- one that does not
+  pub end-last : from ≤ length chunk → length chunk ≤ endOf chunk from → split (ascii "\n") (drop from chunk) ≡ drop from chunk ∷ []
+  end-last low h =
+      split-whole (ascii "\n") (drop from chunk)
+      (by-most (length (split (ascii "\n") (drop from chunk))) 1 (λ few. few)
+      (λ two. absurd (omega (arith, split-ended (ascii "\n") (drop from chunk) two .inside, length-drop from chunk))))
+
+-- ---- bytes copied
+
+-- a copy of all the bytes
+pub copied : (l : List ℕ) (at : ℕ) (bytes : List ℕ) (n : ℕ) → n ≡ length bytes → paste l at bytes n ≡ written l at bytes
+unfolding written
+copied l at bytes n e = rw (e, take-length, append-assoc)
+
+-- ---- the text in its buffer
+
+kept-short : (t buffer : List ℕ) → length t ≤ 200 → kept buffer t ≡ length t ∷ (t ++ drop (1 + length t) buffer)
 unfolding kept
-kept-short t h = rw (le-leb _ _ h)
+kept-short t buffer h = rw (le-leb _ _ h)
 
-kept-long : (t : List ℕ) → 200 < length t → kept t ≡ none
+kept-long : (t buffer : List ℕ) → 200 < length t → kept buffer t ≡ 201 ∷ drop 1 buffer
 unfolding kept
-kept-long t h = rw (lt-leb _ _ h)
+kept-long t buffer h = rw (lt-leb _ _ h)
 
-text-short : (bytes : List ℕ) (len : ℕ) → len ≤ 200 → textIn bytes len ≡ some (take len bytes)
+pub clipped-long : (t : List ℕ) → 200 < length t → clipped t ≡ tooLong
+unfolding clipped
+clipped-long t h = rw (lt-leb _ _ h)
+
+text-short : (x : ℕ) (rest : List ℕ) → x ≤ 200 → textIn (x ∷ rest) ≡ take x rest
 unfolding textIn
-text-short bytes len h = rw (le-leb _ _ h)
+text-short x rest h = rw (le-leb _ _ h)
 
-text-long : (bytes : List ℕ) (len : ℕ) → 200 < len → textIn bytes len ≡ none
+text-long : (x : ℕ) (rest : List ℕ) → 200 < x → textIn (x ∷ rest) ≡ tooLong
 unfolding textIn
-text-long bytes len h = rw (lt-leb _ _ h)
+text-long x rest h = rw (lt-leb _ _ h)
 
--- ---- more bytes
+module _ (t : List ℕ) where
+  pub clipped-short : length t ≤ 200 → clipped t ≡ t
+  unfolding clipped
+  clipped-short h = rw (le-leb _ _ h)
 
--- more bytes behind what is kept of a text
-pub kept-longer : (t bytes : List ℕ) → longer (kept t) bytes ≡ kept (t ++ bytes)
-kept-longer t bytes =
+  -- a text and the same as far as it matters are kept alike
+  pub kept-clipped : (buffer : List ℕ) → kept buffer (clipped t) ≡ kept buffer t
+  kept-clipped buffer =
+      by-most (length t) 200
+      (λ h. rw (clipped-short h))
+      (λ h. rw (clipped-long t h) (kept-long tooLong buffer (omega arith) ∙ sym (kept-long t buffer h)))
+
+  -- more bytes behind it
+  pub clipped-more : (bytes : List ℕ) → clipped (clipped t ++ bytes) ≡ clipped (t ++ bytes)
+  clipped-more bytes =
+      by-most (length t) 200
+      (λ h. rw (clipped-short h))
+      (λ h.
+      let over : 200 < length (tooLong ++ bytes) = rw (length-append tooLong bytes) (omega arith) in
+      let long : 200 < length (t ++ bytes) = rw (length-append t bytes) (omega arith) in
+      rw (clipped-long t h) (clipped-long (tooLong ++ bytes) over ∙ sym (clipped-long (t ++ bytes) long)))
+
+  -- what is kept is in the buffer
+  pub text-kept : (buffer : List ℕ) → length buffer ≡ 201 → textIn (kept buffer t) ≡ clipped t
+  text-kept buffer full =
+      by-most (length t) 200
+      (λ h. rw (kept-short t buffer h, text-short _ _ h, clipped-short h) (take-at t (drop (1 + length t) buffer) (length t) refl))
+      (λ h. rw (kept-long t buffer h, clipped-long t h) (text-long 201 (drop 1 buffer) (omega arith)))
+
+  pub kept-length : (buffer : List ℕ) → length buffer ≡ 201 → length (kept buffer t) ≡ 201
+  kept-length buffer full =
+      by-most (length t) 200
+      (λ h. rw (kept-short t buffer h) (omega (arith, length-append t (drop (1 + length t) buffer), length-drop (1 + length t) buffer)))
+      (λ h. rw (kept-long t buffer h) (omega (arith, length-drop 1 buffer)))
+
+-- bytes put behind it: it was too long, gets too long, or has room for them
+module _ (bytes : List ℕ) where
+  joined : (x : ℕ) (rest : List ℕ) → length (x ∷ rest) ≡ 201 → x ≤ 200 → length (take x rest ++ bytes) ≡ x + length bytes
+  joined x rest full h = omega (arith, length-append (take x rest) bytes, length-take-le x rest (omega arith))
+
+  pub append-long : (buffer : List ℕ) → length buffer ≡ 201 → 200 < getD buffer 0 0 → set buffer 0 201 ≡ kept buffer (textIn buffer ++ bytes)
+  append-long [] full h = absurd (omega arith)
+  append-long (x ∷ rest) full h =
+      let over : 200 < length (tooLong ++ bytes) = rw (length-append tooLong bytes) (omega arith) in
+      rw (text-long x rest h, kept-long (tooLong ++ bytes) (x ∷ rest) over)
+
+  pub append-over : (buffer : List ℕ) → length buffer ≡ 201 → getD buffer 0 0 ≤ 200 → 200 - getD buffer 0 0 < length bytes
+      → set buffer 0 201 ≡ kept buffer (textIn buffer ++ bytes)
+  append-over [] full h k = absurd (omega arith)
+  append-over (x ∷ rest) full h k =
+      let over : 200 < length (take x rest ++ bytes) = omega (arith, joined x rest full h) in
+      rw (text-short x rest h, kept-long (take x rest ++ bytes) (x ∷ rest) over)
+
+  pub append-fits : (buffer : List ℕ) → length buffer ≡ 201 → getD buffer 0 0 ≤ 200 → length bytes ≤ 200 - getD buffer 0 0
+      → set (written buffer (1 + getD buffer 0 0) bytes) 0 (getD buffer 0 0 + length bytes) ≡ kept buffer (textIn buffer ++ bytes)
+  unfolding written
+  append-fits [] full h k = absurd (omega arith)
+  append-fits (x ∷ rest) full h k =
+      let long = joined x rest full h in
+      let fits : length (take x rest ++ bytes) ≤ 200 = omega (arith, long) in
+      let sum : 1 + x ≡ suc x = omega arith in
+      let far : 1 + x + length bytes ≡ 1 + (x + length bytes) = omega arith in
+      rw (text-short x rest h, kept-short (take x rest ++ bytes) (x ∷ rest) fits, long, append-assoc, far, sum)
+
+-- ---- a text read back
+
+-- none
+pub text-none : (buffer : List ℕ) → getD buffer 0 0 ≡ 0 → textIn buffer ≡ []
+unfolding textIn
+text-none buffer e = rw e
+
+-- a text that has no byte is none, also as far as it matters
+pub text-some : (buffer : List ℕ) → length buffer ≡ 201 → textIn buffer ≡ [] → getD buffer 0 0 ≡ 0
+text-some [] full e = refl
+text-some (x ∷ rest) full e =
+    by-most x 200
+    (λ h. omega (arith, ap length (sym (text-short x rest h) ∙ e), length-take-le x rest (omega arith)))
+    (λ h. absurd (omega (arith, ap length (sym (text-long x rest h) ∙ e))))
+
+pub clipped-none : (t : List ℕ) → clipped t ≡ [] → t ≡ []
+clipped-none t e =
     by-most (length t) 200
-    (λ h. rw (kept-short t h))
-    (λ h.
-    let long : 200 < length (t ++ bytes) = omega (arith, length-append t bytes) in
-    rw (kept-long t h) (sym (kept-long (t ++ bytes) long)))
+    (λ h. sym (clipped-short t h) ∙ e)
+    (λ h. absurd (omega (arith, ap length (sym (clipped-long t h) ∙ e))))
 
--- bytes behind bytes
-pub longer-longer : (o : Option (List ℕ)) (xs ys : List ℕ) → longer (longer o xs) ys ≡ longer o (xs ++ ys)
-longer-longer none xs ys = refl
-longer-longer (some t) xs ys = kept-longer (t ++ xs) ys ∙ rw append-assoc
+module _ (t buffer : List ℕ) where
+  -- by what the buffer says of it, a text fits or is too long
+  pub kept-over : 200 < getD (kept buffer t) 0 0 → 200 < length t
+  kept-over h = by-most (length t) 200 (λ k. absurd (omega (arith, ap (λ l. getD l 0 0) (kept-short t buffer k)))) (λ k. k)
 
-module _ (bytes : List ℕ) (len : ℕ) (full : length bytes ≡ 200) where
-  long : len ≤ 200 → length (take len bytes) ≡ len
-  long h = length-take-le len bytes (omega arith)
+  pub kept-fits : getD (kept buffer t) 0 0 ≤ 200 → length t ≤ 200
+  kept-fits h = by-most (length t) 200 (λ k. k) (λ k. absurd (omega (arith, ap (λ l. getD l 0 0) (kept-long t buffer k))))
 
-  -- no more bytes
-  pub longer-none : longer (textIn bytes len) [] ≡ textIn bytes len
-  longer-none =
-      by-most len 200
-      (λ h. rw (text-short bytes len h, append-nil) (kept-short (take len bytes) (omega (arith, long h))))
-      (λ h. rw (text-long bytes len h))
+  -- a byte says it
+  pub kept-low : (l : List ℕ) → l ≡ kept buffer t → getD l 0 0 ≤ 201
+  kept-low l e =
+      by-most (length t) 200
+      (λ k. rw (e, kept-short t buffer k) (omega arith))
+      (λ k. rw (e, kept-long t buffer k) (omega arith))
 
-  -- there is room for a byte
-  pub keep-more : (b : ℕ) → len < 200 → textIn (set bytes len b) (len + 1) ≡ longer (textIn bytes len) (b ∷ [])
-  keep-more b h =
-      let short : len ≤ 200 = omega arith in
-      let more : len + 1 ≤ 200 = omega arith in
-      let fits : length (take len bytes ++ b ∷ []) ≤ 200 = rw length-append (omega (arith, long short)) in
-      let inside : len < length bytes = omega arith in
-      text-short (set bytes len b) (len + 1) more
-      ∙ rw (add-one, take-suc-set bytes len b inside, text-short bytes len short, kept-short (take len bytes ++ b ∷ []) fits)
+  -- one that fits stands behind its length
+  pub kept-front : length t ≤ 200 → take (getD (kept buffer t) 0 0) (drop 1 (kept buffer t)) ≡ t
+  kept-front h = rw (kept-short t buffer h) (take-at t (drop (1 + length t) buffer) (length t) refl)
 
-  -- there is none
-  pub keep-full : (b : ℕ) → 200 ≤ len → textIn bytes 201 ≡ longer (textIn bytes len) (b ∷ [])
-  keep-full b h =
-      text-long bytes 201 (omega arith)
-      ∙ by-most len 200
-      (λ k.
-      let over : 200 < length (take len bytes ++ b ∷ []) = rw length-append (omega (arith, long k)) in
-      rw (text-short bytes len k) (sym (kept-long (take len bytes ++ b ∷ []) over)))
-      (λ k. rw (text-long bytes len k))
+-- what is kept depends on the bytes that are overwritten in nothing
+pub kept-same : (a b t : List ℕ) → drop 1 a ≡ drop 1 b → kept a t ≡ kept b t
+unfolding kept
+kept-same a b t e = rw (← drop-drop (length t) 1 a, ← drop-drop (length t) 1 b, e)
 
--- ---- the text that a pending text stands for
+-- a buffer without a text keeps none
+pub kept-none : (a b : List ℕ) → length b ≡ 201 → getD b 0 0 ≡ 0 → drop 1 b ≡ drop 1 a → kept a [] ≡ b
+unfolding kept
+kept-none a [] full e h = absurd (omega arith)
+kept-none a (x ∷ rest) full e h = rw (e, h)
 
--- after more bytes were taken
-pub stands-longer : (p q : Pending) (text bytes : List ℕ) → StandsFor p text → textOf q ≡ longer (textOf p) bytes → StandsFor q (text ++ bytes)
-stands-longer p q text bytes e h = h ∙ rw e (kept-longer text bytes)
-
--- of at most 200 bytes: the bytes at hand
-pub stands-short : (p : Pending) (text : List ℕ) → StandsFor p text → p .len ≤ 200 → text ≡ take (p .len) (p .bytes)
-stands-short p text e h =
-    let f = sym (text-short (p .bytes) (p .len) h) ∙ e in
-    by-most (length text) 200 (λ k. let g = f ∙ kept-short text k in cc) (λ k. let g = f ∙ kept-long text k in cc)
-
--- above 200: a text that is too long
-pub stands-long : (p : Pending) (text : List ℕ) → StandsFor p text → 200 < p .len → 200 < length text
-stands-long p text e h =
-    let f = sym (text-long (p .bytes) (p .len) h) ∙ e in
-    by-most (length text) 200 (λ k. let g = f ∙ kept-short text k in let z : _≡_ {A = ℕ} 0 1 = cc in omega arith) (λ k. k)
-
--- ---- a walk over a chunk
-
-module _ (p q : Pending) (chunk : List ℕ) (from i : ℕ) (w : Walked (ascii "\n") chunk from i) (t : textOf q ≡ longer (textOf p) (slice from i chunk)) where
-  -- a byte that is no line end is kept
-  pub cut-more : (o : Option (List ℕ)) → i < length chunk → o ≡ longer (textOf q) (getD chunk i 0 ∷ []) → o ≡ longer (textOf p) (slice from (i + 1) chunk)
-  cut-more o h e =
-      let far : from ≤ i = omega (arith, w .long) in
-      e ∙ rw (t, longer-longer, slice-more from i chunk far h)
-
-  -- a line end is met
-  pub cut-end : i < length chunk → getD chunk i 0 ≡ ascii "\n" → CutAs p chunk from (record { pending = q; next = i + 1; ended = true })
-  cut-end h e =
-      let s = walked-at (ascii "\n") chunk from i w h e ∙ ap (λ ps. slice from i chunk ∷ ps) (split-some (ascii "\n") (drop (i + 1) chunk)) in
-      let two : 1 < length (split (ascii "\n") (drop from chunk)) = rw s (omega arith) in
-      record { text = rw s t; ended = sym (lt-ltb _ _ two); next = rw (s, w .long) }
-
-  -- the chunk ends
-  pub cut-all : length chunk ≤ i → CutAs p chunk from (record { pending = q; next = i; ended = false })
-  cut-all h =
-      let s = walked-end (ascii "\n") chunk from i w h in
-      record { text = rw s t; ended = rw s; next = rw (s, w .long) (omega arith) }
-
-module _ (chunk : List ℕ) (from i : ℕ) where
-  -- a line end is met there
-  pub ends-there : Walked (ascii "\n") chunk from i → i < length chunk → getD chunk i 0 ≡ ascii "\n" → EndsAt chunk from i
-  ends-there w h e =
-      let s = walked-at (ascii "\n") chunk from i w h e ∙ ap (λ ps. slice from i chunk ∷ ps) (split-some (ascii "\n") (drop (i + 1) chunk)) in
-      let two : 1 < length (split (ascii "\n") (drop from chunk)) = rw s (omega arith) in
-      record { ended = λ _. lt-ltb _ _ two; line = λ _. rw s; long = λ _. w .long }
-
-  -- none is met
-  pub ends-nowhere : length chunk ≤ i → EndsAt chunk from i
-  ends-nowhere h =
-      let no : i < length chunk → ⊥ = λ l. omega arith in
-      record { ended = λ l. absurd (no l); line = λ l. absurd (no l); long = λ l. absurd (no l) }
+-- a buffer copied whole
+pub copied-whole : (l t : List ℕ) → length l ≡ length t → written l 0 t ≡ t
+unfolding written
+copied-whole l t e = let past : length l ≤ 0 + length t = omega arith in rw (drop-of-length-le l past, append-nil)

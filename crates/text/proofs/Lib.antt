@@ -5,4 +5,3 @@ pub mod Puts
 pub mod Decimals
 pub mod Keeps
 pub mod Asks
-pub mod Chunks

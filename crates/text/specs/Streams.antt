@@ -1,10 +1,15 @@
 -- The program fed chunk by chunk. Assumes nothing: these are definitions.
 use Prim.Native.Nat.{ℕ}
 use Prim.Native.Char.{code as ascii}
+use mathlib.Core.Path.{_≡_}
 use mathlib.Core.List.{List, [], _∷_, _++_}
 use Rattle.rules.specs.Lines.{split, respondOf, linesOf, answers}
 use Rattle.rules.specs.Calls.{idle}
 use Rattle.rules.specs.declared.State.{State}
+
+-- a text without a separator is one piece
+abbrev pub OnePiece : ℕ → List ℕ → Type 0
+OnePiece separator text = split separator text ≡ text ∷ []
 
 -- of the pieces between line ends, those that a line end follows
 unfoldable pub complete : List (List ℕ) → List (List ℕ)
@@ -32,6 +37,10 @@ pub record Fed : Type 0 where
 -- after some lines, with some text behind them
 abbrev pub obeying : Fed → List (List ℕ) → List ℕ → Fed
 obeying f lines text = record { state = stateAfter (f .state) lines; text = text; output = f .output ++ answers (f .state) lines }
+
+-- with more bytes behind the text
+abbrev pub behind : Fed → List ℕ → Fed
+behind f bytes = record { state = f .state; text = f .text ++ bytes; output = f .output }
 
 -- after one line, and its line end
 abbrev pub answered : Fed → List ℕ → Fed

@@ -1,13 +1,13 @@
 // The bytes of the program's lines: a line taken apart, an answer's bytes written, a stream cut into lines.
 ghost use mathlib.Core.Path.{_≡_};
-ghost use mathlib.Core.List.{[], _∷_};
+ghost use mathlib.Core.List.{[], _∷_, _++_};
 ghost use Prim.Native.Nat.{_+_, _<_, _≤_};
 ghost use lib.ListN.{length};
 ghost use lib.Seq.{slice};
 ghost use Rattle.rules.specs.Lines.{digitsOf};
 ghost use Rattle.text.specs.Commands.{grownBy, Digits, fieldFrom, fieldAt, startsWell, noCommand, commandOf};
-ghost use Rattle.text.specs.Written.{fieldOf, Put};
-ghost use Rattle.text.specs.Cuts.{textIn, longer, CutAs, EndsAt};
+ghost use Rattle.text.specs.Written.{written, fieldOf, Put};
+ghost use Rattle.text.specs.Cuts.{endOf, textIn, kept};
 
 // ---- a line taken apart
 
@@ -204,22 +204,9 @@ pub fn put_field(out: &mut [u8], at: usize, n: u64) -> usize
 
 // ---- a stream cut into lines
 
-// The bytes since the last line end are bytes[..len]; a len of 201 says that they are too many for a line.
-pub struct Pending {
-    pub bytes: [u8; 200],
-    pub len: usize,
-}
-
-// What a chunk left pending, the place after what was taken of it, and whether a line end was met.
-pub struct Taken {
-    pub pending: Pending,
-    pub next: usize,
-    pub ended: bool,
-}
-
-// Where the next line end stands, from `from` on, or the chunk's length.
+// Where the line that starts at `from` ends: at the next line end, or with the chunk.
 pub fn line_end(chunk: &[u8], from: usize) -> usize
-    ensures { λ r. ⌜ EndsAt (now (chunk .entry)) from r ⌝ }
+    ensures { λ r. ⌜ r ≡ endOf (now (chunk .entry)) from ⌝ }
 {
     let mut i = from;
     while i < chunk.len() {
@@ -231,40 +218,34 @@ pub fn line_end(chunk: &[u8], from: usize) -> usize
     i
 }
 
-// Puts b behind the pending bytes, if they are still short enough; their number is returned.
-fn keep(bytes: &mut [u8; 200], len: usize, b: u8) -> usize
-    requires { ⌜ length (now bytes) ≡ 200 ⌝ }
-    ensures { λ r. ⌜ (length (now (bytes .exit)) ≡ 200) × (textIn (now (bytes .exit)) r ≡ longer (textIn (now (bytes .entry)) len) (b ∷ [])) ⌝ }
+// Writes the bytes from `at` on.
+pub fn put_bytes(out: &mut [u8], at: usize, bytes: &[u8])
+    requires { ⌜ at + length (now bytes) ≤ length (now out) ⌝ }
+    ensures { λ _. ⌜ now (out .exit) ≡ written (now (out .entry)) at (now (bytes .entry)) ⌝ }
 {
-    if 200 <= len {
-        return 201;
+    let mut i: usize = 0;
+    while i < bytes.len() {
+        out[at + i] = bytes[i];
+        i += 1;
     }
-    bytes[len] = b;
-    len + 1
 }
 
-// Takes bytes of the chunk from `from` on, to the first line end or all. A line end is passed and not kept.
-pub fn cut(p: Pending, chunk: &[u8], from: usize) -> Taken
-    ensures { λ r. ⌜ CutAs p (now (chunk .entry)) from r ⌝ }
+// The text since the last line end is lent as 201 bytes: how many it has, then these. 201 says that it is too long for a line.
+
+// Puts bytes behind the text.
+pub fn append(text: &mut [u8], bytes: &[u8])
+    requires { ⌜ length (now text) ≡ 201 ⌝ }
+    ensures { λ _. ⌜ now (text .exit) ≡ kept (now (text .entry)) (textIn (now (text .entry)) ++ now (bytes .entry)) ⌝ }
 {
-    let mut pending = p;
-    let mut i = from;
-    while i < chunk.len() {
-        let b = chunk[i];
-        i += 1;
-        if b == b'\n' {
-            return Taken {
-                pending,
-                next: i,
-                ended: true,
-            };
-        }
-        let len = pending.len;
-        pending.len = keep(&mut pending.bytes, len, b);
+    let held = text[0] as usize;
+    if 200 < held {
+        text[0] = 201;
+        return;
     }
-    Taken {
-        pending,
-        next: i,
-        ended: false,
+    if 200 - held < bytes.len() {
+        text[0] = 201;
+        return;
     }
+    put_bytes(text, 1 + held, bytes);
+    text[0] = (held + bytes.len()) as u8;
 }

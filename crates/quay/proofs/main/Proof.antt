@@ -1,3 +1,4 @@
+-- The program starts idle, with no text and room for any answer. Assumes nothing.
 use native.Mathlib.Omega.{arith}
 use borrow.Author.Needs.{needs}
 use Rattle.quay.proofs.main.Statement.{statement}
@@ -5,6 +6,9 @@ use Rattle.quay.proofs.main.Tie as tie
 
 idle-image-requires : tie.Need-idle-image-requires
 idle-image-requires c κs = search needs
+
+no-text-requires : tie.Need-no-text-requires
+no-text-requires c κs = search needs
 
 large-buffer-requires : tie.Need-large-buffer-requires
 large-buffer-requires c κs = search needs
@@ -18,8 +22,11 @@ slice-aggregate-serve-2 c = search needs
 slice-aggregate-serve-3 : tie.Need-slice-aggregate-serve-3
 slice-aggregate-serve-3 c = search needs
 
+slice-aggregate-serve-4 : tie.Need-slice-aggregate-serve-4
+slice-aggregate-serve-4 c = search needs
+
 serve-requires : tie.Need-serve-requires
-serve-requires c κs = (c .before .before .before .before .idle-image .ensures, omega arith)
+serve-requires c κs = (c .before .before .before .before .before .before .idle-image .ensures, c .before .before .before .before .before .no-text .ensures, omega arith)
 
 returns : tie.Need-returns
 returns c = search needs
@@ -29,9 +36,11 @@ main-spec =
     tie.close
     (tie.spec
     idle-image-requires
+    no-text-requires
     large-buffer-requires
     slice-aggregate-serve
     slice-aggregate-serve-2
     slice-aggregate-serve-3
+    slice-aggregate-serve-4
     serve-requires
     returns)

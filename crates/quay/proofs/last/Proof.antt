@@ -1,0 +1,27 @@
+-- What is handed back is what the call left at the front of the buffer. Assumes nothing.
+use mathlib.Core.Path.{sym, ap}
+use lib.Seq.{length-take-le}
+use Rattle.quay.specs.Runs.{answersIn}
+use Rattle.lines.proofs.Taking.{finish-fits}
+use borrow.Author.Needs.{needs}
+use Rattle.quay.proofs.last.Statement.{statement}
+use Rattle.quay.proofs.last.Tie as tie
+
+finish-requires : tie.Need-finish-requires
+finish-requires c κs = search needs
+
+slice-aggregate-result : tie.Need-slice-aggregate-result
+slice-aggregate-result c = sym (length-take-le _ _ (finish-fits _ _ _ _ (c .before .before .before .before .before .before .before .before .finish .ensures)))
+
+same-length : tie.Need-same-length
+same-length c = search needs
+
+same-length-2 : tie.Need-same-length-2
+same-length-2 c = search needs
+
+returns : tie.Need-returns
+returns c = ap answersIn (c .before .before .before .before .before .before .before .before .finish .ensures)
+
+pub last-spec : {M : Type 1} → statement M
+last-spec =
+    tie.close (tie.spec finish-requires slice-aggregate-result same-length same-length-2 returns)
