@@ -89,7 +89,8 @@ module _ (s : State) (v : Valid s) (w : ℕ) (p : Premises s w) where
   all-seen k j h =
       let r : Reader = readerAt s j in
       let c = coming s r k h in
-      let far : steps r k * w ≤ s .«look_ahead» = le-trans (mul-le-mul-right w (omega arith)) (subst (λ x. x ≤ s .«look_ahead») (mul-comm w (lastPage (s .sizes) r)) (p .covers j (c .here))) in
+      let below : steps r k * w ≤ lastPage (s .sizes) r * w = mul-le-mul-right w (omega arith) in
+      let far : steps r k * w ≤ s .«look_ahead» = omega (arith, mul-comm w (lastPage (s .sizes) r), p .covers j (c .here)) in
       let near : steps r k ≤ s .«look_ahead» / r .pace = rw (p .one-pace j (c .here)) (le-div-iff-mul-le (paced k j h) .1 far) in
       and-both (before s r k) _ h (and-both (leb (steps r k) (s .«look_ahead» / r .pace)) _ (le→leb _ _ near) (rw (p .no-time) tt))
 

@@ -1,6 +1,7 @@
 -- What follows from the rules: what they compute to, general laws, the orders, the calls, the image and the third statement.
 pub mod Soundings
 pub mod Sample
+pub mod Edges
 pub mod Tests
 pub mod Members
 pub mod Below
@@ -38,4 +39,5 @@ pub mod Waits
 pub mod Moves
 pub mod Turns
 pub mod Optimal
+pub mod Claim
 pub mod Witness

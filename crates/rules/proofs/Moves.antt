@@ -15,7 +15,7 @@ use Rattle.rules.specs.Readers.{noReader, readerAt, attached, lastPage, 
 use Rattle.rules.specs.Valid.{Valid}
 use Rattle.rules.specs.Calls.{remade}
 use Rattle.rules.specs.Run.{fetchOpen}
-use Rattle.rules.specs.Third.{Premises, goes, movedOn}
+use Rattle.rules.specs.Third.{Covers, Premises, goes, movedOn}
 use Rattle.rules.proofs.Tests.{less, key}
 use Rattle.rules.proofs.Valids.{placed-at}
 use Rattle.rules.proofs.Marks.{on}
@@ -117,6 +117,6 @@ module _ (s : State) (v : Valid s) where
   premises-left w p held fetching e = record {
     one-pace = λ j. moved-all (λ r. T (attached r) → r .pace ≡ w) j (p .one-pace j) (p .one-pace j);
     no-time = p .no-time;
-    covers = λ j. moved-all (λ r. T (attached r) → w * lastPage (s .sizes) r ≤ s .«look_ahead») j (p .covers j) (p .covers j);
+    covers = λ j. moved-all (λ r. T (attached r) → Covers s w r) j (p .covers j) (p .covers j);
     none-open = ap (λ f. not (eqb (length (only f (pages s))) 0)) e ∙ p .none-open;
   }

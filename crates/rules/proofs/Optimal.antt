@@ -158,7 +158,7 @@ run-answer n s closed l = rw (few, closed)
 
 -- the third statement
 pub third : (s : State) (n : ℕ) → ThirdStatement n s (runOf s n .answer)
-third s n = record { best = λ v w p l. (turnsOf n s .fetches, turnsOf n s .reads, run-answer n s (p .none-open) l, run-best n s v w p) }
+third s n = record { best = λ v w p l. (turnsOf n s .fetches, turnsOf n s .reads, run-answer n s (p .none-open) (omega arith), run-best n s v w p) }
 
 -- for a reply that is the rule's
 pub third-of : (s : State) (n : ℕ) (r : Reply) → r ≡ runOf s n → ThirdStatement n s (r .answer)

@@ -35,19 +35,23 @@ pub record Row : Type 0 where
   pub question : Question
   pub answer : List ℕ
 
--- the state of a row: L 40
-abbrev pub stateOf : Row → State
-stateOf r =
+-- a state, of frames, turn, L, T, sizes, readers, cached pages and pages in fetch: no further files and readers
+abbrev pub stateWith : ℕ → ℕ → ℕ → ℕ → List ℕ → List Reader → List ℕ → List ℕ → State
+stateWith frames turn look time sizes readers cached fetching =
     record {
-      frames = 16;
-      turn = r .turn;
-      «look_ahead» = 40;
-      «fetch_time» = r .time;
-      sizes = take 8 (r .sizes ++ replicate 8 0);
-      readers = take 16 (r .readers ++ replicate 16 noReader);
-      cached = mapOf (r .cached);
-      fetching = replicate 128 0;
+      frames = frames;
+      turn = turn;
+      «look_ahead» = look;
+      «fetch_time» = time;
+      sizes = take 8 (sizes ++ replicate 8 0);
+      readers = take 16 (readers ++ replicate 16 noReader);
+      cached = mapOf cached;
+      fetching = mapOf fetching;
     }
+
+-- the state of a row: L 40, none in fetch
+abbrev pub stateOf : Row → State
+stateOf r = stateWith 16 (r .turn) 40 (r .time) (r .sizes) (r .readers) (r .cached) []
 
 abbrev pub asked : Question → State → List ℕ
 asked steal s = stealOrder s

@@ -1,5 +1,5 @@
 -- The third statement says something: a state that meets its premises, what a run of it answers, and that no schedule does better. Assumes nothing.
-use Prim.Native.Nat.{ℕ, zero, suc, _*_, _≤_}
+use Prim.Native.Nat.{ℕ, zero, suc, _≤_}
 use mathlib.Core.Path.{_≡_, refl, sym, subst}
 use mathlib.Core.List.{List, [], _∷_}
 use native.Mathlib.Omega.{arith}
@@ -8,14 +8,14 @@ use lib.Dec.{T}
 use Rattle.bits.specs.Map.{bit, putBit}
 use Rattle.rules.specs.Lists.{range, each, only, every, put, sorted, least, some-of}
 use Rattle.rules.specs.Pages.{pages, cached, cachedPages, fetchingPages}
-use Rattle.rules.specs.Readers.{noReader, readerAt, attached, lastPage}
+use Rattle.rules.specs.Readers.{noReader, readerAt, attached}
 use Rattle.rules.specs.Valid.{Valid, Placed, ReaderIn}
 use Rattle.rules.specs.UseTimes.{before, missing, cut, sees, timeFor, useFor, useKey, ahead, seen}
 use Rattle.rules.specs.Orders.{behindLast, notSeen, useTime, stealOrder, victim}
 use Rattle.rules.specs.Calls.{withReader, fresh, settingsIn, setupOf, readRunning, readOf, full, dropped, woken, landed, forFetch, arriveOf}
 use Rattle.rules.specs.Run.{fetchOpen, readTurn, turnOf, turnsOf, runOf}
 use Rattle.rules.specs.Schedules.{Set, Serves, fetchesIn}
-use Rattle.rules.specs.Third.{Premises, goes, laidDown, laid, hitSets, Best}
+use Rattle.rules.specs.Third.{Covers, Premises, goes, laidDown, laid, hitSets, Best}
 use Rattle.rules.proofs.Soundings.{at}
 use Rattle.rules.proofs.Changes.{readers-changed}
 use Rattle.rules.proofs.Kept.{same-at, setup-valid}
@@ -24,9 +24,9 @@ use Rattle.rules.specs.declared.State.{State}
 use Rattle.rules.specs.declared.Reader.{Reader}
 use Rattle.rules.specs.declared.Answer.the-variants.{Ran}
 
--- two frames, nothing cached, a file of six pages
+-- two frames, nothing cached, a file of six pages, and a look-ahead of 60 ticks: at pace 10 it covers the file, and one tick less would not
 abbrev start : State
-start = fresh 2 100 0 (6 ∷ replicate 7 0)
+start = fresh 2 60 0 (6 ∷ replicate 7 0)
 
 -- two readers of it, the second three pages ahead of the first
 abbrev pub lead : State
@@ -44,7 +44,7 @@ placed c h = record { file-low = omega arith; file-there = omega arith; pace-low
 -- it is valid
 pub lead-valid : Valid lead
 unfolding setupOf settingsIn every
-lead-valid = readers-changed start (setup-valid 2 100 0 (6 ∷ replicate 7 0) refl) (lead .readers) refl
+lead-valid = readers-changed start (setup-valid 2 60 0 (6 ∷ replicate 7 0) refl) (lead .readers) refl
     (each-reader (λ r. ReaderIn (r .condition) start r) (placed 0 (omega arith)) (placed 3 (omega arith)) refl)
 
 -- it meets the premises
@@ -53,14 +53,14 @@ unfolding fetchOpen fetchingPages pages range each only bit
 lead-premises = record {
   one-pace = each-reader (λ r. T (attached r) → r .pace ≡ 10) (λ _. refl) (λ _. refl) (λ a. absurd a);
   no-time = refl;
-  covers = each-reader (λ r. T (attached r) → 10 * lastPage (lead .sizes) r ≤ 100) (λ _. omega arith) (λ _. omega arith) (λ a. absurd a);
+  covers = each-reader (λ r. T (attached r) → Covers lead 10 r) (λ _. omega arith) (λ _. omega arith) (λ a. absurd a);
   none-open = refl;
 }
 
 -- ---- what it reads and fetches
 
--- 96 turns fetch seven times for two frames and six pages: pages are given up, and one is fetched twice
-pub lead-answer : runOf lead 96 .answer ≡ Ran 7 9
+-- 16,384 turns, the most that are permitted, fetch seven times for two frames and six pages: pages are given up, and one is fetched twice
+pub lead-answer : runOf lead 16384 .answer ≡ Ran 7 9
 unfolding bit putBit range each only put sorted least some-of pages cachedPages fetchingPages before missing cut sees timeFor useFor useKey ahead seen behindLast notSeen useTime stealOrder victim readRunning readOf full dropped woken landed forFetch arriveOf fetchOpen readTurn turnOf turnsOf runOf
 lead-answer = refl
 
@@ -69,23 +69,23 @@ abbrev pub inTurn : List ℕ
 inTurn = 0 ∷ 3 ∷ 1 ∷ 4 ∷ 2 ∷ 5 ∷ 3 ∷ 4 ∷ 5 ∷ []
 
 -- they are the reads laid down
-pub lead-reads : laid 96 lead ≡ inTurn
+pub lead-reads : laid 16384 lead ≡ inTurn
 unfolding laidDown goes
 lead-reads = refl
 
-lead-best : Best 96 lead 7 9
-lead-best = let r = third lead 96 .best lead-valid 10 lead-premises (omega arith) in told (r .0) (r .1) (r .2) (r .3)
+lead-best : Best 16384 lead 7 9
+lead-best = let r = third lead 16384 .best lead-valid 10 lead-premises (omega arith) in told (r .0) (r .1) (r .2) (r .3)
   where
-    told : (fetches reads : ℕ) → runOf lead 96 .answer ≡ Ran fetches reads → Best 96 lead fetches reads → Best 96 lead 7 9
+    told : (fetches reads : ℕ) → runOf lead 16384 .answer ≡ Ran fetches reads → Best 16384 lead fetches reads → Best 16384 lead 7 9
     told fetches reads e b =
         let h = lead-answer in
         let f : fetches ≡ 7 = cc in
         let r : reads ≡ 9 = cc in
-        subst (λ n. Best 96 lead 7 n) r (subst (λ n. Best 96 lead n reads) f b)
+        subst (λ n. Best 16384 lead 7 n) r (subst (λ n. Best 16384 lead n reads) f b)
 
 -- the run's own sets serve these reads with seven fetches
-pub lead-own : Serves 8192 2 inTurn (hitSets 96 lead) × (fetchesIn 8192 (cached lead) (hitSets 96 lead) ≡ 7)
-lead-own = (subst (λ l. Serves 8192 2 l (hitSets 96 lead)) lead-reads (lead-best .own-serves), lead-best .own-fetches)
+pub lead-own : Serves 8192 2 inTurn (hitSets 16384 lead) × (fetchesIn 8192 (cached lead) (hitSets 16384 lead) ≡ 7)
+lead-own = (subst (λ l. Serves 8192 2 l (hitSets 16384 lead)) lead-reads (lead-best .own-serves), lead-best .own-fetches)
 
 -- and no sets do with less
 pub lead-least : (Bs : List Set) → Serves 8192 2 inTurn Bs → 7 ≤ fetchesIn 8192 (cached lead) Bs

@@ -11,6 +11,16 @@ use Rattle.rules.specs.declared.State.{State}
 use Rattle.rules.specs.declared.Listing.{Listing}
 use Rattle.rules.specs.declared.Listing.the-variants.{Count, Declined}
 
+-- "The count of keys, or of clusters .., is returned": 0 where the call is refused
+abbrev pub countIn : Listing → ℕ
+countIn (Count n) = n
+countIn (Declined number) = 0
+
+-- the refusal's number; 0, which none has, where the call is carried out
+abbrev pub refusalIn : Listing → ℕ
+refusalIn (Count n) = 0
+refusalIn (Declined number) = number
+
 -- the answer, and the lent list after the call
 pub record Written : Type 0 where
   pub answer : Listing

@@ -15,11 +15,15 @@ use Rattle.rules.specs.declared.Reader.{Reader}
 use Rattle.rules.specs.declared.Answer.{Answer}
 use Rattle.rules.specs.declared.Answer.the-variants.{Ran}
 
--- the mission's premises: one pace w, fetch time 0, "the look-ahead covers if L is at least w × size" of each file being read, no open fetch
+-- "The look-ahead covers if L is at least w × size", of the reader's file
+abbrev pub Covers : State → ℕ → Reader → Type 0
+Covers s w r = w * lastPage (s .sizes) r ≤ s .«look_ahead»
+
+-- the mission's premises: one pace w, fetch time 0, a look-ahead that covers each file being read, no open fetch
 pub record Premises (s : State) (w : ℕ) : Type 0 where
   pub one-pace : (j : ℕ) → T (attached (readerAt s j)) → readerAt s j .pace ≡ w
   pub no-time : s .«fetch_time» ≡ 0
-  pub covers : (j : ℕ) → T (attached (readerAt s j)) → w * lastPage (s .sizes) (readerAt s j) ≤ s .«look_ahead»
+  pub covers : (j : ℕ) → T (attached (readerAt s j)) → Covers s w (readerAt s j)
   pub none-open : fetchOpen s ≡ false
 
 -- ---- the reads laid down, "worked out from readers, sizes and turn, and from nothing that is cached"
