@@ -6,7 +6,7 @@ use mathlib.Core.Logic.{_⊎_, inl, inr}
 use mathlib.Core.Option.{some}
 use Prim.Native.Nat.{ℕ, _+_, _-_, _*_, _/_, _%_, _≤_, _<_}
 use native.Mathlib.Omega.{arith}
-use native.Mathlib.Nat.{le-trans, mul-le-mul-right, le-div-iff-mul-le, mul-comm, add-mul, one-mul}
+use native.Mathlib.Nat.{mul-le-mul-right, le-div-iff-mul-le, mul-comm, add-mul, one-mul}
 use lib.Dec.{T, leb, ltb, eqb, leb→le, le→leb, ltb→lt}
 use Rattle.rules.specs.Lists.{least}
 use Rattle.rules.specs.Pages.{fileOf, pageOf, cached}

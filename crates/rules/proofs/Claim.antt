@@ -51,7 +51,7 @@ pub two-reads : (frames x y : ℕ) (A B : Set)
 unfolding Serves
 two-reads frames x y A B = refl
 
--- "the number of pages in the read's set that are not in the set before": page 0 is there, 1, 8191 and 2 are fetched
-pub two-cost : fetchesIn 8192 (among (0 ∷ [])) (among (0 ∷ 1 ∷ 8191 ∷ []) ∷ among (1 ∷ 2 ∷ []) ∷ []) ≡ 3
+-- "the number of pages in the read's set that are not in the set before": page 0 is there at the start; 1 and 7, then 2 are fetched
+pub two-cost : fetchesIn 8 (among (0 ∷ [])) (among (0 ∷ 1 ∷ 7 ∷ []) ∷ among (1 ∷ 2 ∷ []) ∷ []) ≡ 3
 unfolding fetchesIn count
 two-cost = refl

@@ -66,30 +66,30 @@ image =
     -- the cached map and the fetch map
     ∷ 160 ∷ 1 ∷ 161 ∷ 2 ∷ 288 ∷ 1 ∷ 1183 ∷ 128 ∷ 1349 ∷ 8 ∷ []
 
--- number, length and marks of the buffer after Save
-abbrev saved : List ℕ → List ℕ
-saved buffer = code (saveOf laden buffer .answer) ∷ length (saveOf laden buffer .buffer) ∷ marks 0 (saveOf laden buffer .buffer)
+-- the number, and the buffer after the call: its length and its marks
+unfoldable pub saved : Saved → List ℕ
+saved r = code (r .answer) ∷ length (r .buffer) ∷ marks 0 (r .buffer)
 
 -- "12: buffer shorter; bytes after 2,208 keep"
 unfoldable pub saves : List Row
 saves =
-    row (saved (7 ∷ replicate 2206 0)) (12 ∷ 2207 ∷ 0 ∷ 7 ∷ [])
-    ∷ row (saved (replicate 2208 9)) (5177344 ∷ 2208 ∷ image)
-    ∷ row (saved (replicate 2209 9)) (5177344 ∷ 2209 ∷ (image ++ 2208 ∷ 9 ∷ []))
+    row (saved (saveOf laden (7 ∷ replicate 2206 0))) (12 ∷ 2207 ∷ 0 ∷ 7 ∷ [])
+    ∷ row (saved (saveOf laden (replicate 2208 9))) (5177344 ∷ 2208 ∷ image)
+    ∷ row (saved (saveOf laden (replicate 2209 9))) (5177344 ∷ 2209 ∷ (image ++ 2208 ∷ 9 ∷ []))
     ∷ []
 
 pub saves-hold : Hold saves
-unfolding saves marks bit putBit each layout bytesOf imageOf saveOf code
+unfolding saves saved marks bit putBit each layout bytesOf imageOf saveOf code
 saves-hold = refl
 
 -- ---- Steal list, Fetch list, Clusters: "All: 12, list too short. Past what is written the list is unchanged"
 
--- the first sounding's state, T 20: five pages cached, two to fetch, three clusters
+-- as in the first sounding: five pages cached, two to fetch, three clusters
 abbrev sounded : State
-sounded = stateWith 16 0 40 20 (16 ∷ []) (at 3 10 ∷ []) (f0 (1 ∷ 2 ∷ 3 ∷ 5 ∷ 7 ∷ [])) []
+sounded = stateWith 16 0 40 20 (8 ∷ []) (at 3 10 ∷ []) (f0 (1 ∷ 2 ∷ 3 ∷ 5 ∷ 7 ∷ [])) []
 
 -- the refusal's number, the count, and the lent list after the call
-abbrev written : Written → List ℕ
+unfoldable pub written : Written → List ℕ
 written w = refusalIn (w .answer) ∷ countIn (w .answer) ∷ w .list
 
 -- a list too short by one, one with exactly enough room, and one with more
@@ -112,7 +112,7 @@ lists =
     ∷ []
 
 pub lists-hold : Hold lists
-unfolding lists bit putBit range each only put sorted least some-of pages held ends clusters before missing cut sees timeFor useFor useKey ahead seen behindLast notSeen useTime stealOrder fetchOrder listed stealListOf fetchListOf clustersOf
+unfolding lists written bit putBit range each only put sorted least some-of pages held ends clusters before missing cut sees timeFor useFor useKey ahead seen behindLast notSeen useTime stealOrder fetchOrder listed stealListOf fetchListOf clustersOf
 lists-hold = refl
 
 -- ---- "Where several refusals apply, the one listed first for the call is given"
