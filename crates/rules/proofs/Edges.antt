@@ -1,5 +1,5 @@
--- A second table beside the soundings: 01's sentences at their edges, where a mistake in a rule would break no theorem and show in no test of the program
--- or the C entries. Each row is computed from the rules. Assumes nothing.
+-- A second table beside the soundings: 01's sentences at their edges, above all where no other theorem and no test has them. No door of the program leads to
+-- Save, nor to the lists' 12. Each row is computed from the rules. Assumes nothing.
 use Prim.Native.Nat.{ℕ, _+_}
 use mathlib.Core.Path.{_≡_, refl}
 use mathlib.Core.Bool.{cond}
@@ -19,13 +19,12 @@ use Rattle.rules.specs.Image.{conditionNumber, layout, bytesOf, imageOf,
 use Rattle.rules.specs.Entries.{code, Call, attach, detach, read, arrive, lost, run, callOf}
 use Rattle.rules.specs.Lines.{split, isDecimal, decimalValue, isField, wellFormed, digitsOf, lineOf, numbersOf, obeyed, respondOf, linesOf, answers, programOf}
 use Rattle.rules.specs.Schedules.{num}
-use Rattle.rules.proofs.Soundings.{stateWith, at, f0}
+use Rattle.rules.proofs.Soundings.{stateWith, reader, at, f0}
 use Rattle.rules.proofs.Sample.{bytes}
 use Rattle.rules.specs.declared.State.{State}
-use Rattle.rules.specs.declared.Reader.{Reader}
 use Rattle.rules.specs.declared.Reply.{Reply}
+use Rattle.rules.specs.declared.Answer.{Answer}
 use Rattle.rules.specs.declared.Answer.the-variants.{Refused, Done, Hit, Wait, Fetch, End, Nothing, Stolen, Arrived, Replaced, Ran}
-use Rattle.rules.specs.declared.Condition.{Condition}
 use Rattle.rules.specs.declared.Condition.the-variants.{Running, Waiting}
 
 -- what the rules give, and what 01 says
@@ -45,9 +44,6 @@ Hold rows = map (λ r. r .found) rows ≡ map (λ r. r .due) rows
 unfoldable pub marks : ℕ → List ℕ → List ℕ
 marks i [] = []
 marks i (b ∷ bs) = cond (eqb b 0) [] (i ∷ b ∷ []) ++ marks (i + 1) bs
-
-abbrev reader : Condition → ℕ → ℕ → ℕ → Reader
-reader c file pace position = record { condition = c; file = file; pace = pace; position = position }
 
 -- numbers of several bytes, a reader that runs, one that waits, one in the last slot, the first and the last page cached, a page in fetch
 abbrev laden : State
@@ -115,69 +111,73 @@ pub lists-hold : Hold lists
 unfolding lists written bit putBit range each only put sorted least some-of pages held ends clusters before missing cut sees timeFor useFor useKey ahead seen behindLast notSeen useTime stealOrder fetchOrder listed stealListOf fetchListOf clustersOf
 lists-hold = refl
 
+-- ---- "The number returned is the refusal's, or the answer letter's ASCII code × 65,536 + (key + 1, or 0 without a page)"
+
+-- an answer and its number
+abbrev is : Answer → ℕ → Row
+is answer n = row (code answer ∷ []) (n ∷ [])
+
+unfoldable pub numbers : List Row
+numbers =
+    is (Refused 13) 13
+    ∷ is Done 5177344
+    ∷ is (Hit 7 1024) 4726784
+    ∷ is (Wait 0 1) 5701633
+    ∷ is (Fetch 1 1) 4588545
+    ∷ is End 5898240
+    ∷ is Nothing 5570560
+    ∷ is (Stolen 0 1024) 5440512
+    ∷ is Arrived 4784128
+    ∷ is (Replaced 7 1) 4791297
+    -- "for Run 4,294,967,296 + fetches × 65,536 + reads"
+    ∷ is (Ran 300 16384) 4314644480
+    ∷ []
+
+pub numbers-hold : Hold numbers
+unfolding numbers code
+numbers-hold = refl
+
 -- ---- "Where several refusals apply, the one listed first for the call is given"
 
 -- a file of six pages, a reader in slot 0 that waits for its first page
 abbrev waiting : State
 waiting = stateWith 16 0 40 0 (6 ∷ []) (reader Waiting 0 10 0 ∷ []) [] (f0 (1 ∷ []))
 
--- the number that a call gives
-abbrev gives : Call → List ℕ
-gives call = code (callOf call waiting .answer) ∷ []
+-- a call and its number
+abbrev gives : Call → ℕ → Row
+gives call n = is (callOf call waiting .answer) n
 
 -- by call: two neighbours in its list at once, and the limits of the slot, the file, the page and the turns
 unfoldable pub refusals : List Row
 refusals =
-    row (gives (attach 16 8 10)) (2 ∷ [])
-    ∷ row (gives (attach 15 8 0)) (3 ∷ [])
-    ∷ row (gives (attach 15 7 1001)) (3 ∷ [])
-    ∷ row (gives (attach 0 0 0)) (4 ∷ [])
-    ∷ row (gives (attach 0 0 1001)) (4 ∷ [])
-    ∷ row (gives (attach 0 0 1000)) (5 ∷ [])
-    ∷ row (gives (read 16)) (2 ∷ [])
-    ∷ row (gives (read 15)) (6 ∷ [])
-    ∷ row (gives (read 0)) (7 ∷ [])
-    ∷ row (gives (detach 16)) (2 ∷ [])
-    ∷ row (gives (detach 15)) (6 ∷ [])
-    ∷ row (gives (arrive 8 0)) (3 ∷ [])
-    ∷ row (gives (arrive 7 1)) (3 ∷ [])
-    ∷ row (gives (arrive 0 0)) (8 ∷ [])
-    ∷ row (gives (arrive 0 7)) (8 ∷ [])
-    ∷ row (gives (arrive 0 6)) (9 ∷ [])
-    ∷ row (gives (lost 8 0)) (3 ∷ [])
-    ∷ row (gives (lost 7 1)) (3 ∷ [])
-    ∷ row (gives (lost 0 0)) (8 ∷ [])
-    ∷ row (gives (lost 0 7)) (8 ∷ [])
-    ∷ row (gives (lost 0 6)) (9 ∷ [])
-    ∷ row (gives (run 16385)) (11 ∷ [])
-    ∷ row (gives (run 16384)) (10 ∷ [])
+    gives (attach 16 8 10) 2
+    ∷ gives (attach 15 8 0) 3
+    ∷ gives (attach 15 7 1001) 3
+    ∷ gives (attach 0 0 0) 4
+    ∷ gives (attach 0 0 1001) 4
+    ∷ gives (attach 0 0 1000) 5
+    ∷ gives (read 16) 2
+    ∷ gives (read 15) 6
+    ∷ gives (read 0) 7
+    ∷ gives (detach 16) 2
+    ∷ gives (detach 15) 6
+    ∷ gives (arrive 8 0) 3
+    ∷ gives (arrive 7 1) 3
+    ∷ gives (arrive 0 0) 8
+    ∷ gives (arrive 0 7) 8
+    ∷ gives (arrive 0 6) 9
+    ∷ gives (lost 8 0) 3
+    ∷ gives (lost 7 1) 3
+    ∷ gives (lost 0 0) 8
+    ∷ gives (lost 0 7) 8
+    ∷ gives (lost 0 6) 9
+    ∷ gives (run 16385) 11
+    ∷ gives (run 16384) 10
     ∷ []
 
 pub refusals-hold : Hold refusals
 unfolding refusals bit putBit range each only pages fetchingPages attachOf readOf readRunning detachOf forFetch arriveOf lostOf fetchOpen runOf code
 refusals-hold = refl
-
--- ---- "The number returned is the refusal's, or the answer letter's ASCII code × 65,536 + (key + 1, or 0 without a page)"
-
-unfoldable pub numbers : List Row
-numbers =
-    row (code (Refused 13) ∷ []) (13 ∷ [])
-    ∷ row (code Done ∷ []) (5177344 ∷ [])
-    ∷ row (code (Hit 7 1024) ∷ []) (4726784 ∷ [])
-    ∷ row (code (Wait 0 1) ∷ []) (5701633 ∷ [])
-    ∷ row (code (Fetch 1 1) ∷ []) (4588545 ∷ [])
-    ∷ row (code End ∷ []) (5898240 ∷ [])
-    ∷ row (code Nothing ∷ []) (5570560 ∷ [])
-    ∷ row (code (Stolen 0 1024) ∷ []) (5440512 ∷ [])
-    ∷ row (code Arrived ∷ []) (4784128 ∷ [])
-    ∷ row (code (Replaced 7 1) ∷ []) (4791297 ∷ [])
-    -- "for Run 4,294,967,296 + fetches × 65,536 + reads"
-    ∷ row (code (Ran 300 16384) ∷ []) (4314644480 ∷ [])
-    ∷ []
-
-pub numbers-hold : Hold numbers
-unfolding numbers code
-numbers-hold = refl
 
 -- ---- the orders and the clusters
 
@@ -235,8 +235,8 @@ abbrev stale : State
 stale = stateWith 3 0 100 20 (6 ∷ []) (reader Waiting 0 10 0 ∷ at 4 60 ∷ []) (f0 (3 ∷ 5 ∷ 6 ∷ [])) (f0 (1 ∷ []))
 
 -- the page that the call dropped, and the page that Steal then drops
-unfoldable pub inTurn : Reply → List ℕ
-inTurn r = numbersOf (r .answer) ++ numbersOf (stealOf (r .state) .answer)
+unfoldable pub thenStolen : Reply → List ℕ
+thenStolen r = numbersOf (r .answer) ++ numbersOf (stealOf (r .state) .answer)
 
 unfoldable pub effects : List Row
 effects =
@@ -249,11 +249,11 @@ effects =
     -- "the head of the steal order is dropped first. Then the page .. is cached"
     ∷ row (leaves (arriveOf crowded 0 6)) (0 ∷ 1 ∷ 1 ∷ 0 ∷ 0 ∷ 0 ∷ 5 ∷ [])
     -- "The order is worked out afresh for each steal": before page 1 came it was 6, 3, 5
-    ∷ row (inTurn (arriveOf stale 0 1)) (0 ∷ 6 ∷ 0 ∷ 5 ∷ [])
+    ∷ row (thenStolen (arriveOf stale 0 1)) (0 ∷ 6 ∷ 0 ∷ 5 ∷ [])
     ∷ []
 
 pub effects-hold : Hold effects
-unfolding effects leaves inTurn bit putBit range each only put sorted least some-of pages cachedPages fetchingPages before missing cut sees timeFor useFor useKey ahead seen behindLast notSeen useTime stealOrder victim full dropped woken landed forFetch arriveOf lostOf detachOf stealOf
+unfolding effects leaves thenStolen bit putBit range each only put sorted least some-of pages cachedPages fetchingPages before missing cut sees timeFor useFor useKey ahead seen behindLast notSeen useTime stealOrder victim full dropped woken landed forFetch arriveOf lostOf detachOf stealOf
 effects-hold = refl
 
 -- ---- the program's lines

@@ -11,6 +11,7 @@ use Rattle.rules.specs.UseTimes.{before, missing, cut, sees, timeFor, us
 use Rattle.rules.specs.Orders.{behindLast, notSeen, useTime, stealOrder, fetchOrder}
 use Rattle.rules.specs.declared.State.{State}
 use Rattle.rules.specs.declared.Reader.{Reader}
+use Rattle.rules.specs.declared.Condition.{Condition}
 use Rattle.rules.specs.declared.Condition.the-variants.{Running}
 
 -- the map with these pages
@@ -59,9 +60,13 @@ asked fetch s = fetchOrder s
 asked times s = map (λ k. useKey s k / 16) (fetchOrder s)
 asked runs s = clusters s 0
 
--- a reader of file 0
+-- a reader's record
+abbrev pub reader : Condition → ℕ → ℕ → ℕ → Reader
+reader condition file pace position = record { condition = condition; file = file; pace = pace; position = position }
+
+-- a running reader of file 0
 abbrev pub at : ℕ → ℕ → Reader
-at c w = record { condition = Running; file = 0; pace = w; position = c }
+at c w = reader Running 0 w c
 
 abbrev pub f0 : List ℕ → List ℕ
 f0 ps = map (keyOf 0) ps
