@@ -1,0 +1,206 @@
+/* quay.h held to the archive: each name of it for the situation that 01 gives it, each place of the image by what the box accepts
+ * or writes there, the inline functions at their limits. It is C99 and C++. */
+#include <inttypes.h>
+#include <stdio.h>
+#include <string.h>
+
+#include "quay.h"
+
+static uint8_t image[QUAY_IMAGE_SIZE + 1]; /* room for a length that is one too long */
+static size_t length;
+static unsigned failed;
+
+#define BOX image, length
+#define IS(got, wanted) is(__LINE__, #got, got, #wanted, wanted)
+#define SAYS(answer, letter, file, page) says(__LINE__, #answer, answer, #letter, letter, file, page)
+
+static void is(int line, const char *what, uint64_t got, const char *name, uint64_t wanted)
+{
+    if (got == wanted)
+        return;
+    printf("tests/header.c:%d: %s gives %" PRIu64 ", but %s is %" PRIu64 "\n", line, what, got, name, wanted);
+    failed++;
+}
+
+/* The answer has this letter and names this page; page 0: it names none. */
+static void says(int line, const char *what, uint64_t answer, const char *name, char letter, unsigned file, unsigned page)
+{
+    is(line, what, quay_refused(answer), "refused", 0);
+    is(line, what, (uint64_t)quay_letter(answer), name, (uint64_t)letter);
+    is(line, what, quay_has_page(answer), "has a page", page > 0);
+    if (page > 0) {
+        is(line, what, quay_file(answer), "its file", file);
+        is(line, what, quay_page(answer), "its page", page);
+    }
+}
+
+static void put(size_t at, unsigned width, uint32_t value)
+{
+    for (unsigned i = 0; i < width; i++)
+        image[at + i] = (uint8_t)(value >> (8 * i));
+}
+
+/* Two frames, look-ahead 100, fetch time 20; file 0 has 5 pages, file 7 has 1,024. */
+static void start(void)
+{
+    memset(image, 0, sizeof image);
+    length = QUAY_IMAGE_SIZE;
+    put(QUAY_AT_FRAMES, 2, 2);
+    put(QUAY_AT_LOOK_AHEAD, 4, 100);
+    put(QUAY_AT_FETCH_TIME, 4, 20);
+    put(QUAY_AT_SIZES, 2, 5);
+    put(QUAY_AT_SIZES + 2 * 7, 2, 1024);
+}
+
+static void refusals(void)
+{
+    start();
+    IS(quay_attach(BOX, 16, 0, 10), QUAY_NO_SLOT);
+    IS(quay_attach(BOX, 0, 8, 10), QUAY_NO_FILE);
+    IS(quay_attach(BOX, 0, 1, 10), QUAY_NO_FILE);
+    IS(quay_attach(BOX, 0, 0, 1001), QUAY_BAD_PACE);
+    IS(quay_read(BOX, 0), QUAY_SLOT_EMPTY);
+    IS(quay_arrive(BOX, 0, 6), QUAY_NO_PAGE);
+    IS(quay_arrive(BOX, 0, 5), QUAY_NOT_IN_FETCH);
+    IS(quay_run(BOX, 16385), QUAY_TOO_MANY_TURNS);
+    SAYS(quay_attach(BOX, 0, 0, 10), QUAY_DONE, 0, 0);
+    IS(quay_attach(BOX, 0, 0, 10), QUAY_SLOT_TAKEN);
+    SAYS(quay_read(BOX, 0), QUAY_FETCH, 0, 1);
+    IS(quay_read(BOX, 0), QUAY_READER_WAITS);
+    IS(quay_run(BOX, 1), QUAY_FETCH_OPEN);
+    for (length = QUAY_IMAGE_SIZE - 1; length <= QUAY_IMAGE_SIZE + 1; length += 2) {
+        IS(quay_attach(BOX, 1, 0, 10), QUAY_BAD_IMAGE);
+        IS(quay_detach(BOX, 0), QUAY_BAD_IMAGE);
+        IS(quay_read(BOX, 0), QUAY_BAD_IMAGE);
+        IS(quay_arrive(BOX, 0, 1), QUAY_BAD_IMAGE);
+        IS(quay_lost(BOX, 0, 1), QUAY_BAD_IMAGE);
+        IS(quay_prefetch(BOX), QUAY_BAD_IMAGE);
+        IS(quay_steal(BOX), QUAY_BAD_IMAGE);
+        IS(quay_run(BOX, 0), QUAY_BAD_IMAGE);
+    }
+}
+
+/* Numbers are 64 bits wide: none of these is cut to one that fits. */
+static void wide_numbers(void)
+{
+    const uint64_t wide = (uint64_t)1 << 32;
+    start();
+    IS(quay_attach(BOX, wide, 0, 10), QUAY_NO_SLOT);
+    IS(quay_attach(BOX, 0, wide, 10), QUAY_NO_FILE);
+    IS(quay_attach(BOX, 0, 0, wide + 10), QUAY_BAD_PACE);
+    IS(quay_detach(BOX, wide), QUAY_NO_SLOT);
+    IS(quay_read(BOX, wide), QUAY_NO_SLOT);
+    IS(quay_arrive(BOX, wide, 1), QUAY_NO_FILE);
+    IS(quay_arrive(BOX, 0, wide + 1), QUAY_NO_PAGE);
+    IS(quay_lost(BOX, wide, 1), QUAY_NO_FILE);
+    IS(quay_lost(BOX, 0, wide + 1), QUAY_NO_PAGE);
+    IS(quay_run(BOX, wide), QUAY_TOO_MANY_TURNS);
+    IS(quay_refused(quay_run(BOX, 0)), 0);
+}
+
+/* A reader of the last page of all, in slot 3, with what the box writes at each place of the image. */
+static void answers(void)
+{
+    static const uint8_t running[8] = {1, 7, 0xe7, 3, 0xff, 3, 0, 0}, empty[8] = {0};
+    uint8_t *reader = image + QUAY_AT_READERS + 8 * 3;
+    uint8_t *cached = image + QUAY_AT_CACHED + 128 * 7 + 127, *fetching = image + QUAY_AT_FETCHING + 128 * 7 + 127;
+    start();
+    SAYS(quay_attach(BOX, 3, 7, 999), QUAY_DONE, 0, 0);
+    put(QUAY_AT_READERS + 8 * 3 + 4, 2, 1023);
+    IS(memcmp(reader, running, 8) == 0, 1);
+    SAYS(quay_steal(BOX), QUAY_NOTHING, 0, 0);
+    SAYS(quay_prefetch(BOX), QUAY_NOTHING, 0, 0);
+    put(QUAY_AT_LOOK_AHEAD, 4, 999);
+    SAYS(quay_prefetch(BOX), QUAY_FETCH, 7, 1024);
+    SAYS(quay_read(BOX, 3), QUAY_WAIT, 7, 1024);
+    IS(reader[0], 2);
+    IS(*fetching, 0x80);
+    SAYS(quay_lost(BOX, 7, 1024), QUAY_DONE, 0, 0);
+    IS(*fetching, 0);
+    SAYS(quay_read(BOX, 3), QUAY_FETCH, 7, 1024);
+    SAYS(quay_arrive(BOX, 7, 1024), QUAY_ARRIVED, 0, 0);
+    IS(*fetching, 0);
+    IS(*cached, 0x80);
+    SAYS(quay_read(BOX, 3), QUAY_HIT, 7, 1024);
+    SAYS(quay_read(BOX, 3), QUAY_END, 0, 0);
+    IS(quay_reads(quay_run(BOX, 5)), 0);
+    IS(image[QUAY_AT_TURN], 5);
+    SAYS(quay_detach(BOX, 3), QUAY_DONE, 0, 0);
+    IS(memcmp(reader, empty, 8) == 0, 1);
+    put(QUAY_AT_FRAMES, 2, 1);
+    SAYS(quay_attach(BOX, 0, 0, 10), QUAY_DONE, 0, 0);
+    SAYS(quay_read(BOX, 0), QUAY_FETCH, 0, 1);
+    SAYS(quay_arrive(BOX, 0, 1), QUAY_ARRIVED, 7, 1024);
+    SAYS(quay_steal(BOX), QUAY_STOLEN, 0, 1);
+}
+
+/* Whether the box takes an image with this value at this place. */
+static int takes(size_t at, unsigned width, uint32_t value)
+{
+    start();
+    put(at, width, value);
+    return quay_steal(BOX) != QUAY_BAD_IMAGE;
+}
+
+/* The ranges of 01, at the places where the values lie. */
+static void ranges(void)
+{
+    IS(takes(QUAY_AT_FRAMES, 2, 0), 0);
+    IS(takes(QUAY_AT_FRAMES, 2, 1), 1);
+    IS(takes(QUAY_AT_FRAMES, 2, 1024), 1);
+    IS(takes(QUAY_AT_FRAMES, 2, 1025), 0);
+    IS(takes(QUAY_AT_TURN, 1, 15), 1);
+    IS(takes(QUAY_AT_TURN, 1, 16), 0);
+    IS(takes(QUAY_AT_LOOK_AHEAD, 4, 0), 0);
+    IS(takes(QUAY_AT_LOOK_AHEAD, 4, 1), 1);
+    IS(takes(QUAY_AT_LOOK_AHEAD, 4, 2000000), 1);
+    IS(takes(QUAY_AT_LOOK_AHEAD, 4, 2000001), 0);
+    IS(takes(QUAY_AT_FETCH_TIME, 4, 0), 1);
+    IS(takes(QUAY_AT_FETCH_TIME, 4, 2000000), 1);
+    IS(takes(QUAY_AT_FETCH_TIME, 4, 2000001), 0);
+    IS(takes(QUAY_AT_SIZES, 2, 0), 1);
+    IS(takes(QUAY_AT_SIZES, 2, 1024), 1);
+    IS(takes(QUAY_AT_SIZES, 2, 1025), 0);
+    IS(takes(QUAY_AT_SIZES + 2 * 7, 2, 1025), 0);
+}
+
+/* The inline functions at their limits; Runs of 300 and of 16,384 fetches. */
+static void limits(void)
+{
+    IS(quay_refused(65535), 1);
+    IS(quay_refused(65536), 0);
+    IS(quay_file('F' * 65536 + 1024), 0);
+    IS(quay_page('F' * 65536 + 1024), 1024);
+    IS(quay_file('F' * 65536 + 1025), 1);
+    IS(quay_page('F' * 65536 + 1025), 1);
+
+    start();
+    quay_attach(BOX, 0, 7, 10);
+    quay_attach(BOX, 1, 7, 10);
+    uint64_t answer = quay_run(BOX, 16 * 300);
+    IS(quay_refused(answer), 0);
+    IS(quay_fetches(answer), 300);
+    IS(quay_reads(answer), 600);
+
+    start();
+    put(QUAY_AT_FRAMES, 2, 1); /* and no two turns in a row read the same file, so each turn fetches */
+    for (unsigned slot = 0; slot < 16; slot++) {
+        put(QUAY_AT_SIZES + 2 * (slot % 8), 2, 1024);
+        quay_attach(BOX, slot, slot % 8, 10);
+    }
+    answer = quay_run(BOX, 16384);
+    IS(quay_fetches(answer), 16384);
+    IS(quay_reads(answer), 16384);
+}
+
+int main(void)
+{
+    refusals();
+    wide_numbers();
+    answers();
+    ranges();
+    limits();
+    if (failed > 0)
+        printf("quay.h is not the archive's: %u faults\n", failed);
+    return failed > 0;
+}
