@@ -49,4 +49,23 @@ impl Call {
             Call::Run { turns } => format!("N,{turns}"),
         }
     }
+
+    /// The call that such a line makes; S, L, Q and C make none.
+    pub fn of_line(line: &str) -> Option<Call> {
+        let mut pieces = line.split(',');
+        let letter = pieces.next()?;
+        let fields = pieces.map(|field| field.parse().ok());
+        let fields: Vec<u64> = fields.collect::<Option<_>>()?;
+        Some(match (letter, fields.as_slice()) {
+            ("A", &[slot, file, pace]) => Call::Attach { slot, file, pace },
+            ("D", &[slot]) => Call::Detach { slot },
+            ("R", &[slot]) => Call::Read { slot },
+            ("I", &[file, page]) => Call::Arrive { file, page },
+            ("X", &[file, page]) => Call::Lost { file, page },
+            ("P", []) => Call::Prefetch,
+            ("T", []) => Call::Steal,
+            ("N", &[turns]) => Call::Run { turns },
+            _ => return None,
+        })
+    }
 }

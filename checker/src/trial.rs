@@ -6,6 +6,7 @@ pub mod calls;
 pub mod damage;
 pub mod fewest;
 mod hold;
+pub mod named;
 mod options;
 mod report;
 pub mod rules;

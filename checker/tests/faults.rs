@@ -1,10 +1,14 @@
 //! The trials find faults: each of these stand-ins is wrong in one way only.
 
 use checker::call::{Call, Entry};
-use checker::limits::IMAGE_BYTES;
+use checker::feed::{Feed, Program};
+use checker::limits::{IMAGE_BYTES, LINE_BYTES, MOST_TURNS, PACE};
+use checker::model::{respond, run_program, Answer, Page, State};
 use checker::quick;
 use checker::random::Dice;
+use checker::trial::named::{self, Named};
 use checker::trial::{calls, damage, fewest, rules, soundings, Report, CALL_OUTCOMES};
+use std::collections::BTreeSet;
 
 fn failed(trial: impl FnOnce(&mut Report, &mut Dice)) -> u64 {
     let mut report = Report::default();
@@ -80,4 +84,331 @@ fn an_answer_never_met_is_found() {
         report.check_every_outcome_met(CALL_OUTCOMES);
     });
     assert!(unmet > 0);
+}
+
+#[test]
+fn a_length_tested_late_is_found() {
+    let entry: Entry = |image, call| match call {
+        Call::Run { turns: 16_385.. } => 11,
+        _ => quick::entry(image, call),
+    };
+    let trial = trial("Run gives 11 before 10");
+    assert!(failed(|report, _| trial.by_entry(report, entry)) > 0);
+}
+
+#[test]
+fn each_trial_by_name_finds_its_faults() {
+    let entries: [(&str, Entry); 36] = [
+        ("each refusal has its number", another_number::<2>),
+        ("each refusal has its number", another_number::<3>),
+        ("each refusal has its number", another_number::<4>),
+        ("each refusal has its number", another_number::<5>),
+        ("each refusal has its number", another_number::<6>),
+        ("each refusal has its number", another_number::<7>),
+        ("each refusal has its number", another_number::<8>),
+        ("each refusal has its number", another_number::<9>),
+        ("each refusal has its number", another_number::<10>),
+        ("each refusal has its number", another_number::<11>),
+        ("Attach gives 2 before 3", last_listed),
+        ("Attach gives 3 before 4", last_listed),
+        ("Attach gives 4 before 5", last_listed),
+        ("Arrive gives 3 before 8", last_listed),
+        ("Arrive gives 8 before 9", last_listed),
+        ("Lost gives 3 before 8", last_listed),
+        ("Lost gives 8 before 9", last_listed),
+        ("Run gives 11 before 10", last_listed),
+        ("every answer has its number", another_letter::<'O'>),
+        ("every answer has its number", another_letter::<'H'>),
+        ("every answer has its number", another_letter::<'W'>),
+        ("every answer has its number", another_letter::<'F'>),
+        ("every answer has its number", another_letter::<'Z'>),
+        ("every answer has its number", another_letter::<'U'>),
+        ("every answer has its number", another_letter::<'S'>),
+        ("every answer has its number", another_letter::<'I'>),
+        ("every answer has its number", fetches_of_8_bits),
+        ("every answer has its number", pages_of_13_bits),
+        ("the seat distance is slot less turn", turn_less_slot),
+        ("the seat distance is slot less turn", slot_alone),
+        ("Lost closes the fetch", lost_left_open),
+        ("an ended fetch wakes its waiters", whole_file_woken),
+        ("an ended fetch wakes its waiters", every_file_woken),
+        ("no page is fetched twice", fetched_twice),
+        ("Arrive steals before it caches", cached_first),
+        ("Run's order is worked out afresh", run_by_one_list),
+    ];
+    let programs: [(&str, Program); 5] = [
+        ("14 comes before all else", &zeros_read),
+        ("a line of 201 bytes is one line", &cut_at_200),
+        ("a last line lacks its end", &last_line_lost),
+        ("a cluster ends with its file", &clusters_run_on),
+        ("Steal's order is worked out afresh", &steals_by_one_list),
+    ];
+    let mut faultless: BTreeSet<&str> = named::all().iter().map(|trial| trial.name).collect();
+    for (name, entry) in entries {
+        faultless.remove(name);
+        let trial = trial(name);
+        assert!(
+            failed(|report, _| trial.by_entry(report, entry)) > 0,
+            "{name}"
+        );
+    }
+    for (name, program) in programs {
+        faultless.remove(name);
+        let trial = trial(name);
+        assert!(
+            failed(|report, _| trial.by_program(report, program)) > 0,
+            "{name}"
+        );
+    }
+    assert!(
+        faultless.is_empty(),
+        "trials without a fault: {faultless:?}"
+    );
+}
+
+fn trial(name: &str) -> Named {
+    let mut trials = named::all().into_iter();
+    trials.find(|trial| trial.name == name).expect(name)
+}
+
+/// The state of an image that Restore accepts.
+fn restored(image: &[u8]) -> Option<State> {
+    let (state, restored) = State::restore(image);
+    restored.ok().map(|()| state)
+}
+
+/// Of several refusals that apply, the one listed last.
+fn last_listed(image: &mut [u8], call: Call) -> u64 {
+    let state = restored(image);
+    let number = quick::entry(image, call);
+    let Some(state) = state.filter(|_| number < 65_536) else {
+        return number;
+    };
+    let listed = match call {
+        Call::Attach { slot, file, pace } => vec![
+            (2, slot > 15),
+            (3, state.size(file) == 0),
+            (4, !PACE.contains(&pace)),
+            (5, state.readers.contains_key(&slot)),
+        ],
+        Call::Arrive { file, page: number } | Call::Lost { file, page: number } => vec![
+            (3, state.size(file) == 0),
+            (8, number == 0 || number > state.size(file)),
+            (9, !state.in_fetch.contains(&Page { file, number })),
+        ],
+        Call::Run { turns } => vec![(11, turns > MOST_TURNS), (10, !state.in_fetch.is_empty())],
+        _ => vec![(number, true)],
+    };
+    let mut applying = listed.iter().filter(|(_, applies)| *applies);
+    applying.next_back().map_or(number, |(refusal, _)| *refusal)
+}
+
+/// The refusal of this number under 12.
+fn another_number<const NUMBER: u64>(image: &mut [u8], call: Call) -> u64 {
+    match quick::entry(image, call) {
+        number if number == NUMBER => 12,
+        number => number,
+    }
+}
+
+/// The answers of this letter under the next one.
+fn another_letter<const LETTER: char>(image: &mut [u8], call: Call) -> u64 {
+    let number = quick::entry(image, call);
+    let has_letter = number >> 16 == u64::from(LETTER);
+    number + u64::from(has_letter) * 65_536
+}
+
+fn fetches_of_8_bits(image: &mut [u8], call: Call) -> u64 {
+    quick::entry(image, call) & !0xFF00_0000
+}
+
+fn pages_of_13_bits(image: &mut [u8], call: Call) -> u64 {
+    quick::entry(image, call) & !0xE000
+}
+
+/// Arrive and Lost, with the state that they leave changed.
+fn leaving(image: &mut [u8], call: Call, change: impl FnOnce(&mut State, Page)) -> u64 {
+    let number = quick::entry(image, call);
+    if let (Call::Arrive { file, page } | Call::Lost { file, page }, 65_536..) = (call, number) {
+        let (mut state, _) = State::restore(image);
+        change(&mut state, Page { file, number: page });
+        image.copy_from_slice(&state.image());
+    }
+    number
+}
+
+fn lost_left_open(image: &mut [u8], call: Call) -> u64 {
+    leaving(image, call, |state, page| {
+        if let Call::Lost { .. } = call {
+            state.in_fetch.insert(page);
+        }
+    })
+}
+
+fn whole_file_woken(image: &mut [u8], call: Call) -> u64 {
+    leaving(image, call, |state, page| {
+        wake(state, |next| next.file == page.file);
+    })
+}
+
+fn every_file_woken(image: &mut [u8], call: Call) -> u64 {
+    leaving(image, call, |state, page| {
+        wake(state, |next| next.number == page.number);
+    })
+}
+
+/// Lets the readers run whose next page is such.
+fn wake(state: &mut State, such: impl Fn(Page) -> bool) {
+    for reader in state.readers.values_mut() {
+        reader.waiting &= !such(reader.next_page());
+    }
+}
+
+/// Steal and Prefetch, decided on a changed state.
+fn decided_on(image: &mut [u8], call: Call, change: impl FnOnce(&mut State)) -> u64 {
+    let (Call::Steal | Call::Prefetch, Some(mut state)) = (call, restored(image)) else {
+        return quick::entry(image, call);
+    };
+    let mut changed = state.clone();
+    change(&mut changed);
+    let answer = changed.call(call).expect("no refusal");
+    (state.cached, state.in_fetch) = (changed.cached, changed.in_fetch);
+    image.copy_from_slice(&state.image());
+    answer.number()
+}
+
+/// Prefetch of a page that may be in fetch.
+fn fetched_twice(image: &mut [u8], call: Call) -> u64 {
+    decided_on(image, call, |state| state.in_fetch.clear())
+}
+
+/// A seat distance of (turn − slot) modulo 16.
+fn turn_less_slot(image: &mut [u8], call: Call) -> u64 {
+    seated_by(image, call, |slot, turn| turn + 16 - slot)
+}
+
+/// "breaking a tie by slot without the turn"
+fn slot_alone(image: &mut [u8], call: Call) -> u64 {
+    seated_by(image, call, |slot, _| slot)
+}
+
+/// Steal and Prefetch with another seat distance, by slot and turn: each reader
+/// sits where the paper's is that.
+fn seated_by(image: &mut [u8], call: Call, distance: fn(u64, u64) -> u64) -> u64 {
+    decided_on(image, call, |state| {
+        let turn = state.turn;
+        let seat = |slot| (turn + distance(slot, turn)) % 16;
+        let readers = std::mem::take(&mut state.readers).into_iter();
+        state.readers = readers.map(|(slot, reader)| (seat(slot), reader)).collect();
+    })
+}
+
+/// Arrive with the page cached before another is dropped for it.
+fn cached_first(image: &mut [u8], call: Call) -> u64 {
+    let (Call::Arrive { file, page }, Some(mut state)) = (call, restored(image)) else {
+        return quick::entry(image, call);
+    };
+    state.frames += 1;
+    if let Err(refusal) = state.arrive(file, page) {
+        return refusal.number();
+    }
+    state.frames -= 1;
+    let one_too_many = state.cached.len() as u64 > state.frames;
+    let dropped = one_too_many.then(|| state.steal().page()).flatten();
+    image.copy_from_slice(&state.image());
+    Answer::Arrived(dropped).number()
+}
+
+/// Drops the next page of "one list until it runs out", as 001 does.
+fn drop_next(state: &mut State, list: &mut Vec<Page>) -> Page {
+    if list.is_empty() {
+        *list = state.steal_order();
+    }
+    let page = list.remove(0);
+    state.cached.remove(&page);
+    page
+}
+
+/// Run with one list until it runs out.
+fn run_by_one_list(image: &mut [u8], call: Call) -> u64 {
+    let (Call::Run { turns }, Some(mut state)) = (call, restored(image)) else {
+        return quick::entry(image, call);
+    };
+    let (mut list, mut fetches, mut reads) = (Vec::new(), 0, 0);
+    for _ in 0..turns {
+        let mut answer = state.read(state.turn);
+        if let Ok(Answer::Fetch(page)) = answer {
+            fetches += 1;
+            if state.cached.len() as u64 == state.frames {
+                drop_next(&mut state, &mut list);
+            }
+            state
+                .arrive(page.file, page.number)
+                .expect("it is in fetch");
+            answer = state.read(state.turn);
+        }
+        if let Ok(Answer::Hit(_)) = answer {
+            reads += 1;
+        }
+        state.pass_turn();
+    }
+    image.copy_from_slice(&state.image());
+    Answer::Ran { fetches, reads }.number()
+}
+
+fn zeros_read(feed: &Feed) -> Result<Vec<u8>, String> {
+    let input = String::from_utf8_lossy(&feed.pieces.concat()).into_owned();
+    let read = |line: &str| Call::of_line(line).map_or(line.to_string(), Call::line);
+    let lines: Vec<String> = input.lines().map(read).collect();
+    Ok(run_program(lines.join("\n").as_bytes()))
+}
+
+fn cut_at_200(feed: &Feed) -> Result<Vec<u8>, String> {
+    let input = feed.pieces.concat();
+    let lines = input.split(|&byte| byte == b'\n');
+    let pieces: Vec<&[u8]> = lines.flat_map(|line| line.chunks(LINE_BYTES)).collect();
+    Ok(run_program(&pieces.join(&b'\n')))
+}
+
+fn last_line_lost(feed: &Feed) -> Result<Vec<u8>, String> {
+    let input = feed.pieces.concat();
+    let end = input.iter().rposition(|&byte| byte == b'\n');
+    Ok(run_program(&input[..end.map_or(0, |end| end + 1)]))
+}
+
+/// The clusters of file 0 run on into file 1.
+fn clusters_run_on(feed: &Feed) -> Result<Vec<u8>, String> {
+    answered(feed, |state, line| {
+        let cached = |key: &u64| state.cached.contains(&Page::of_key(*key));
+        let starts = (0..1_024).filter(|key| cached(key) && (*key == 0 || !cached(&(key - 1))));
+        let end = |low| (low..).take_while(cached).last().unwrap_or(low);
+        let pairs = starts.map(|low| format!(",{},{}", low + 1, end(low) + 1));
+        let pairs: Vec<String> = pairs.collect();
+        (line == "C,0").then(|| format!("C,{}{}", pairs.len(), pairs.concat()))
+    })
+}
+
+fn steals_by_one_list(feed: &Feed) -> Result<Vec<u8>, String> {
+    let mut list = Vec::new();
+    answered(feed, |state, line| {
+        (line == "T").then(|| Answer::Stolen(drop_next(state, &mut list)).to_string())
+    })
+}
+
+/// The model's answers, but for the lines that have another here.
+fn answered(
+    feed: &Feed,
+    mut other: impl FnMut(&mut State, &str) -> Option<String>,
+) -> Result<Vec<u8>, String> {
+    let input = String::from_utf8_lossy(&feed.pieces.concat()).into_owned();
+    let (mut state, mut output) = (State::idle(), String::new());
+    for line in input.lines() {
+        let answer = other(&mut state, line).unwrap_or_else(|| {
+            let (after, answer) = respond(state.clone(), line.as_bytes());
+            state = after;
+            answer
+        });
+        output += &(answer + "\n");
+    }
+    Ok(output.into_bytes())
 }

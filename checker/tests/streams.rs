@@ -8,7 +8,7 @@ use checker::quick::Lines;
 use checker::random::Dice;
 use checker::scene::{reads, Mood, Stream};
 use checker::trial::streams::LINE_OUTCOMES;
-use checker::trial::{soundings, streams, Report};
+use checker::trial::{named, soundings, streams, Report};
 
 /// Quick's lines, fed piece by piece.
 fn by_quick(feed: &Feed) -> Result<Vec<u8>, String> {
@@ -42,6 +42,9 @@ fn streams_have_the_answers_of_the_whole() {
 #[test]
 fn quick_answers_as_the_model_does() {
     let (mut report, mut dice) = (Report::default(), Dice::new(10));
+    for trial in named::all() {
+        trial.by_program(&mut report, &by_quick);
+    }
     streams::nothing(&mut report, &by_quick);
     streams::at_borders(&mut report, &by_quick);
     streams::long_lists(&mut report, &by_quick);
@@ -75,16 +78,6 @@ fn failed(stand_in: impl Fn(&Feed) -> Result<Vec<u8>, String>) -> u64 {
     streams::random_streams(&mut report, &stand_in, &mut dice, 10);
     streams::cut_everywhere(&mut report, &stand_in, &mut dice, 1);
     report.failed()
-}
-
-#[test]
-fn a_last_line_without_its_end_that_is_lost_is_found() {
-    let whole_lines_only = |feed: &Feed| {
-        let input = feed.pieces.concat();
-        let end = input.iter().rposition(|&byte| byte == b'\n');
-        Ok(run_program(&input[..end.map_or(0, |end| end + 1)]))
-    };
-    assert!(failed(whole_lines_only) > 0);
 }
 
 #[test]

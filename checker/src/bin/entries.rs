@@ -9,7 +9,7 @@
 use checker::ffi::entry;
 use checker::model::run_program;
 use checker::random::Dice;
-use checker::trial::{calls, damage, fewest, rules, seed_and_rounds, soundings};
+use checker::trial::{calls, damage, fewest, named, rules, seed_and_rounds, soundings};
 use checker::trial::{Report, CALL_OUTCOMES};
 use std::process::ExitCode;
 
@@ -28,6 +28,11 @@ fn main() -> ExitCode {
         soundings::by_model(report);
         soundings::by_entry(report, entry);
         soundings::listing(report, run_program);
+    });
+    report.part("trials by name", |report| {
+        for trial in named::all() {
+            trial.by_entry(report, entry);
+        }
     });
     report.part("each rule of Restore", |report| {
         rules::rules(report, entry);

@@ -9,7 +9,7 @@
 use checker::feed::Feed;
 use checker::process::Process;
 use checker::random::Dice;
-use checker::trial::{seed_and_rounds, soundings, streams, Report};
+use checker::trial::{named, seed_and_rounds, soundings, streams, Report};
 use std::process::ExitCode;
 
 fn main() -> ExitCode {
@@ -43,6 +43,11 @@ fn fixed(report: &mut Report, process: &Process) {
             Err(fault) => fault.into_bytes(),
         };
         soundings::listing(report, whole);
+    });
+    report.part("trials by name", |report| {
+        for trial in named::all() {
+            trial.by_program(report, program);
+        }
     });
     report.part("no line, and empty lines", |report| {
         streams::nothing(report, program);

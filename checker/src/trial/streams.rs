@@ -248,7 +248,12 @@ pub fn unwritable(report: &mut Report, process: &Process) {
 }
 
 /// Feeds the program and compares. Gives its output if it has one.
-fn hold(report: &mut Report, program: Program, stream: &Stream, feed: &Feed) -> Option<Vec<u8>> {
+pub(super) fn hold(
+    report: &mut Report,
+    program: Program,
+    stream: &Stream,
+    feed: &Feed,
+) -> Option<Vec<u8>> {
     report.count(stream.lines);
     let output = program(feed);
     let good = output.as_ref() == Ok(&stream.output);

@@ -1,0 +1,181 @@
+//! Trials by name: sentences of the paper that random calls may miss, each as a
+//! few lines with their answers. The program gets the lines, the C entries the
+//! calls among them.
+
+use super::{hold, streams, Report};
+use crate::call::{Call, Entry};
+use crate::feed::{Cut, Feed, Program};
+use crate::model::{respond, State};
+use crate::scene::Stream;
+
+/// A trial: lines, each with the answer that the paper gives it.
+pub struct Named {
+    /// What it tries.
+    pub name: &'static str,
+    steps: String,
+}
+
+/// File 0 has 5 pages, no other file any. Slot 0 waits for page 1, which is in
+/// fetch; the other slots are empty.
+const WAITING: &str = "S,2,10,0,5,0,0,0,0,0,0,0: O / A,0,0,1: O / R,0: F,0,1";
+
+/// The trials: WAITING stands for the lines above, LONG for a line of 200 bytes.
+#[rustfmt::skip]
+const TABLE: [(&str, &str); 21] = [
+    ("each refusal has its number",
+     "WAITING / S,0,10,0,5,0,0,0,0,0,0,0: E,1 / A,16,0,1: E,2 / A,1,8,1: E,3 / A,1,0,1001: E,4 / \
+      A,0,0,1: E,5 / D,16: E,2 / D,1: E,6 / R,4294967295: E,2 / R,15: E,6 / R,0: E,7 / \
+      I,1,1: E,3 / I,0,6: E,8 / I,0,2: E,9 / X,8,1: E,3 / X,0,4294967295: E,8 / X,0,5: E,9 / \
+      N,1: E,10 / C,8: E,3 / C,1: E,3 / X,0,1: O / N,16385: E,11"),
+    // "Where several refusals apply, the one listed first for the call is given."
+    ("Attach gives 2 before 3", "WAITING / A,16,8,1: E,2 / A,4294967295,1,1: E,2"),
+    ("Attach gives 3 before 4", "WAITING / A,1,8,0: E,3 / A,1,1,1001: E,3"),
+    ("Attach gives 4 before 5", "WAITING / A,0,0,0: E,4 / A,0,0,1001: E,4 / A,0,0,1000: E,5"),
+    ("Arrive gives 3 before 8", "WAITING / I,8,0: E,3 / I,1,0: E,3"),
+    ("Arrive gives 8 before 9", "WAITING / I,0,0: E,8 / I,0,6: E,8 / I,0,2: E,9"),
+    ("Lost gives 3 before 8", "WAITING / X,8,0: E,3 / X,1,0: E,3"),
+    ("Lost gives 8 before 9", "WAITING / X,0,0: E,8 / X,0,6: E,8 / X,0,5: E,9"),
+    ("Run gives 11 before 10", "WAITING / N,16385: E,11 / N,16384: E,10 / N,0: E,10"),
+
+    // "14: any other line", whatever else it could be refused for.
+    ("14 comes before all else",
+     "WAITING / S,0,10,0,05,0,0,0,0,0,0,0: E,14 / A,16,8,00: E,14 / D,016: E,14 / R,016: E,14 / \
+      I,8,00: E,14 / X,8,00: E,14 / N,016385: E,14 / C,08: E,14 / R,0: E,7"),
+    // "lines of at most 200 bytes, the line end not counted"
+    ("a line of 201 bytes is one line", "T: U / LONG: E,14 / T: U / LONGT: E,14"),
+    // "A last line may lack its line end."
+    ("a last line lacks its end", "WAITING"),
+
+    // "A cluster is a longest unbroken stretch of cached pages of one file."
+    ("a cluster ends with its file",
+     "S,4,2,0,1024,1,0,0,0,0,0,0: O / A,15,0,1: O / N,16352: N,1022,1022 / P: F,0,1023 / \
+      P: F,0,1024 / I,0,1023: I,0,1022 / I,0,1024: I,0,3 / A,0,1,1: O / R,0: F,1,1 / \
+      I,1,1: I,0,2 / C,0: C,2,1,1,1023,1024 / C,1: C,1,1,1"),
+    // "the answer letter's ASCII code × 65,536 + (key + 1, or 0 without a page)",
+    // up to the largest key
+    ("every answer has its number",
+     "S,1,1,0,0,0,0,0,0,0,0,1024: O / P: U / A,15,7,1: O / R,15: F,7,1 / I,7,1: I / \
+      N,16368: N,1022,1023 / P: F,7,1024 / R,15: W,7,1024 / X,7,1024: O / R,15: F,7,1024 / \
+      I,7,1024: I,7,1023 / R,15: H,7,1024 / R,15: Z / T: S,7,1024 / T: U / D,15: O"),
+    // "A reader's seat distance is (slot − turn) modulo 16": at turn 1 that of
+    // slots 0, 1 and 2 is 15, 0 and 1.
+    ("the seat distance is slot less turn",
+     "S,3,10,0,1,1,1,0,0,0,0,0: O / N,1: N,0,0 / A,0,0,10: O / A,1,1,10: O / A,2,2,10: O / \
+      Q: Q,3,1,1,2,1,0,1 / P: F,1,1 / P: F,2,1 / P: F,0,1 / I,0,1: I / I,1,1: I / I,2,1: I / \
+      L: L,3,0,1,2,1,1,1 / T: S,0,1 / T: S,2,1 / T: S,1,1"),
+    // Lost: "the fetch is closed and its waiters run."
+    ("Lost closes the fetch",
+     "WAITING / A,1,0,1: O / R,1: W,0,1 / X,0,1: O / X,0,1: E,9 / N,0: N,0,0 / R,1: F,0,1 / \
+      R,0: W,0,1"),
+    // "every reader waiting for it runs": not one that waits for another page of
+    // the file, or for the page of that number in another file
+    ("an ended fetch wakes its waiters",
+     "S,4,10,0,5,5,0,0,0,0,0,0: O / A,0,0,1: O / R,0: F,0,1 / I,0,1: I / R,0: H,0,1 / \
+      R,0: F,0,2 / T: S,0,1 / A,1,0,1: O / R,1: F,0,1 / A,2,1,1: O / R,2: F,1,1 / X,0,1: O / \
+      R,0: E,7 / R,2: E,7 / R,1: F,0,1 / I,0,1: I / R,0: E,7 / R,2: E,7 / R,1: H,0,1"),
+    // "neither cached nor in fetch"
+    ("no page is fetched twice",
+     "WAITING / Q: Q,4,0,2,0,3,0,4,0,5 / P: F,0,2 / P: F,0,3 / Q: Q,2,0,4,0,5"),
+    // "the head of the steal order is dropped first. Then the page [...] is cached"
+    ("Arrive steals before it caches",
+     "S,1,1,0,2,0,0,0,0,0,0,0: O / A,0,0,1: O / R,0: F,0,1 / I,0,1: I / R,0: H,0,1 / \
+      R,0: F,0,2 / D,0: O / I,0,2: I,0,1 / T: S,0,2"),
+    // "The order is worked out afresh for each steal". Page 2 of file 0 is 40
+    // ticks off until page 1 arrives, then 20; page 1 of file 1 is 30.
+    ("Steal's order is worked out afresh",
+     "S,4,100,20,2,1,1,0,0,0,0,0: O / A,0,0,10: O / A,1,1,30: O / A,2,2,10: O / R,2: F,2,1 / \
+      I,2,1: I / D,2: O / P: F,0,1 / P: F,1,1 / P: F,0,2 / I,1,1: I / I,0,2: I / \
+      L: L,3,2,1,0,2,1,1 / T: S,2,1 / I,0,1: I / T: S,1,1 / L: L,2,0,2,0,1"),
+    ("Run's order is worked out afresh",
+     "S,2,10,0,4,0,0,0,0,0,0,0: O / A,0,0,1: O / N,64: N,4,4 / T: S,0,4 / T: S,0,1"),
+];
+
+/// Every trial.
+pub fn all() -> Vec<Named> {
+    let long = format!("S{},11", ",1".repeat(98));
+    let written_out = |steps: &str| steps.replace("WAITING", WAITING).replace("LONG", &long);
+    let trials = TABLE.iter().map(|(name, steps)| Named {
+        name,
+        steps: written_out(steps),
+    });
+    trials.collect()
+}
+
+impl Named {
+    /// Each line with its answer.
+    fn steps(&self) -> impl Iterator<Item = (&str, &str)> {
+        let pair = |step| str::split_once(step, ": ").expect("a line and its answer");
+        self.steps.split(" / ").map(pair)
+    }
+
+    /// Feeds a program the lines: whole, without the last line end, and so again
+    /// byte by byte.
+    pub fn by_program(&self, report: &mut Report, program: Program) {
+        let failed_before = report.failed();
+        let mut stream = Stream::default();
+        for (line, answer) in self.steps() {
+            let by_model = stream.say(line);
+            report.check(by_model == answer, || {
+                format!("{line} is to answer {answer}, not {by_model}")
+            });
+        }
+        let unended = stream.unended();
+        let feeds = [
+            Feed::whole(&stream.input),
+            Feed::whole(unended),
+            Feed::bytes(unended, Cut::EachRead),
+        ];
+        for feed in feeds {
+            streams::hold(report, program, &stream, &feed);
+        }
+        self.give_name(report, failed_before);
+    }
+
+    /// Makes the calls through an entry, each on the image of the state before
+    /// it. "The buffer must be exactly 2,208 bytes, else 13, tested first".
+    pub fn by_entry(&self, report: &mut Report, entry: Entry) {
+        let failed_before = report.failed();
+        let mut state = State::idle();
+        for (line, answer) in self.steps() {
+            if let Some(call) = Call::of_line(line).filter(|_| answer != "E,14") {
+                let image = state.image();
+                let longer = [&image[..], &[0]].concat();
+                let tries = [
+                    (&image[..], number_of(answer)),
+                    (&image[1..], 13),
+                    (&longer, 13),
+                ];
+                for (image, expected) in tries {
+                    let (number, _) = hold(report, entry, image, call);
+                    report.check(number == expected, || {
+                        format!("{call:?} is to answer {expected}, not {number}")
+                    });
+                }
+            }
+            (state, _) = respond(state, line.as_bytes());
+        }
+        self.give_name(report, failed_before);
+    }
+
+    /// Names the trial if it has failed.
+    fn give_name(&self, report: &mut Report, failed_before: u64) {
+        let good = report.failed() == failed_before;
+        report.check(good, || format!("above: {}", self.name));
+    }
+}
+
+/// The number at the C boundary of an answer that is written as a line: "the
+/// refusal's, or the answer letter's ASCII code × 65,536 + (key + 1, or 0
+/// without a page) [...]; for Run 4,294,967,296 + fetches × 65,536 + reads".
+fn number_of(answer: &str) -> u64 {
+    let mut pieces = answer.split(',');
+    let letter = pieces.next().unwrap_or_default();
+    let fields: Vec<u64> = pieces.filter_map(|field| field.parse().ok()).collect();
+    let code = letter.bytes().next().map_or(0, u64::from) * 65_536;
+    match (letter, fields.as_slice()) {
+        ("E", &[refusal]) => refusal,
+        ("N", &[fetches, reads]) => 4_294_967_296 + fetches * 65_536 + reads,
+        (_, &[file, page]) => code + file * 1_024 + page,
+        _ => code,
+    }
+}
