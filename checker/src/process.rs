@@ -6,7 +6,7 @@ use std::cell::Cell;
 use std::fs::File;
 use std::io::{self, ErrorKind, Read, Write};
 use std::os::fd::OwnedFd;
-use std::os::unix::net::UnixDatagram;
+use std::os::unix::net::{UnixDatagram, UnixStream};
 use std::path::{Path, PathBuf};
 use std::process::{Child, Command, ExitStatus, Stdio};
 use std::sync::mpsc;
@@ -25,6 +25,15 @@ pub struct Process {
     path: PathBuf,
     /// Whether it has once failed to end. It is not started again then.
     hung: Cell<bool>,
+}
+
+/// Why input cannot be read, or no further.
+#[derive(Clone, Copy, Debug)]
+pub enum Unreadable {
+    /// It is a directory.
+    Directory,
+    /// The connection is reset behind this text.
+    Reset(&'static str),
 }
 
 /// Why output cannot be written.
@@ -84,6 +93,29 @@ impl Process {
         Ok(start.elapsed())
     }
 
+    /// What the program writes to standard output and says to standard error
+    /// when its input cannot be read.
+    pub fn end_unread(&self, why: Unreadable) -> io::Result<(String, String)> {
+        let input = match why {
+            Unreadable::Directory => File::open("/")?.into(),
+            Unreadable::Reset(text) => {
+                let (mut ours, mut theirs) = UnixStream::pair()?;
+                ours.write_all(text.as_bytes())?;
+                // An end that is closed with something unread resets the other.
+                theirs.write_all(b"unread")?;
+                OwnedFd::from(theirs)
+            }
+        };
+        let mut command = Command::new(&self.path);
+        let command = command.stdin(input).stdout(Stdio::piped());
+        let mut child = command.stderr(Stdio::piped()).spawn()?;
+        let (_, said) = last_words(&mut child)?;
+        let mut output = String::new();
+        let mut pipe = child.stdout.take().expect("a pipe was asked for");
+        pipe.read_to_string(&mut output)?;
+        Ok((output, said))
+    }
+
     /// How the program ends when its output cannot be written, while its input
     /// goes on, and what it says to standard error.
     pub fn end_unwritten(&self, why: Unwritable) -> io::Result<(ExitStatus, String)> {
@@ -108,11 +140,7 @@ impl Process {
         let lines = b"T\n".repeat(10_000);
         thread::scope(|scope| {
             scope.spawn(move || while pipe.write_all(&lines).is_ok() {});
-            let status = end_of(&mut child, Instant::now())?;
-            let mut said = String::new();
-            let mut errors = child.stderr.take().expect("a pipe was asked for");
-            errors.read_to_string(&mut said)?;
-            Ok((status, said))
+            last_words(&mut child)
         })
     }
 
@@ -162,6 +190,16 @@ fn watch(
         let status = end_of(&mut child, start)?;
         Ok((output.map_err(|_| no_end())??, status))
     })
+}
+
+/// How a program that has just been started ends, and what it has said to
+/// standard error then.
+fn last_words(child: &mut Child) -> io::Result<(ExitStatus, String)> {
+    let status = end_of(child, Instant::now())?;
+    let mut said = String::new();
+    let mut errors = child.stderr.take().expect("a pipe was asked for");
+    errors.read_to_string(&mut said)?;
+    Ok((status, said))
 }
 
 /// Waits for the end of a program that was started then. One that does not come

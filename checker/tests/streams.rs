@@ -68,6 +68,7 @@ fn the_program_lines_answers_as_the_model_does() {
     streams::random_streams(&mut report, program, &mut dice, 3);
     streams::cut_everywhere(&mut report, program, &mut dice, 1);
     streams::long_lines(&mut report, program, &mut dice);
+    streams::unreadable(&mut report, &process);
     streams::unwritable(&mut report, &process);
     assert_eq!(report.failed(), 0);
 }
@@ -125,4 +126,13 @@ fn a_program_that_cannot_be_started_or_fails_is_found() {
     let mut report = Report::default();
     streams::unwritable(&mut report, &Process::new("/bin/true"));
     assert!(report.failed() > 0);
+}
+
+#[test]
+fn a_program_that_says_nothing_or_hands_on_what_was_cut_off_is_found() {
+    for path in ["/bin/true", "/bin/cat"] {
+        let mut report = Report::default();
+        streams::unreadable(&mut report, &Process::new(path));
+        assert!(report.failed() > 0, "{path}");
+    }
 }

@@ -58,6 +58,9 @@ fn fixed(report: &mut Report, process: &Process) {
     report.part("long lists", |report| {
         streams::long_lists(report, program);
     });
+    report.part("input that cannot be read", |report| {
+        streams::unreadable(report, process);
+    });
     report.part("output that cannot be written", |report| {
         streams::unwritable(report, process);
     });

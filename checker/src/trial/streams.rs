@@ -4,7 +4,7 @@
 use super::{Outcomes, Report};
 use crate::explain::Explained;
 use crate::feed::{Cut, Feed, Program};
-use crate::process::{Process, Unwritable};
+use crate::process::{Process, Unreadable, Unwritable};
 use crate::random::Dice;
 use crate::scene::{long_line, reads, Mood, Stream};
 use std::str::from_utf8;
@@ -227,6 +227,22 @@ pub fn explained(report: &mut Report, program: Program, dice: &mut Dice, streams
         report.check(output.ends_with(shown.concat().as_bytes()), || {
             format!("explain's orders are not the program's: {shown:?}")
         });
+    }
+}
+
+/// A program whose input cannot be read says why, and answers what it has read
+/// up to the last line end: what stands behind that may be cut off, and is no
+/// last line.
+pub fn unreadable(report: &mut Report, process: &Process) {
+    for (why, answers) in [
+        (Unreadable::Directory, ""),
+        (Unreadable::Reset("T\nN,16"), "U\n"),
+    ] {
+        let end = process.end_unread(why);
+        let good = end
+            .as_ref()
+            .is_ok_and(|(output, said)| output == answers && !said.is_empty());
+        report.check(good, || format!("input that is {why:?}: {end:?}"));
     }
 }
 
