@@ -9,14 +9,14 @@ use Rattle.rules.specs.Pages.{clusters}
 use Rattle.rules.specs.Orders.{stealOrder, fetchOrder}
 use Rattle.rules.specs.Valid.{Valid}
 use Rattle.rules.specs.Calls.{noFile, refused}
-use Rattle.rules.specs.Listings.{Written, listed, stealListOf, fetchListOf, clustersOf}
+use Rattle.rules.specs.Listings.{countIn, Written, listed, stealListOf, fetchListOf, clustersOf}
 use Rattle.rules.specs.Lines.{orderLine, clustersLine, told}
 use Rattle.rules.specs.declared.State.{State}
 use Rattle.rules.specs.declared.Listing.{Listing}
 use Rattle.rules.specs.declared.Listing.the-variants.{Count, Declined}
 use Rattle.text.proofs.Pieces.{by-test}
 use Rattle.lists.proofs.Stretches.{clusters-low}
-use Rattle.lines.specs.Responses.{countIn, orderOf, Front, clustersShown}
+use Rattle.lines.specs.Responses.{orderOf, Front, clustersShown}
 use Rattle.lines.proofs.Bounds.{order-length, clusters-length, steal-few, steal-low, fetch-few, fetch-low, clusters-few}
 use Rattle.lines.proofs.Pairs.{clusters-even}
 use Rattle.lines.proofs.Replies.{Filled, filled}

@@ -11,8 +11,6 @@ use Rattle.rules.specs.Orders.{stealOrder, fetchOrder}
 use Rattle.rules.specs.Calls.{noFile, refused}
 use Rattle.rules.specs.Lines.{clustersLine, Response, told, shown}
 use Rattle.rules.specs.declared.State.{State}
-use Rattle.rules.specs.declared.Listing.{Listing}
-use Rattle.rules.specs.declared.Listing.the-variants.{Count, Declined}
 use Rattle.text.specs.Written.{Put}
 use Rattle.lines.specs.declared.Said.{Said}
 
@@ -31,11 +29,6 @@ lineEnd = ascii "\n" ∷ []
 -- a key as the numbers of its file and its page
 abbrev pub pairOf : ℕ → List ℕ
 pairOf k = fileOf k ∷ pageOf k ∷ []
-
--- the count of what a call wrote into a lent list; 0 where it was refused
-abbrev pub countIn : Listing → ℕ
-countIn (Count n) = n
-countIn (Declined number) = 0
 
 -- a line's answer: the state after it, and how many bytes were written
 pub record Answered : Type 0 where

@@ -14,9 +14,10 @@ ghost use Rattle.rules.specs.Lists.{each};
 ghost use Rattle.rules.specs.Valid.{Valid};
 ghost use Rattle.rules.specs.Calls.{idle, refused};
 ghost use Rattle.rules.specs.Image.{imageOf};
+ghost use Rattle.rules.specs.Listings.{countIn};
 ghost use Rattle.rules.specs.Lines.{lineOf, answerLine, orderLine, clustersLine, told, toldSetup, shown, obeyed, respondOf};
 ghost use Rattle.text.specs.Written.{fieldOf, Put};
-ghost use Rattle.lines.specs.Responses.{Roomy, lineEnd, countIn, orderOf, Front, clustersShown, saidOf, Gives};
+ghost use Rattle.lines.specs.Responses.{Roomy, lineEnd, orderOf, Front, clustersShown, saidOf, Gives};
 ghost use Rattle.text.specs.Cuts.{textIn};
 ghost use Rattle.lines.specs.Sessions.{noText, ready, goneIn, goneOf, leftIn, fedIn, feedOf, finishOf};
 

@@ -16,10 +16,14 @@ before s r k = attached r && (eqb (r .file) (fileOf k) && (ltb (r .position) (pa
 abbrev pub steps : Reader → ℕ → ℕ
 steps r k = pageOf k - r .position
 
--- how many of the pages c + 1 to c + n of file f are not cached; "A page in fetch is not cached"
+-- what q takes for cached: "A page in fetch is not cached"
+abbrev pub present : State → ℕ → Bool
+present s k = cached s k
+
+-- how many of the pages c + 1 to c + n of file f are not cached
 unfoldable pub missing : State → ℕ → ℕ → ℕ → ℕ
 missing s f c zero = 0
-missing s f c (suc n) = cond (cached s (keyOf f (c + suc n))) 0 1 + missing s f c n
+missing s f c (suc n) = cond (present s (keyOf f (c + suc n))) 0 1 + missing s f c n
 
 -- q, the pages from c + 1 to c + j − 1 not cached
 abbrev pub between : State → Reader → ℕ → ℕ
