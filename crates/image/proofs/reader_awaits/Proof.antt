@@ -1,12 +1,12 @@
 use mathlib.Core.Path.{_≡_, ap, _∙_}
-use Prim.Native.Nat.{_+_, _*_}
+use Prim.Native.Nat.{_+_, _*_, _≤_}
 use native.Mathlib.Omega.{arith}
-use borrow.Author.Tests.{lt-ltb}
+use borrow.Author.Tests.{lt-ltb, le-ltb}
 use borrow.Author.Needs.{needs}
 use lib.Dec.{eqb}
 use Rattle.bits.specs.Map.{bit}
-use Rattle.rules.specs.Readers.{nextKey, awaits}
-use Rattle.image.proofs.Checks.{stops, and-pass}
+use Rattle.rules.specs.Readers.{lastPage, nextKey, awaits}
+use Rattle.image.proofs.Checks.{and-stop, and-pass}
 use Rattle.image.proofs.reader_awaits.Statement.{statement}
 use Rattle.image.proofs.reader_awaits.Tie as tie
 
@@ -21,7 +21,10 @@ element-copy-out-if1 c = search needs
 
 returns : tie.Need-returns
 unfolding awaits
-returns c = search (stops, needs) depth 9
+returns c =
+    let a = c .before .before .before .before .args in
+    let e : lastPage (a .sizes .now) (a .r) ≤ a .r .position = omega arith in
+    and-stop _ _ (le-ltb _ _ e)
 
 mul-has-bit : tie.Need-mul-has-bit
 mul-has-bit c = search needs
