@@ -1,6 +1,6 @@
 -- A page map: a page's key is file × 1,024 + page - 1, and its bit is digit key % 64 of word key / 64.
 use mathlib.Core.List.{List}
-use mathlib.Core.Bool.{cond}
+use mathlib.Core.Bool.{Bool, cond}
 use Prim.Native.Nat.{ℕ, zero, suc, _+_, _-_, _*_, _/_, _%_, _^_}
 use lib.ListN.{getD, set}
 use lib.Dec.{eqb}
@@ -12,6 +12,10 @@ digit w i = w / 2 ^ i % 2
 -- the bit of key k in a map, 0 or 1
 unfoldable pub bit : List ℕ → ℕ → ℕ
 bit words k = digit (getD words (k / 64) 0) (k % 64)
+
+-- the map has the page
+abbrev pub on : List ℕ → ℕ → Bool
+on words k = eqb (bit words k) 1
 
 -- the map with v, 0 or 1, for the bit of key k
 unfoldable pub putBit : List ℕ → ℕ → ℕ → List ℕ

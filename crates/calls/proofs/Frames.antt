@@ -7,7 +7,7 @@ use native.Mathlib.Nat.{zero-add}
 use native.Mathlib.Omega.{arith}
 use lib.ListN.{length, getD}
 use lib.Dec.{T, eqb, leb}
-use Rattle.bits.specs.Map.{bit, ones}
+use Rattle.bits.specs.Map.{bit, ones, on}
 use Rattle.bits.proofs.Bits.{bit-le}
 use Rattle.bits.proofs.Counts.{ones-none, ones-more, ones-add, ones-clear}
 use Rattle.rules.specs.Lists.{only}
@@ -23,7 +23,6 @@ use Rattle.order.specs.Choices.{Housed}
 use Rattle.rules.proofs.Tests.{key}
 use Rattle.rules.proofs.Cases.{cond-yes, cond-no, outcomes}
 use Rattle.rules.proofs.Counts.{pages-count}
-use Rattle.rules.proofs.Marks.{on}
 
 -- a bit counts as much as it is
 bit-num : (b : ℕ) → b ≤ 1 → num (eqb b 1) ≡ b

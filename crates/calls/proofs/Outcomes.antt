@@ -6,14 +6,14 @@ use mathlib.Core.List.{List, [], _∷_}
 use types.Run.{OneOf, miss}
 use denote.Enum.Declared.{tagOf}
 use borrow.Author.Needs.{needs}
-use borrow.Author.Tests.{eq-eqb, ne-eqb, not-true, not-false}
+use borrow.Author.Tests.{eq-eqb, ne-eqb}
 use lib.Dec.{eqb}
 use Rattle.bits.specs.Map.{bit}
 use Rattle.rules.specs.Readers.{byCondition}
 use Rattle.rules.specs.declared.Condition.{Condition}
 use Rattle.rules.specs.declared.Condition.the-variants.{Empty, Running, Waiting}
 use Rattle.rules.proofs.Condition.{the-type}
-use Rattle.rules.proofs.Cases.{cond-yes, cond-no, condition-empty, condition-running, condition-waiting, outcomes}
+use Rattle.rules.proofs.Cases.{and-pass, call-stop, call-pass, cond-yes, cond-no, condition-empty, condition-running, condition-waiting, outcomes}
 
 module _ {A : Type 0} where
   -- the test passes
@@ -74,21 +74,9 @@ module _ {A : Type 0} where
   is-attached Running r x y h e = e
   is-attached Waiting r x y h e = e
 
--- both: the first holds, and the result is the second
-pub both : (a b r : Bool) → a ≡ true → r ≡ b → r ≡ (a && b)
-both a b r e h = rw e h
-
 -- the first does not hold, and is the result
 pub not-both : (a b : Bool) → a ≡ false → a ≡ (a && b)
 not-both a b e = rw e
-
--- a call made the test of the first, and turned round it fails: the result is the second
-pub called-both : (q a b r : Bool) → q ≡ a → not q ≡ false → r ≡ b → r ≡ (a && b)
-called-both q a b r e h = both a b r (sym e ∙ not-false q h)
-
--- it passes: the result is false
-pub called-not-both : (q a b : Bool) → q ≡ a → not q ≡ true → false ≡ (a && b)
-called-not-both q a b e h = rw (sym e ∙ not-true q h)
 
 -- either: the first does not hold, and the result is the second
 pub or-second : (a b r : Bool) → a ≡ false → r ≡ b → r ≡ (a || b)
@@ -99,7 +87,7 @@ pub or-first : (a b : Bool) → a ≡ true → a ≡ (a || b)
 or-first a b e = rw e
 
 -- for a function that answers yes or no
-pub ruleset tests = (both, not-both, called-both, called-not-both, or-second, or-first, outcomes, needs)
+pub ruleset tests = (and-pass, not-both, call-pass, call-stop, or-second, or-first, outcomes, needs)
 
 -- for a rule that goes by tests and by a slot's condition
 pub ruleset answers = (is-yes, is-no, called-yes, called-no, turned-yes, turned-no, is-empty, is-running, is-waiting, is-attached, outcomes, needs)

@@ -3,10 +3,8 @@ use Prim.Native.Nat.{ℕ, _≤_, _<_}
 use mathlib.Core.Path.{_≡_, ap, _∙_}
 use mathlib.Core.Bool.{Bool, true, false, not}
 use mathlib.Core.List.{List, []}
-use lib.Dec.{T}
 use Rattle.rules.specs.Lists.{within}
 use Rattle.rules.specs.Readers.{readerAt, byCondition}
-use Rattle.rules.specs.Valid.{Valid, Placed}
 use Rattle.rules.specs.Calls.{reply, refused, withReader, docked, attachOf, readOf, detachOf}
 use Rattle.rules.specs.Entries.{callOf}
 use Rattle.rules.specs.declared.State.{State}
@@ -15,9 +13,6 @@ use Rattle.rules.specs.declared.View.{View}
 use Rattle.rules.specs.declared.Outcome.{Outcome}
 use Rattle.rules.specs.Views.{stateOf, replyOf}
 use Rattle.rules.specs.declared.Answer.the-variants.{Done}
-use Rattle.rules.specs.declared.Condition.the-variants.{Running}
-use Rattle.rules.proofs.Cases.{condition-running}
-use Rattle.rules.proofs.Valids.{placed-at}
 use Rattle.rules.proofs.OneRecord.{SlotCall, attaching, detaching, reading, callAt, one-record}
 use Rattle.calls.specs.Parts.{noFileIn, OthersStay}
 use Rattle.calls.proofs.Outcomes.{answers}
@@ -68,7 +63,3 @@ module _ (s : State) (slot file pace : ℕ) (r : Reply) where
   attach-there h f a b w c d e = search answers depth 12
 
 -- ---- Read
-
--- a running reader is placed in its file
-pub running-placed : (s : State) → Valid s → (slot : ℕ) → readerAt s slot .condition ≡ Running → Placed s (readerAt s slot)
-running-placed s v slot e = placed-at s v slot (condition-running T (readerAt s slot .condition) false true true e tt)

@@ -9,7 +9,7 @@ use borrow.Author.Tests.{not-true, not-false}
 use lib.ListN.{length, getD, List·getD-eq-default}
 use lib.Dec.{T}
 use Rattle.rules.specs.Lists.{range, every}
-use Rattle.rules.proofs.Cases.{outcomes, passed, failed}
+use Rattle.rules.proofs.Cases.{and-stop, and-pass, call-stop, call-pass, outcomes, passed, failed}
 use Rattle.rules.proofs.Tests.{is-true}
 use Rattle.rules.proofs.Members.{range-in, range-at}
 use Rattle.rules.proofs.Parts.{all-always, always-all, every-all, all-every}
@@ -23,26 +23,10 @@ same-test false false f g = refl
 
 -- ---- joined by "and"
 
--- the first fails
-pub and-stop : (a b : Bool) → a ≡ false → false ≡ (a && b)
-and-stop a b e = rw e
-
 -- a later one fails
 pub and-later : (a b : Bool) → false ≡ b → false ≡ (a && b)
 and-later true b e = e
 and-later false b e = refl
-
--- it passes: the answer is that of the others
-pub and-pass : (a b q : Bool) → a ≡ true → q ≡ b → q ≡ (a && b)
-and-pass a b q e f = rw e f
-
--- the first, as a call answers it, fails
-pub call-stop : (a b t : Bool) → t ≡ a → not t ≡ true → false ≡ (a && b)
-call-stop a b t e n = and-stop a b (sym e ∙ not-true t n)
-
--- it passes
-pub call-pass : (a b t q : Bool) → t ≡ a → not t ≡ false → q ≡ b → q ≡ (a && b)
-call-pass a b t q e n f = and-pass a b q (sym e ∙ not-false t n) f
 
 -- neither of two: the first holds
 pub nor-left : (a b : Bool) → a ≡ true → not (a || b) ≡ false

@@ -1,41 +1,33 @@
 -- Bytes put into a buffer. Assumes nothing.
-use mathlib.Core.Path.{_≡_, refl, sym, ap, ap₂, _∙_}
+use mathlib.Core.Path.{_≡_, refl, sym, ap, _∙_}
 use mathlib.Core.List.{List, [], _∷_, _++_, append-assoc, append-nil}
 use Prim.Native.Nat.{ℕ, zero, suc, _+_, _*_, _/_, _%_, _^_, _≤_, _<_}
 use native.Mathlib.Nat.{zero-add, suc-add, pow-suc, pow-succ', mod-eq-of-lt, div-div-eq-div-mul, mul-le-mul-left, mul-comm}
 use native.Mathlib.Omega.{arith}
 use lib.Arith.{mod-mul}
-use lib.ListN.{length, getD, take, drop, set, length-append, take-append-drop}
-use lib.Seq.{length-take-le, take-all, take-at, take-suc, set-split, drop-drop}
-use Rattle.rules.specs.Lists.{each}
+use lib.ListN.{length, getD, take, set, length-append, take-append-drop}
+use lib.Seq.{length-take-le, take-all, take-suc}
+use Rattle.rules.specs.Lists.{each, written}
 use Rattle.rules.specs.Image.{Field, bytesOf}
-use Rattle.rules.proofs.Parts.{drop-past, length-each}
+use Rattle.rules.proofs.Parts.{length-each}
 use Rattle.rules.proofs.Numbers.{bytes-length}
-use Rattle.image.specs.Bytes.{written, encoded, readerBytes}
+use Rattle.image.specs.Bytes.{encoded, readerBytes}
 use Rattle.rules.specs.declared.Reader.{Reader}
+use Rattle.rules.proofs.Lists.{each-append, written-one, written-more}
 
 -- one byte
-pub written-one : (l : List ℕ) (at n : ℕ) → at + 1 ≤ length l → n < 256 → set l at n ≡ written l at (bytesOf 1 n)
-unfolding written bytesOf
-written-one l at n h f =
-    let e : at + 1 ≡ suc at = omega arith in
-    rw (mod-eq-of-lt f, e) (set-split l at n (omega arith))
+pub written-byte : (l : List ℕ) (at n : ℕ) → at + 1 ≤ length l → n < 256 → set l at n ≡ written l at (bytesOf 1 n)
+unfolding bytesOf
+written-byte l at n h f = rw (mod-eq-of-lt f) (written-one l at n (omega arith))
 
--- more bytes after them
-pub written-more : (l b t : List ℕ) (at n : ℕ) (bs cs : List ℕ) → length bs ≡ n → b ≡ written l at bs → t ≡ written b (at + n) cs → at + n + length cs ≤ length l
+-- bytes after those that a call wrote
+pub written-next : (l b t : List ℕ) (at n : ℕ) (bs cs : List ℕ) → length bs ≡ n → b ≡ written l at bs → t ≡ written b (at + n) cs → at + n + length cs ≤ length l
     → t ≡ written l at (bs ++ cs)
-unfolding written
-written-more l b t at n bs cs long e f fits =
-    let front : List ℕ = take at l ++ bs in
-    let rest : List ℕ = drop (at + n) l in
-    let far : length front ≡ at + n = omega (arith, length-append (take at l) bs, length-take-le at l (omega arith)) in
-    let cut : b ≡ front ++ rest = e ∙ ap (λ k. take at l ++ (bs ++ drop (at + k) l)) long ∙ sym (append-assoc (take at l) bs rest) in
-    let end : at + n + length cs ≡ at + length (bs ++ cs) = omega (arith, length-append bs cs) in
-    let past = drop-past front rest (at + n) far (length cs) ∙ drop-drop (length cs) (at + n) l ∙ ap (λ k. drop k l) end in
+written-next l b t at n bs cs long e f fits =
     f
-    ∙ rw cut (ap₂ (λ x y. x ++ (cs ++ y)) (take-at front rest (at + n) far) past)
-    ∙ append-assoc (take at l) bs (cs ++ drop (at + length (bs ++ cs)) l)
-    ∙ ap (λ x. take at l ++ x) (sym (append-assoc bs cs (drop (at + length (bs ++ cs)) l)))
+    ∙ ap (λ m. written m (at + n) cs) e
+    ∙ ap (λ k. written (written l at bs) (at + k) cs) (sym long)
+    ∙ written-more l at bs cs (omega arith)
 
 power-low : (w : ℕ) → 0 < 256 ^ w
 power-low zero = omega arith
@@ -59,14 +51,8 @@ bytes-parts (suc w) v n =
 pub written-halves : (w : ℕ) (l b t : List ℕ) (at n : ℕ) → b ≡ written l at (bytesOf w (n % 256 ^ w)) → t ≡ written b (at + w) (bytesOf w (n / 256 ^ w))
     → at + (w + w) ≤ length l → t ≡ written l at (bytesOf (w + w) n)
 written-halves w l b t at n e f h =
-    written-more l b t at w (bytesOf w (n % 256 ^ w)) (bytesOf w (n / 256 ^ w)) (bytes-length w (n % 256 ^ w)) e f (omega (arith, bytes-length w (n / 256 ^ w)))
+    written-next l b t at w (bytesOf w (n % 256 ^ w)) (bytesOf w (n / 256 ^ w)) (bytes-length w (n % 256 ^ w)) e f (omega (arith, bytes-length w (n / 256 ^ w)))
     ∙ ap (written l at) (bytes-parts w w n)
-
--- the lists of two parts
-pub each-append : {A B : Type 0} (g : A → List B) (xs ys : List A) → each g (xs ++ ys) ≡ each g xs ++ each g ys
-unfolding each
-each-append g [] ys = refl
-each-append g (x ∷ xs) ys = ap (λ l. g x ++ l) (each-append g xs ys) ∙ sym (append-assoc (g x) (each g xs) (each g ys))
 
 each-suc : {A B : Type 0} (g : A → List B) (xs : List A) (d : A) (k : ℕ) → k < length xs → each g (take k xs) ++ g (getD xs k d) ≡ each g (take (k + 1) xs)
 unfolding each
@@ -90,7 +76,7 @@ module _ {A : Type 0} (g : A → List ℕ) (w : ℕ) (wide : (x : A) → length 
       let room : w * (k + 1) ≤ w * n = mul-le-mul-left w (omega arith) in
       let part : length (take k xs) ≡ k = length-take-le k xs (omega arith) in
       let far : length (each g (take k xs)) ≡ w * k = length-each g w wide (take k xs) ∙ rw part (mul-comm k w) in
-      written-more l b t at (w * k) (each g (take k xs)) (g (getD xs k d)) far e f (omega (arith, wide (getD xs k d)))
+      written-next l b t at (w * k) (each g (take k xs)) (g (getD xs k d)) far e f (omega (arith, wide (getD xs k d)))
       ∙ ap (written l at) (each-suc g xs d k (omega arith))
 
   -- all of them
@@ -121,10 +107,10 @@ module _ (f g h i j : Field) where
       let c = bytes-length (h .width) (h .value) in
       let d = bytes-length (i .width) (i .value) in
       let e = bytes-length (j .width) (j .value) in
-      let s₂ = written-more l k m at (f .width) (bytes f) (bytes g) a e₁ e₂ (omega arith) in
-      let s₃ = written-more l m n at _ (bytes f ++ bytes g) (bytes h) (omega arith) s₂ e₃ (omega arith) in
-      let s₄ = written-more l n o at _ ((bytes f ++ bytes g) ++ bytes h) (bytes i) (omega arith) s₃ e₄ (omega arith) in
-      written-more l o p at _ (((bytes f ++ bytes g) ++ bytes h) ++ bytes i) (bytes j) (omega arith) s₄ e₅ (omega arith)
+      let s₂ = written-next l k m at (f .width) (bytes f) (bytes g) a e₁ e₂ (omega arith) in
+      let s₃ = written-next l m n at _ (bytes f ++ bytes g) (bytes h) (omega arith) s₂ e₃ (omega arith) in
+      let s₄ = written-next l n o at _ ((bytes f ++ bytes g) ++ bytes h) (bytes i) (omega arith) s₃ e₄ (omega arith) in
+      written-next l o p at _ (((bytes f ++ bytes g) ++ bytes h) ++ bytes i) (bytes j) (omega arith) s₄ e₅ (omega arith)
       ∙ ap (written l at) (simp (append-assoc, append-nil))
 
 -- a record is 8 bytes

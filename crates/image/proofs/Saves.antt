@@ -4,13 +4,14 @@ use mathlib.Core.List.{List, [], _∷_, _++_, map, append-assoc, append-nil}
 use Prim.Native.Nat.{ℕ, _+_}
 use native.Mathlib.Omega.{arith}
 use lib.ListN.{length, length-append, drop-of-length-le}
-use Rattle.rules.specs.Lists.{each}
+use Rattle.rules.specs.Lists.{each, written}
 use Rattle.rules.specs.Valid.{Valid}
 use Rattle.rules.specs.Image.{Field, field, readerFields, layout, bytesOf, imageOf}
 use Rattle.rules.proofs.Parts.{each-map, length-each}
 use Rattle.rules.proofs.Numbers.{bytes-length}
-use Rattle.image.specs.Bytes.{written, encoded, readerBytes, settingsFields}
-use Rattle.image.proofs.Puts.{each-append, written-more, reader-wide}
+use Rattle.image.specs.Bytes.{encoded, readerBytes, settingsFields}
+use Rattle.rules.proofs.Lists.{each-append}
+use Rattle.image.proofs.Puts.{written-next, reader-wide}
 use Rattle.rules.specs.declared.State.{State}
 use Rattle.rules.specs.declared.Reader.{Reader}
 
@@ -73,9 +74,9 @@ module _ (s : State) (v : Valid s) where
       let l₄ : length (((a ++ b) ++ c) ++ d) ≡ 160 = omega (arith, length-append ((a ++ b) ++ c) d) in
       let l₅ : length ((((a ++ b) ++ c) ++ d) ++ x) ≡ 1184 = omega (arith, length-append (((a ++ b) ++ c) ++ d) x) in
       let l₆ : length (((((a ++ b) ++ c) ++ d) ++ x) ++ y) ≡ 2208 = omega (arith, length-append ((((a ++ b) ++ c) ++ d) ++ x) y) in
-      let s₂ = written-more l k m 0 12 a b (settings-long s) e₁ e₂ (omega arith) in
-      let s₃ = written-more l m n 0 28 (a ++ b) c l₂ s₂ e₃ (omega arith) in
-      let s₄ = written-more l n o 0 156 ((a ++ b) ++ c) d l₃ s₃ e₄ (omega arith) in
-      let s₅ = written-more l o p 0 160 (((a ++ b) ++ c) ++ d) x l₄ s₄ e₅ (omega arith) in
-      let s₆ = written-more l p q 0 1184 ((((a ++ b) ++ c) ++ d) ++ x) y l₅ s₅ e₆ (omega arith) in
+      let s₂ = written-next l k m 0 12 a b (settings-long s) e₁ e₂ (omega arith) in
+      let s₃ = written-next l m n 0 28 (a ++ b) c l₂ s₂ e₃ (omega arith) in
+      let s₄ = written-next l n o 0 156 ((a ++ b) ++ c) d l₃ s₃ e₄ (omega arith) in
+      let s₅ = written-next l o p 0 160 (((a ++ b) ++ c) ++ d) x l₄ s₄ e₅ (omega arith) in
+      let s₆ = written-next l p q 0 1184 ((((a ++ b) ++ c) ++ d) ++ x) y l₅ s₅ e₆ (omega arith) in
       s₆ ∙ written-all l (((((a ++ b) ++ c) ++ d) ++ x) ++ y) (omega arith) ∙ simp append-assoc (image-parts s)

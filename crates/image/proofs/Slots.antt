@@ -10,12 +10,12 @@ use Rattle.rules.specs.Lists.{within}
 use Rattle.rules.specs.Calls.{noFile}
 use Rattle.rules.specs.Readers.{awaits}
 use Rattle.rules.specs.Image.{readerNumber, readerFrom, readerPlaced, readerHolds, slotHolds}
-use Rattle.rules.proofs.Cases.{passed, file-there}
+use Rattle.rules.proofs.Cases.{passed, file-there, call-stop, call-pass}
 use Rattle.rules.proofs.Tests.{is-true, and-first}
 use Rattle.rules.proofs.Offsets.{slot-at}
 use Rattle.image.specs.Bytes.{numberAt, numbers, stateIn}
 use Rattle.image.specs.Tests.{among, FromImage}
-use Rattle.image.proofs.Checks.{and-later, call-stop, call-pass}
+use Rattle.image.proofs.Checks.{and-later}
 use Rattle.rules.specs.declared.State.{State}
 use Rattle.rules.specs.declared.Reader.{Reader}
 use Rattle.rules.specs.declared.Condition.the-variants.{Empty, Running, Waiting}

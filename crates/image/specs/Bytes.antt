@@ -1,16 +1,12 @@
 -- Bytes put into a buffer and numbers read from an image: what the parts of Save and Restore do. Assumes nothing: these are definitions.
 use Prim.Native.Nat.{ℕ, _+_, _*_}
-use mathlib.Core.List.{List, [], _∷_, _++_, map}
-use lib.ListN.{length, take, drop}
+use mathlib.Core.List.{List, [], _∷_, map}
+use lib.ListN.{take, drop}
 use Rattle.rules.specs.Lists.{range, each}
 use Rattle.rules.specs.Calls.{idle}
 use Rattle.rules.specs.Image.{Field, field, readerFields, layout, bytesOf, numberOf, numbersIn, stateFrom}
 use Rattle.rules.specs.declared.State.{State}
 use Rattle.rules.specs.declared.Reader.{Reader}
-
--- the buffer with some bytes from a place on
-unfoldable pub written : List ℕ → ℕ → List ℕ → List ℕ
-written buffer at bytes = take at buffer ++ (bytes ++ drop (at + length bytes) buffer)
 
 -- the bytes of some fields, one field after the other
 abbrev pub encoded : List Field → List ℕ

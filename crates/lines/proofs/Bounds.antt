@@ -22,7 +22,7 @@ use Rattle.rules.proofs.Ranks.{pages-in, steal-ranked}
 use Rattle.rules.proofs.Distinct.{wanted-page}
 use Rattle.text.specs.Written.{fieldOf}
 use Rattle.text.proofs.Puts.{digits-one, digits-more}
-use Rattle.lists.proofs.Runs.{each-append}
+use Rattle.rules.proofs.Lists.{each-append}
 use Rattle.lines.specs.Responses.{pairOf}
 
 -- ---- lines

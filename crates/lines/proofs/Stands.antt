@@ -2,7 +2,6 @@
 use Prim.Native.Nat.{ℕ, _+_, _≤_, _<_}
 use Prim.Native.Char.{code as ascii}
 use mathlib.Core.Path.{_≡_, refl, sym, _∙_, ap, subst}
-use mathlib.Core.Bool.{true}
 use mathlib.Core.List.{List, [], _∷_, _++_, append-assoc, append-nil}
 use native.Mathlib.Omega.{arith}
 use borrow.Author.Tests.{le-leb, ne-eqb, eqb-true, eqb-false}
@@ -10,7 +9,6 @@ use lib.Dec.{eqb}
 use lib.ListN.{getD, length, take, drop, length-append, length-drop, drop-of-length-le}
 use lib.Seq.{take-at}
 use Rattle.rules.specs.Lists.{each}
-use Rattle.rules.specs.Valid.{Valid}
 use Rattle.rules.specs.Calls.{idle}
 use Rattle.rules.specs.Entries.{carriedOut}
 use Rattle.rules.specs.Image.{imageOf, restoreOf}
@@ -22,9 +20,9 @@ use Rattle.text.specs.Cuts.{clipped, textIn, kept}
 use Rattle.text.specs.Streams.{OnePiece, Fed, behind, answered, feed, feedAll, unfed, outputOf}
 use Rattle.text.proofs.Pieces.{by-test, split-some}
 use Rattle.text.proofs.Keeps.{by-most, clipped-short, clipped-long, clipped-more, clipped-none, kept-length, text-kept, text-none, text-some}
-use Rattle.text.proofs.Feeds.{piece-last, piece-inside, pieces-behind, feed-line, feed-part, feed-none, feed-one, none-one, long-refused, fed-whole}
+use Rattle.text.proofs.Feeds.{piece-last, pieces-behind, feed-line, feed-part, feed-none, feed-one, none-one, long-refused, fed-whole}
 use Rattle.lines.specs.Responses.{longest, Roomy, lineEnd}
-use Rattle.lines.specs.Sessions.{Reached, taken, startOf, noText, Taken, ready, saved, goneOf, feedOf, finishOf, StandsIn}
+use Rattle.lines.specs.Sessions.{Reached, taken, startOf, noText, Taken, saved, goneOf, feedOf, finishOf, StandsIn}
 use Rattle.lines.proofs.Taking.{ready-all, taken-cons, taken-stop, taken-valid, feed-taken}
 
 -- ---- a text as far as it matters

@@ -10,7 +10,7 @@ use types.Run.{OneOf}
 use denote.Enum.Declared.{tagOf}
 use borrow.Rule.Slice.PartMut.{putMid}
 use borrow.Author.Tests.{le-leb, lt-leb, eq-eqb, ne-eqb, leb-true, eqb-true}
-use lib.ListN.{length, getD, take, drop, set, length-append, length-take, length-drop, length-set, drop-of-length-le, take-append-drop}
+use lib.ListN.{length, getD, take, drop, set, length-append, length-drop, length-set, drop-of-length-le, take-append-drop}
 use lib.Seq.{length-take-le, take-all, take-at, drop-at, drop-drop, drop-set-lt, getD-set-same}
 use lib.Dec.{eqb}
 use Rattle.rules.specs.Valid.{Valid}
@@ -24,7 +24,8 @@ use Rattle.rules.specs.declared.Answer.the-variants.{Done}
 use Rattle.rules.proofs.Answer.{the-type}
 use Rattle.rules.proofs.Images.{done-or-not, restore-refused}
 use Rattle.rules.proofs.Cases.{and-true, cond-all}
-use Rattle.text.specs.Written.{written, Put}
+use Rattle.rules.specs.Lists.{written}
+use Rattle.text.specs.Written.{Put}
 use Rattle.text.specs.Commands.{firstPiece}
 use Rattle.text.specs.Cuts.{endOf, textIn, kept}
 use Rattle.text.specs.Streams.{Fed, behind, answered}
@@ -32,7 +33,7 @@ use Rattle.text.proofs.Pieces.{split-some}
 use Rattle.text.proofs.Keeps.{by-most, end-line, end-last, text-none, kept-over, kept-fits, kept-front, kept-same, kept-none, copied-whole}
 use Rattle.text.proofs.Feeds.{long-refused}
 use Rattle.lines.specs.Responses.{longest, lineEnd, Answered, Gives}
-use Rattle.lines.specs.Sessions.{Reached, taken, startOf, Gone, gone, goneOf, Left, Taken, leftIn, fedIn, ready, saved, feedOf, finishOf}
+use Rattle.lines.specs.Sessions.{taken, startOf, Gone, goneOf, Left, Taken, leftIn, fedIn, ready, saved, feedOf, finishOf}
 use Rattle.lines.proofs.Kept.{respond-kept}
 use Rattle.lines.proofs.Replies.{others, refused-by, carried-by}
 

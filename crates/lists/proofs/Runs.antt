@@ -1,33 +1,15 @@
 -- Ranges of keys, cut in two and picked from. Assumes nothing.
 use mathlib.Core.Path.{_≡_, refl, sym, ap, ap₂, _∙_, subst}
-use mathlib.Core.Bool.{Bool, true, false, cond}
-use mathlib.Core.List.{List, [], _∷_, _++_, append-assoc, append-nil}
+use mathlib.Core.Bool.{Bool, cond}
+use mathlib.Core.List.{List, [], _∷_, _++_, append-nil}
 use Prim.Native.Nat.{ℕ, zero, suc, _+_, _-_, _*_, _≤_, _<_}
-use native.Mathlib.Nat.{zero-add, add-zero, suc-add}
 use native.Mathlib.Omega.{arith}
 use lib.Dec.{T}
 use Rattle.rules.specs.Lists.{range, each, only}
 use Rattle.rules.specs.Pages.{size, fileOf, pageOf, Page, pages}
 use Rattle.rules.proofs.Tests.{both}
 use Rattle.rules.specs.declared.State.{State}
-
--- a range in two parts
-pub range-add : (a m n : ℕ) → range a (m + n) ≡ range a m ++ range (a + m) n
-unfolding range
-range-add a zero n = rw (zero-add n, add-zero a) refl
-range-add a (suc m) n =
-    let e : a + 1 + m ≡ a + suc m = omega arith in
-    rw (suc-add m n, ← e) (ap (λ l. a ∷ l) (range-add (a + 1) m n))
-
--- what is picked from two lists
-pub only-append : (P : ℕ → Bool) (a b : List ℕ) → only P (a ++ b) ≡ only P a ++ only P b
-unfolding only
-only-append P [] b = refl
-only-append P (x ∷ a) b = rw (only-append P a b) (go (P x))
-  where
-    go : (t : Bool) → cond t (x ∷ (only P a ++ only P b)) (only P a ++ only P b) ≡ cond t (x ∷ only P a) (only P a) ++ only P b
-    go true = refl
-    go false = refl
+use Rattle.rules.proofs.Lists.{range-add, only-append}
 
 -- nothing is picked from a range that has nothing to pick
 pub only-none : (P : ℕ → Bool) (a n : ℕ) → ((k : ℕ) → a ≤ k → k < a + n → T (P k) → ⊥) → only P (range a n) ≡ []
@@ -36,12 +18,6 @@ only-none P a zero h = refl
 only-none P a (suc n) h =
     both (P a) (λ t. cond t (a ∷ only P (range (a + 1) n)) (only P (range (a + 1) n)) ≡ [])
     (λ p. absurd (h a (omega arith) (omega arith) p)) (λ _. only-none P (a + 1) n (λ k l u. h k (omega arith) (omega arith)))
-
--- the lists of two lists' members
-pub each-append : (g : ℕ → List ℕ) (a b : List ℕ) → each g (a ++ b) ≡ each g a ++ each g b
-unfolding each
-each-append g [] b = refl
-each-append g (x ∷ a) b = rw (each-append g a b) (sym (append-assoc (g x) (each g a) (each g b)))
 
 -- pages are picked from the keys as from the pages, file by file
 module _ (s : State) (small : (f : ℕ) → size s f ≤ 1024) (P : ℕ → Bool) (inside : (k : ℕ) → T (P k) → Page s k) where

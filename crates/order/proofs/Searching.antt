@@ -17,9 +17,9 @@ use Rattle.rules.specs.Valid.{Valid}
 use Rattle.rules.specs.UseTimes.{before, never, useFor}
 use Rattle.rules.specs.Orders.{fetchOrder, victim}
 use Rattle.rules.proofs.Cases.{passed}
-use Rattle.rules.proofs.LookAheads.{Before, before-is, is-before, use-least}
-use Rattle.rules.proofs.Ranks.{rank}
-use Rattle.rules.proofs.Candidates.{lastCached, candidate-cached, AtMost, NoneAbove, best-candidate, no-candidate, absent, FirstAbsent, NoneBelow, none-below, slot-below, AtLeast, absent-least, absent-wanted, best-wanted, no-wanted}
+use Rattle.rules.proofs.LookAheads.{before-is, is-before, use-least}
+use Rattle.rules.specs.Ranks.{rank, lastCached, AtMost, absent, FirstAbsent, NoneBelow, AtLeast, Before}
+use Rattle.rules.proofs.Candidates.{candidate-cached, NoneAbove, best-candidate, no-candidate, none-below, slot-below, absent-least, absent-wanted, best-wanted, no-wanted}
 use Rattle.rules.specs.declared.State.{State}
 use Rattle.rules.specs.declared.Reader.{Reader}
 use Rattle.order.specs.Absent.{nextAbsent}

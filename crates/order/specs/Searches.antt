@@ -7,8 +7,7 @@ use Rattle.rules.specs.Pages.{cached}
 use Rattle.rules.specs.Readers.{readerAt, attached}
 use Rattle.rules.specs.UseTimes.{sees, never, useFor, useKey}
 use Rattle.rules.specs.Orders.{wanted}
-use Rattle.rules.proofs.Ranks.{rank}
-use Rattle.rules.proofs.Candidates.{AtMost, NoneBelow}
+use Rattle.rules.specs.Ranks.{rank, AtMost, NoneBelow}
 use Rattle.rules.specs.declared.State.{State}
 use Rattle.order.specs.declared.Pick.{Pick}
 

@@ -9,8 +9,8 @@ use Rattle.rules.specs.Image.{imageOf}
 use Rattle.text.specs.Streams.{Fed, feed, unfed}
 use Rattle.text.proofs.Feeds.{feed-none}
 use Rattle.lines.specs.Responses.{Roomy}
-use Rattle.lines.specs.Sessions.{noText, Taken, feedOf, StandsIn}
-use Rattle.lines.proofs.Stands.{StandsOn, stands-on, stands-first}
+use Rattle.lines.specs.Sessions.{noText, feedOf, StandsIn}
+use Rattle.lines.proofs.Stands.{stands-on, stands-first}
 use Rattle.quay.specs.Runs.{Stands, Within, Told, told, handed}
 use Rattle.quay.specs.declared.Input.{Input}
 use Rattle.quay.specs.declared.Input.the-variants.{Bytes}

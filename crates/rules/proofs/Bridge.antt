@@ -7,7 +7,7 @@ use mathlib.Core.Option.{some}
 use Prim.Native.Nat.{ℕ, _+_, _-_, _*_, _/_, _%_, _≤_, _<_}
 use native.Mathlib.Omega.{arith}
 use native.Mathlib.Nat.{mul-le-mul-right, le-div-iff-mul-le, mul-comm, add-mul, one-mul}
-use lib.Dec.{T, leb, ltb, eqb, leb→le, le→leb, ltb→lt}
+use lib.Dec.{T, leb, ltb, eqb, le→leb}
 use Rattle.rules.specs.Lists.{least}
 use Rattle.rules.specs.Pages.{fileOf, pageOf, cached}
 use Rattle.rules.specs.Readers.{readerAt, attached, lastPage}
@@ -15,10 +15,12 @@ use Rattle.rules.specs.Valid.{Valid}
 use Rattle.rules.specs.UseTimes.{before, steps, cut, sees, timeFor, seat, never, useFor, useKey, ahead, seen}
 use Rattle.rules.specs.Orders.{victim}
 use Rattle.rules.specs.Third.{Premises}
-use Rattle.rules.proofs.Tests.{leq, side, is-true, is-false, and-both, and-first, and-second}
+use Rattle.rules.proofs.Tests.{leq, side, is-true, is-false, and-both}
 use Rattle.rules.proofs.Leasts.{some-in, least-far, least-le, least-met}
 use Rattle.rules.proofs.Valids.{placed-at}
-use Rattle.rules.proofs.Ranks.{rank, seen-small, rank-behind, rank-unseen, rank-seen}
+use Rattle.rules.proofs.LookAheads.{before-is}
+use Rattle.rules.specs.Ranks.{rank}
+use Rattle.rules.proofs.Ranks.{seen-small, rank-behind, rank-unseen, rank-seen}
 use Rattle.rules.proofs.Distinct.{victim-top}
 use Rattle.rules.proofs.Belady.{nextUse}
 use Rattle.rules.proofs.Scan.{Slot, Slots, vacant, reader, requests, away, Fits, nearest, next-use}
@@ -64,31 +66,16 @@ order A B a b w lw lA lB la lb h = leq (A + 1) B (λ _. 16 * (A - 1) + a ≤ 16 
     let e : (B + 1) * w ≡ B * w + w = add-mul B 1 w ∙ ap (λ x. B * w + x) (one-mul w) in absurd (omega arith))
     (λ m. let e : A ≡ B = omega arith in let h′ : B * w * 16 + a ≤ B * w * 16 + b = subst (λ x. x * w * 16 + a ≤ B * w * 16 + b) e h in omega arith))
 
--- what it is to have a page before one
-record Coming (s : State) (r : Reader) (k : ℕ) : Type 0 where
-  here : T (attached r)
-  behind : r .position < pageOf k
-  inside : pageOf k ≤ lastPage (s .sizes) r
-
-coming : (s : State) (r : Reader) (k : ℕ) → T (before s r k) → Coming s r k
-unfolding before
-coming s r k h =
-    let c : Bool = leb (pageOf k) (lastPage (s .sizes) r) in
-    let b : Bool = ltb (r .position) (pageOf k) in
-    let a : Bool = eqb (r .file) (fileOf k) in
-    let bc : T (b && c) = and-second a (b && c) (and-second (attached r) (a && (b && c)) h) in
-    record { here = and-first (attached r) (a && (b && c)) h; behind = ltb→lt _ _ (and-first b c bc); inside = leb→le _ _ (and-second b c bc) }
-
 module _ (s : State) (v : Valid s) (w : ℕ) (p : Premises s w) where
   paced : (k j : ℕ) → T (before s (readerAt s j) k) → 1 ≤ w
-  paced k j h = let c = coming s (readerAt s j) k h in omega (arith, placed-at s v j (c .here) .pace-low, p .one-pace j (c .here))
+  paced k j h = let c = before-is s (readerAt s j) k h in omega (arith, placed-at s v j (c .here) .pace-low, p .one-pace j (c .here))
 
   -- every page that a reader has before it is in its look-ahead
   all-seen : (k j : ℕ) → T (before s (readerAt s j) k) → T (sees s (readerAt s j) k)
   unfolding sees cut
   all-seen k j h =
       let r : Reader = readerAt s j in
-      let c = coming s r k h in
+      let c = before-is s r k h in
       let below : steps r k * w ≤ lastPage (s .sizes) r * w = mul-le-mul-right w (omega arith) in
       let far : steps r k * w ≤ s .«look_ahead» = omega (arith, mul-comm w (lastPage (s .sizes) r), p .covers j (c .here)) in
       let near : steps r k ≤ s .«look_ahead» / r .pace = rw (p .one-pace j (c .here)) (le-div-iff-mul-le (paced k j h) .1 far) in
@@ -97,7 +84,7 @@ module _ (s : State) (v : Valid s) (w : ℕ) (p : Premises s w) where
   -- the use key of a slot
   use-at : (k j : ℕ) → T (before s (readerAt s j) k) → useFor s k j ≡ steps (readerAt s j) k * w * 16 + seat s j
   unfolding useFor timeFor
-  use-at k j h = rw (is-true (sees s (readerAt s j) k) (all-seen k j h), p .one-pace j (coming s (readerAt s j) k h .here), p .no-time) (omega arith)
+  use-at k j h = rw (is-true (sees s (readerAt s j) k) (all-seen k j h), p .one-pace j (before-is s (readerAt s j) k h .here), p .no-time) (omega arith)
 
   use-not : (k j : ℕ) → T (not (before s (readerAt s j) k)) → useFor s k j ≡ never
   unfolding useFor sees
@@ -129,8 +116,8 @@ module _ (s : State) (v : Valid s) (w : ℕ) (p : Premises s w) where
 
       meets : (j j′ : ℕ) → j′ < 16 → T (before s (readerAt s j) i) → T (before s (readerAt s j′) k) → useFor s k j′ ≤ useFor s i j → least 16 (at k) far ≤ at i j
       meets j j′ l′ h h′ le′ =
-          let c = coming s (readerAt s j) i h in
-          let c′ = coming s (readerAt s j′) k h′ in
+          let c = before-is s (readerAt s j) i h in
+          let c′ = before-is s (readerAt s j′) k h′ in
           let o = order (steps (readerAt s j′) k) (steps (readerAt s j) i) (seat s j′) (seat s j) w (paced i j h) (omega arith) (omega arith) (omega arith) (omega arith)
           (omega (arith, use-at k j′ h′, use-at i j h)) in
           omega (arith, away-in far i j h, away-in far k j′ h′, least-le 16 (at k) far j′ l′)

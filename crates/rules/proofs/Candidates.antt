@@ -1,17 +1,17 @@
 -- Where the heads of the two orders are found: a page for each file and slot, a page for each slot. Assumes nothing.
 use mathlib.Core.Path.{_≡_, refl, sym, _∙_, subst}
-use mathlib.Core.Bool.{Bool, not, _&&_}
+use mathlib.Core.Bool.{not}
 use mathlib.Core.Option.{Option, none, some}
 use mathlib.Core.Logic.{_⊎_, inl, inr, _↔_}
 use Prim.Native.Nat.{ℕ, _+_, _-_, _*_, _≤_, _<_}
 use native.Mathlib.Decide.{ℕ-discrete, decLt}
 use native.Mathlib.Omega.{arith}
 use lib.Dec.{T, T-not, eqb, eqb→eq}
-use Rattle.bits.specs.Map.{bit, nextBit, lastBit}
+use Rattle.bits.specs.Map.{bit, nextBit}
 use Rattle.bits.proofs.Bits.{bit-le}
 use Rattle.bits.proofs.Finds.{Next, next-is, last-is, last-only}
 use Rattle.rules.specs.Lists.{head}
-use Rattle.rules.specs.Pages.{fileOf, pageOf, keyOf, cached, inFetch}
+use Rattle.rules.specs.Pages.{fileOf, pageOf, keyOf, cached}
 use Rattle.rules.specs.Readers.{readerAt, attached}
 use Rattle.rules.specs.Valid.{Valid}
 use Rattle.rules.specs.UseTimes.{before, sees, never, useFor, useKey, ahead, seen}
@@ -19,7 +19,8 @@ use Rattle.rules.specs.Orders.{wanted, fetchOrder, victim}
 use Rattle.rules.proofs.Tests.{less, side, and-both, and-first, and-second}
 use Rattle.rules.proofs.Below.{one-more, one-or-all}
 use Rattle.rules.proofs.Leasts.{some-at, some-in}
-use Rattle.rules.proofs.Ranks.{rank, seen-ahead, seen-small}
+use Rattle.rules.specs.Ranks.{rank, lastCached, AtMost, absent, FirstAbsent, AtLeast, NoneBelow}
+use Rattle.rules.proofs.Ranks.{seen-ahead, seen-small}
 use Rattle.rules.proofs.LookAheads.{before-is, is-before, sees-before, sees-earlier, seen-by, use-sees, use-least, use-rises, met-by}
 use Rattle.rules.proofs.Numbered.{larger-first, smaller-first, none-in, none-of}
 use Rattle.rules.proofs.Distinct.{Stretch, behind, unseen, in-use, stretch, rank-positive, victim-ranked, victim-cached, victim-top, head-is, wanted-page, fetch-wanted, fetch-first, fetch-head-is}
@@ -86,10 +87,6 @@ module _ (s : State) (w : Valid s) (k i : ℕ) (one-file : fileOf k ≡ fileOf i
       go (behind a x) (in-use b y m) = absurd (T-not (ahead s k) a (ahead-earlier (seen-ahead s i b)))
       go (behind a x) (unseen b m y) = absurd (T-not (ahead s k) a (ahead-earlier b))
       go (behind a x) (behind b y) = omega arith
-
--- the last cached one of file f's first n pages; 0 where there is none
-abbrev pub lastCached : State → ℕ → ℕ → ℕ
-lastCached s f n = lastBit (s .cached) (f * 1024) n
 
 -- the last cached page of its file, or the last at or before a reader's position
 pub data Candidate (s : State) (k : ℕ) : Type 0 where
@@ -158,10 +155,6 @@ module _ (s : State) (w : Valid s) where
           let ci : T (cached s i) = set-cached s i (n .found (omega arith)) in
           absurd (omega (arith, later-higher s w k i (omega (arith, n .low)) (omega (arith, n .low)) clear (w .cached-in i ci .low), victim-top s w k e i ci))
 
--- the last cached one of file f's first n pages, if any, has a rank of at most b
-abbrev pub AtMost : State → ℕ → ℕ → ℕ → Type 0
-AtMost s b f n = 0 < lastCached s f n → rank s (keyOf f (lastCached s f n)) ≤ b
-
 -- no candidate of the first n files and the first m slots has a rank above b
 pub record NoneAbove (s : State) (n m b : ℕ) : Type 0 where
   pub files : (f : ℕ) → f < n → AtMost s b f 1024
@@ -204,16 +197,6 @@ module _ (s : State) (w : Valid s) where
 
 -- ---- the fetch order
 
--- neither cached nor in fetch
-abbrev pub absent : State → ℕ → Bool
-absent s k = not (cached s k) && not (inFetch s k)
-
--- k is the first absent page that the reader has before it
-pub record FirstAbsent (s : State) (r : Reader) (k : ℕ) : Type 0 where
-  pub ahead-of : T (before s r k)
-  pub lacking : T (absent s k)
-  pub first : (i : ℕ) → T (before s r i) → pageOf i < pageOf k → T (absent s i) → ⊥
-
 -- there is one such page
 pub absent-one : (s : State) (r : Reader) (k i : ℕ) → FirstAbsent s r k → FirstAbsent s r i → k ≡ i
 absent-one s r k i a b =
@@ -221,14 +204,6 @@ absent-one s r k i a b =
     let q = before-is s r i (b .ahead-of) in
     less (pageOf k) (pageOf i) (λ _. k ≡ i) (λ l. absurd (b .first k (a .ahead-of) l (a .lacking)))
     (λ l. less (pageOf i) (pageOf k) (λ _. k ≡ i) (λ m. absurd (a .first i (b .ahead-of) m (b .lacking))) (λ m. omega (arith, p .of-file, q .of-file)))
-
--- slot j's first absent page, if the slot sees it, has for the slot a key of at least b
-abbrev pub AtLeast : State → ℕ → ℕ → Type 0
-AtLeast s b j = (k : ℕ) → T (sees s (readerAt s j) k) → FirstAbsent s (readerAt s j) k → b ≤ useFor s k j
-
--- no first absent page of the first m slots has a key below b
-abbrev pub NoneBelow : State → ℕ → ℕ → Type 0
-NoneBelow s m b = (j : ℕ) → j < m → AtLeast s b j
 
 module _ (s : State) where
   -- a search starts without slots

@@ -1,10 +1,10 @@
 -- Laws by which a proof goes through a rule's tests: what holds of each branch, with what the test says of it, holds of the result. Assumes nothing.
 use Prim.Native.Nat.{ℕ, _≤_, _<_}
-use mathlib.Core.Path.{_≡_, refl, subst}
-use mathlib.Core.Bool.{Bool, true, false, cond, _&&_, _||_}
+use mathlib.Core.Path.{_≡_, refl, sym, subst, _∙_}
+use mathlib.Core.Bool.{Bool, true, false, not, cond, _&&_, _||_}
 use mathlib.Core.Option.{Option, none, some}
 use native.Mathlib.Omega.{arith}
-use borrow.Author.Tests.{lt-ltb, le-ltb, le-leb, lt-leb, eq-eqb, ne-eqb, leb-true, ltb-false, eqb-false}
+use borrow.Author.Tests.{lt-ltb, le-ltb, le-leb, lt-leb, eq-eqb, ne-eqb, leb-true, ltb-false, eqb-false, not-true, not-false}
 use lib.Dec.{T, leb, ltb, eqb}
 use Rattle.rules.specs.Lists.{within, onOption}
 use Rattle.rules.specs.Pages.{size, keyOf, inFetch}
@@ -104,6 +104,22 @@ or-false true b e = (e, cc)
 pub and-true : (a b : Bool) → (a && b) ≡ true → (a ≡ true) × (b ≡ true)
 and-true true b e = (refl, e)
 and-true false b e = (e, cc)
+
+-- tests joined by "and": the first fails
+pub and-stop : (a b : Bool) → a ≡ false → false ≡ (a && b)
+and-stop a b e = rw e
+
+-- it passes: the answer is that of the others
+pub and-pass : (a b q : Bool) → a ≡ true → q ≡ b → q ≡ (a && b)
+and-pass a b q e f = rw e f
+
+-- the first, as a call answers it, fails
+pub call-stop : (a b t : Bool) → t ≡ a → not t ≡ true → false ≡ (a && b)
+call-stop a b t e n = and-stop a b (sym e ∙ not-true t n)
+
+-- it passes
+pub call-pass : (a b t q : Bool) → t ≡ a → not t ≡ false → q ≡ b → q ≡ (a && b)
+call-pass a b t q e n f = and-pass a b q (sym e ∙ not-false t n) f
 
 -- a number within its bounds
 pub within-true : (low high n : ℕ) → within low high n ≡ true → (low ≤ n) × (n ≤ high)

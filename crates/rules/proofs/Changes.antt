@@ -7,7 +7,7 @@ use mathlib.Core.Logic.{_≢_}
 use native.Mathlib.Omega.{arith}
 use lib.ListN.{getD, set, length, length-set}
 use lib.Dec.{T, ltb, eqb, not-T}
-use Rattle.bits.specs.Map.{putBit}
+use Rattle.bits.specs.Map.{putBit, on}
 use Rattle.rules.specs.Pages.{size, cached, inFetch, Page, cachedPages}
 use Rattle.rules.specs.Readers.{noReader, readerAt, lastPage, nextKey, awaits}
 use Rattle.rules.specs.Valid.{Valid, Placed, ReaderIn, PageMap}
@@ -20,7 +20,7 @@ use Rattle.rules.specs.declared.Condition.the-variants.{Empty, Running, 
 use Rattle.rules.proofs.Tests.{key, and-both, and-first, and-second, or-right}
 use Rattle.rules.proofs.Counting.{empty, count-empty, plus, plus-count, same-count, num-in, num-out}
 use Rattle.rules.proofs.Counts.{pages-count}
-use Rattle.rules.proofs.Marks.{on, map-put, on-put, off-put, put-off}
+use Rattle.rules.proofs.Marks.{map-put, on-put, off-put, put-off}
 
 -- the cached pages, counted by their keys
 pub cached-count : (s : State) → ((f : ℕ) → size s f ≤ 1024) → ((k : ℕ) → T (cached s k) → Page s k) → length (cachedPages s) ≡ count 8192 (cached s)

@@ -1,7 +1,7 @@
 -- A set of pages of the files, counted by its keys below 8,192. Assumes nothing.
 use mathlib.Core.Path.{_≡_, refl, ap, _∙_, subst}
 use mathlib.Core.Bool.{Bool, true, false, not, cond}
-use mathlib.Core.List.{List, [], _∷_, _++_}
+use mathlib.Core.List.{List, _∷_, _++_}
 use mathlib.Core.Logic.{_⊎_, inl, inr}
 use Prim.Native.Nat.{ℕ, zero, suc, _+_, _-_, _*_, _≤_, _<_}
 use native.Mathlib.Omega.{arith}
@@ -13,15 +13,7 @@ use Rattle.rules.specs.Schedules.{Set, num, count}
 use Rattle.rules.proofs.Tests.{side}
 use Rattle.rules.proofs.Counting.{num-out}
 use Rattle.rules.specs.declared.State.{State}
-
-only-append : (P : Set) (a b : List ℕ) → only P (a ++ b) ≡ only P a ++ only P b
-unfolding only
-only-append P [] b = refl
-only-append P (x ∷ a) b = rw (only-append P a b) (go (P x))
-  where
-    go : (t : Bool) → cond t (x ∷ (only P a ++ only P b)) (only P a ++ only P b) ≡ cond t (x ∷ only P a) (only P a) ++ only P b
-    go true = refl
-    go false = refl
+use Rattle.rules.proofs.Lists.{only-append}
 
 count-suc : (P : Set) (a : ℕ) → count (suc a) P ≡ num (P a) + count a P
 unfolding count

@@ -15,9 +15,10 @@ use Rattle.rules.specs.UseTimes.{sees, timeFor, seat, never, useKey, ahe
 use Rattle.rules.specs.Orders.{place, stealOrder, wanted, fetchOrder, victim}
 use Rattle.rules.proofs.Tests.{less, side, and-first, sixteen}
 use Rattle.rules.proofs.Valids.{placed-at}
-use Rattle.rules.proofs.Ranks.{rank, seen-small, rank-behind, rank-unseen, rank-seen, steal-ranked}
+use Rattle.rules.specs.Ranks.{rank, pack}
+use Rattle.rules.proofs.Ranks.{seen-small, rank-behind, rank-unseen, rank-seen, steal-ranked}
 use Rattle.rules.proofs.LookAheads.{before-is, sees-before, time-rises, use-for, seen-page, met-by, use-positive}
-use Rattle.rules.proofs.Numbered.{pack, larger-first, smaller-first, first-in, first-of, first-is, by-sort}
+use Rattle.rules.proofs.Numbered.{larger-first, smaller-first, first-in, first-of, first-is, by-sort}
 use Rattle.rules.specs.declared.State.{State}
 use Rattle.rules.specs.declared.Reader.{Reader}
 

@@ -9,7 +9,7 @@ use native.Mathlib.Nat.{zero-div}
 use borrow.Author.Tests.{eqb-false, not-false}
 use lib.ListN.{getD, length, replicate, length-replicate}
 use lib.Dec.{T, T-not, eqb, ltb, lt→ltb}
-use Rattle.bits.specs.Map.{bit}
+use Rattle.bits.specs.Map.{bit, on}
 use Rattle.rules.specs.Lists.{within, every, head}
 use Rattle.rules.specs.Pages.{fileOf, cached, inFetch, Page, cachedPages}
 use Rattle.rules.specs.Readers.{noReader, readerAt, attached, lastPage, nextKey, awaits, inCondition, onward}
@@ -26,7 +26,7 @@ use Rattle.rules.specs.declared.Condition.the-variants.{Running, Waiting
 use Rattle.rules.proofs.Tests.{and-both, and-first, and-second}
 use Rattle.rules.proofs.Distinct.{victim-cached, fetch-wanted, wanted-page}
 use Rattle.rules.proofs.Cases.{cond-all, condition-all, option-all, fetch-all, for-fetch-all, passed, failed, and-true, within-true, file-there}
-use Rattle.rules.proofs.Marks.{on, put-on}
+use Rattle.rules.proofs.Marks.{put-on}
 use Rattle.rules.proofs.Changes.{none-cached, placed-in, turn-moved, reader-changed, fetch-opened, page-dropped}
 use Rattle.rules.proofs.Landings.{placed-still, waiters-woken, landed-valid}
 
@@ -84,7 +84,8 @@ fetch-kept s v slot r p ne absent =
     let opened = fetch-opened s v (nextKey r) page (failed (cached s (nextKey r)) absent) in
     wait-kept (withFetch s (nextKey r)) opened slot r (placed-in s _ _ _ _ r p) ne (put-on (s .fetching) (v .fetching-map) (nextKey r) (page .low))
 
-running-placed : (s : State) → Valid s → (slot : ℕ) → readerAt s slot .condition ≡ Running → Placed s (readerAt s slot)
+-- a running reader is placed in its file
+pub running-placed : (s : State) → Valid s → (slot : ℕ) → readerAt s slot .condition ≡ Running → Placed s (readerAt s slot)
 running-placed s v slot e = subst (λ c. ReaderIn c s (readerAt s slot)) e (v .readers-in slot)
 
 -- Read keeps the state valid

@@ -24,7 +24,8 @@ use Rattle.rules.proofs.Tests.{and-second}
 use Rattle.rules.proofs.Distinct.{victim-cached}
 use Rattle.rules.proofs.Candidates.{empty-orders}
 use Rattle.rules.proofs.Cases.{cond-all, condition-all, option-all}
-use Rattle.rules.proofs.Marks.{on, off-put, put-off}
+use Rattle.bits.specs.Map.{on}
+use Rattle.rules.proofs.Marks.{off-put, put-off}
 use Rattle.rules.proofs.Changes.{cached-count, none-cached, counted, readers-changed, fetch-closed, page-dropped, less-count, page-cached}
 
 -- ---- the waiters

@@ -24,6 +24,7 @@ pub mod Kept
 pub mod Refusals
 pub mod OneRecord
 pub mod Parts
+pub mod Lists
 pub mod Numbers
 pub mod Tables
 pub mod Layouts

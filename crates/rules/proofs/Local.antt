@@ -13,7 +13,8 @@ use Rattle.rules.specs.Valid.{Valid}
 use Rattle.rules.specs.UseTimes.{before, steps, missing, between, cut, sees, timeFor, never, useFor, useKey, ahead, seen}
 use Rattle.rules.specs.Orders.{stealOrder}
 use Rattle.rules.proofs.Tests.{both, is-false, and-second}
-use Rattle.rules.proofs.Ranks.{rank, steal-ranked}
+use Rattle.rules.specs.Ranks.{rank}
+use Rattle.rules.proofs.Ranks.{steal-ranked}
 use Rattle.rules.specs.declared.State.{State}
 use Rattle.rules.specs.declared.Reader.{Reader}
 

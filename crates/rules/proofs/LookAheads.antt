@@ -11,6 +11,7 @@ use Rattle.rules.specs.Pages.{size, fileOf, pageOf, Page}
 use Rattle.rules.specs.Readers.{readerAt, attached, lastPage}
 use Rattle.rules.specs.Valid.{Valid}
 use Rattle.rules.specs.UseTimes.{before, steps, missing, between, cut, sees, timeFor, seat, never, useFor, useKey, seen}
+use Rattle.rules.specs.Ranks.{Before}
 use Rattle.rules.proofs.Tests.{side, is-true, is-false, and-both, and-first, and-second}
 use Rattle.rules.proofs.Leasts.{some-at, some-in, least-le, least-met}
 use Rattle.rules.proofs.Valids.{placed-at}
@@ -19,13 +20,6 @@ use Rattle.rules.specs.declared.State.{State}
 use Rattle.rules.specs.declared.Reader.{Reader}
 
 -- ---- what a reader has before it
-
--- the parts of `before`
-pub record Before (s : State) (r : Reader) (k : ℕ) : Type 0 where
-  pub here : T (attached r)
-  pub of-file : r .file ≡ fileOf k
-  pub past : r .position < pageOf k
-  pub in-file : pageOf k ≤ lastPage (s .sizes) r
 
 module _ (s : State) (r : Reader) (k : ℕ) where
   -- what the reader has before it has these parts

@@ -1,19 +1,15 @@
 -- The pages that a map has after a bit is put into it. Assumes nothing.
 use Prim.Native.Nat.{ℕ, _≤_, _<_}
 use mathlib.Core.Path.{_≡_, refl, sym}
-use mathlib.Core.Bool.{Bool, not, cond, _&&_, _||_}
+use mathlib.Core.Bool.{not, cond, _&&_, _||_}
 use mathlib.Core.List.{List}
 use native.Mathlib.Omega.{arith}
 use lib.Dec.{T, eqb}
-use Rattle.bits.specs.Map.{bit, putBit}
+use Rattle.bits.specs.Map.{bit, on, putBit}
 use Rattle.bits.proofs.Bits.{put-same, put-other, put-length, put-fits}
 use Rattle.rules.specs.Valid.{PageMap}
 use Rattle.rules.proofs.Tests.{key, both}
 use Rattle.rules.proofs.Counting.{has-key}
-
--- the map has the page
-abbrev pub on : List ℕ → ℕ → Bool
-on words k = eqb (bit words k) 1
 
 -- it stays a map of 128 words of 64 bits
 pub map-put : (words : List ℕ) (k v : ℕ) → v ≤ 1 → PageMap words → PageMap (putBit words k v)

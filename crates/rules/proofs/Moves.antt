@@ -18,7 +18,7 @@ use Rattle.rules.specs.Run.{fetchOpen}
 use Rattle.rules.specs.Third.{Covers, Premises, goes, movedOn}
 use Rattle.rules.proofs.Tests.{less, key}
 use Rattle.rules.proofs.Valids.{placed-at}
-use Rattle.rules.proofs.Marks.{on}
+use Rattle.bits.specs.Map.{on}
 use Rattle.rules.proofs.Scan.{vacant, reader, code, pageAt, advance, after}
 use Rattle.rules.proofs.Bridge.{slotOf, slots}
 use Rattle.rules.specs.declared.State.{State}

@@ -1,6 +1,6 @@
 -- The steal order is the cached pages by falling rank. Assumes nothing.
 use mathlib.Core.Path.{_≡_, refl, sym, ap, ap₂, _∙_, fun-ext}
-use mathlib.Core.Bool.{Bool, true, false, not, cond, _&&_}
+use mathlib.Core.Bool.{Bool, true, false, not, _&&_}
 use mathlib.Core.List.{_++_}
 use mathlib.Core.Logic.{_⊎_, inl, inr}
 use Prim.Native.Nat.{ℕ, _+_, _*_, _/_, _≤_, _<_}
@@ -13,16 +13,13 @@ use Rattle.rules.specs.Readers.{readerAt}
 use Rattle.rules.specs.Valid.{Valid}
 use Rattle.rules.specs.UseTimes.{before, steps, between, cut, sees, timeFor, never, useFor, useKey, ahead, seen}
 use Rattle.rules.specs.Orders.{place, behindLast, notSeen, useTime, stealOrder}
+use Rattle.rules.specs.Ranks.{rank}
 use Rattle.rules.proofs.Tests.{leq, side, is-true, is-false, not-not, and-first, and-second}
 use Rattle.rules.proofs.Members.{All, all-only, only-only, range-in, range-at, each-in, each-at}
 use Rattle.rules.proofs.Leasts.{some-mono, some-at, least-le}
 use Rattle.rules.proofs.Sorts.{split-falling, alike-falling}
 use Rattle.rules.specs.declared.State.{State}
 use Rattle.rules.specs.declared.Reader.{Reader}
-
--- the rank of a page: the higher, the sooner it goes
-unfoldable pub rank : State → ℕ → ℕ
-rank s k = cond (ahead s k) (cond (seen s k) (useKey s k) (never + place k)) (2 * never + place k)
 
 pub seen-ahead : (s : State) (k : ℕ) → T (seen s k) → T (ahead s k)
 unfolding seen ahead sees

@@ -10,7 +10,7 @@ use borrow.Author.Tests.{leb-true, eqb-false}
 use lib.ListN.{set, length, length-map, List·getD-map}
 use lib.Seq.{map-set-same, ext-getD}
 use lib.Dec.{T, leb, ltb, eqb, eqb→eq, eqb-refl, not-T}
-use Rattle.bits.specs.Map.{putBit}
+use Rattle.bits.specs.Map.{putBit, on}
 use Rattle.rules.specs.Lists.{only, head, onOption}
 use Rattle.rules.specs.Pages.{size, cached, inFetch, Page, pages, cachedPages, fetchingPages}
 use Rattle.rules.specs.Readers.{noReader, readerAt, attached, byCondition, lastPage, nextKey, awaits, inCondition, onward}
@@ -26,7 +26,7 @@ use Rattle.rules.proofs.Counting.{plus, swap}
 use Rattle.rules.proofs.Valids.{placed-at}
 use Rattle.rules.proofs.Ranks.{pages-at}
 use Rattle.rules.proofs.Cases.{option-all}
-use Rattle.rules.proofs.Marks.{on, map-put, on-put, off-put, put-on}
+use Rattle.rules.proofs.Marks.{map-put, on-put, off-put, put-on}
 use Rattle.rules.proofs.Changes.{cached-count}
 use Rattle.rules.proofs.Landings.{full-dropped, dropped-some, dropped-none}
 use Rattle.rules.proofs.Kept.{next-page, read-kept}

@@ -6,6 +6,7 @@ pub mod Readers
 pub mod Valid
 pub mod UseTimes
 pub mod Orders
+pub mod Ranks
 pub mod Calls
 pub mod Run
 pub mod Schedules

@@ -3,6 +3,7 @@ use Prim.Native.Nat.{ℕ, zero, suc, min, _+_}
 use mathlib.Core.Bool.{Bool, true, false, cond, _&&_, _||_}
 use mathlib.Core.List.{List, [], _∷_, _++_}
 use mathlib.Core.Option.{Option, none, some}
+use lib.ListN.{length, take, drop}
 use lib.Dec.{leb}
 
 -- a, a + 1, .., n of them
@@ -34,6 +35,10 @@ some-of (suc m) P = P m || some-of m P
 unfoldable pub least : ℕ → (ℕ → ℕ) → ℕ → ℕ
 least zero g far = far
 least (suc m) g far = min (g m) (least m g far)
+
+-- the list with some others in it from a place on
+unfoldable pub written : List ℕ → ℕ → List ℕ → List ℕ
+written buffer at bytes = take at buffer ++ (bytes ++ drop (at + length bytes) buffer)
 
 -- from low to high, both included
 abbrev pub within : ℕ → ℕ → ℕ → Bool

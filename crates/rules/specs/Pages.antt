@@ -3,8 +3,7 @@ use Prim.Native.Nat.{ℕ, _+_, _*_, _-_, _/_, _%_, _≤_, _<_}
 use mathlib.Core.Bool.{Bool, not, cond, _&&_}
 use mathlib.Core.List.{List, [], _∷_, _++_}
 use lib.ListN.{getD}
-use lib.Dec.{eqb}
-use Rattle.bits.specs.Map.{bit}
+use Rattle.bits.specs.Map.{on}
 use Rattle.rules.specs.Lists.{range, each, only, within}
 use Rattle.rules.specs.declared.State.{State}
 
@@ -33,10 +32,10 @@ pub record Page (s : State) (k : ℕ) : Type 0 where
 
 -- "A page is cached, in fetch, or neither": "the cached map has one bit a page", the fetch map likewise
 abbrev pub cached : State → ℕ → Bool
-cached s k = eqb (bit (s .cached) k) 1
+cached s k = on (s .cached) k
 
 abbrev pub inFetch : State → ℕ → Bool
-inFetch s k = eqb (bit (s .fetching) k) 1
+inFetch s k = on (s .fetching) k
 
 unfoldable pub cachedPages : State → List ℕ
 cachedPages s = only (cached s) (pages s)

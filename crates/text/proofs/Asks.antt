@@ -19,7 +19,7 @@ use Rattle.text.specs.Commands.{firstPiece, fieldFrom, fieldAt, startsWe
 use Rattle.text.specs.declared.Command.{Command}
 use Rattle.text.specs.declared.Field.the-variants.{Number, Bad}
 use Rattle.text.proofs.Pieces.{by-test, split-some, split-at, first-on, after-first}
-use Rattle.text.proofs.Decimals.{every-append}
+use Rattle.rules.proofs.Lists.{every-append}
 
 -- ---- the letter
 

@@ -1,8 +1,8 @@
 -- A field of a line, read digit by digit. Assumes nothing.
 use Prim.Native.Nat.{ℕ, suc, _+_, _*_, _-_, _≤_, _<_}
 use Prim.Native.Char.{code as ascii}
-use mathlib.Core.Path.{_≡_, refl, sym, _∙_, ap}
-use mathlib.Core.Bool.{Bool, true, false, not, cond, _&&_, and-assoc, and-false, and-true as and-one}
+use mathlib.Core.Path.{_≡_, refl, _∙_, ap}
+use mathlib.Core.Bool.{Bool, true, false, not, cond, _&&_, and-false, and-true as and-one}
 use mathlib.Core.List.{List, [], _∷_, _++_, append-assoc}
 use native.Mathlib.Omega.{arith}
 use borrow.Author.Tests.{le-leb, lt-leb, leb-true, leb-false, eq-eqb, ne-eqb}
@@ -12,18 +12,13 @@ use lib.Dec.{leb, eqb}
 use Rattle.rules.specs.Lists.{every}
 use Rattle.rules.specs.Lines.{isDigit, isDecimal, decimalValue, isField}
 use Rattle.rules.proofs.Cases.{and-true}
+use Rattle.rules.proofs.Lists.{every-append}
 use Rattle.text.specs.Commands.{firstPiece, grownBy, Digits, fieldFrom, fieldAt}
 use Rattle.text.specs.declared.Field.the-variants.{Number, Bad}
 use Rattle.text.specs.declared.Value.the-variants.{Within, Over}
 use Rattle.text.proofs.Pieces.{by-test, slice-more, Walked, walked-at, walked-end, walked-more, split-some}
 
 -- ---- digits one after the other
-
--- every member of two lists
-pub every-append : {A : Type 0} (P : A → Bool) (xs ys : List A) → every P (xs ++ ys) ≡ (every P xs && every P ys)
-unfolding every
-every-append P [] ys = refl
-every-append P (x ∷ xs) ys = ap (λ t. P x && t) (every-append P xs ys) ∙ sym (and-assoc (P x) (every P xs) (every P ys))
 
 value-append : (n : ℕ) (xs ys : List ℕ) → decimalValue n (xs ++ ys) ≡ decimalValue (decimalValue n xs) ys
 unfolding decimalValue

@@ -6,7 +6,7 @@ use mathlib.Core.Bool.{true, false}
 use mathlib.Core.List.{List, [], _∷_, _++_, append-assoc, append-nil}
 use native.Mathlib.Omega.{arith}
 use borrow.Author.Tests.{lt-leb}
-use lib.ListN.{length, drop, length-drop}
+use lib.ListN.{length, drop}
 use lib.Seq.{drop-drop}
 use lib.Dec.{eqb}
 use Rattle.rules.specs.Lists.{each}
@@ -234,11 +234,6 @@ module _ (chunk : List ℕ) (at : ℕ) (piece : List ℕ) where
   module _ (more : List ℕ) (pieces : List (List ℕ)) (e : split (ascii "\n") (drop at chunk) ≡ piece ∷ (more ∷ pieces)) where
     ended : Ended (ascii "\n") (drop at chunk)
     ended = split-ended (ascii "\n") (drop at chunk) (rw e (omega arith))
-
-    pub piece-inside : at + length piece < length chunk
-    piece-inside =
-        let first : length piece < length (drop at chunk) = rw e at (ended .inside) in
-        omega (arith, length-drop at chunk)
 
     pub pieces-behind : split (ascii "\n") (drop (at + length piece + 1) chunk) ≡ more ∷ pieces
     pieces-behind =

@@ -2,16 +2,15 @@
 use Prim.Native.Nat.{ℕ, suc, _+_, _-_, _≤_, _<_}
 use Prim.Native.Char.{code as ascii}
 use mathlib.Core.Path.{_≡_, refl, sym, _∙_, ap}
-use mathlib.Core.Bool.{true, false}
 use mathlib.Core.List.{List, [], _∷_, _++_, append-assoc, append-nil}
 use native.Mathlib.Omega.{arith}
 use borrow.Author.Tests.{le-leb, lt-leb, leb-true, leb-false}
 use lib.ListN.{length, getD, take, drop, set, length-append, length-drop, drop-of-length-le}
-use lib.Seq.{slice, length-take-le, take-length, take-at, drop-drop, paste}
+use lib.Seq.{length-take-le, take-length, take-at, drop-drop, paste}
 use lib.Dec.{leb, eqb}
 use Rattle.rules.specs.Lines.{split}
 use Rattle.text.specs.Commands.{firstPiece}
-use Rattle.text.specs.Written.{written}
+use Rattle.rules.specs.Lists.{written}
 use Rattle.text.specs.Cuts.{lineIn, endOf, tooLong, clipped, textIn, kept}
 use Rattle.text.proofs.Pieces.{by-test, split-at, first-on, Walked, walked-at, walked-end}
 use Rattle.text.proofs.Feeds.{split-ended, split-whole}

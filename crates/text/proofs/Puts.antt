@@ -4,50 +4,17 @@ use Prim.Native.Char.{code as ascii}
 use mathlib.Core.Path.{_≡_, refl, sym, _∙_, ap}
 use mathlib.Core.Bool.{Bool, true, false, cond}
 use mathlib.Core.List.{List, [], _∷_, _++_, append-assoc, append-nil}
-use native.Mathlib.Nat.{pow-suc, add-zero}
+use native.Mathlib.Nat.{pow-suc}
 use native.Mathlib.Omega.{arith}
-use native.Mathlib.Numerals.{add-one}
 use borrow.Author.Tests.{lt-ltb, le-ltb}
-use lib.ListN.{length, take, drop, set, getD, length-append, length-set, take-append-drop}
-use lib.Seq.{length-take-le, set-at, set-split, take-at, take-suc, drop-drop}
+use lib.ListN.{length, set, length-append, length-set}
 use lib.Dec.{ltb}
 use Rattle.rules.specs.Lines.{digitsOf}
-use Rattle.rules.proofs.Parts.{drop-past}
-use Rattle.text.specs.Written.{written, Put}
+use Rattle.rules.specs.Lists.{written}
+use Rattle.rules.proofs.Lists.{written-none, written-front, written-more}
+use Rattle.text.specs.Written.{Put}
 
 -- ---- a buffer
-
--- nothing written
-pub written-none : (l : List ℕ) (at : ℕ) → l ≡ written l at []
-unfolding written
-written-none l at = rw add-zero (sym (take-append-drop at l))
-
--- one byte
-pub written-one : (l : List ℕ) (at b : ℕ) → at < length l → set l at b ≡ written l at (b ∷ [])
-unfolding written
-written-one l at b h = rw add-one (set-split l at b h)
-
--- a byte in front of those written
-pub written-front : (l : List ℕ) (at b : ℕ) (bytes : List ℕ) → at < length l → set (written l (at + 1) bytes) at b ≡ written l at (b ∷ bytes)
-unfolding written
-written-front l at b bytes h =
-    let e : at + 1 + length bytes ≡ at + suc (length bytes) = omega arith in
-    let r : List ℕ = bytes ++ drop (at + suc (length bytes)) l in
-    rw (e, add-one, take-suc l at 0 h, append-assoc (take at l) (getD l at 0 ∷ []) r)
-    (set-at (take at l) (getD l at 0) r b at (length-take-le at l (omega arith)))
-
--- more bytes behind those written
-pub written-more : (l : List ℕ) (at : ℕ) (xs ys : List ℕ) → at + length xs + length ys ≤ length l → written (written l at xs) (at + length xs) ys ≡ written l at (xs ++ ys)
-unfolding written
-written-more l at xs ys h =
-    let n : ℕ = at + length xs in
-    let front : List ℕ = take at l ++ xs in
-    let rest : List ℕ = drop n l in
-    let far : length front ≡ n = omega (arith, length-append (take at l) xs, length-take-le at l (omega arith)) in
-    let end : n + length ys ≡ at + length (xs ++ ys) = omega (arith, length-append xs ys) in
-    let past : drop (n + length ys) (front ++ rest) ≡ drop (at + length (xs ++ ys)) l
-    = drop-past front rest n far (length ys) ∙ drop-drop (length ys) n l ∙ rw end in
-    rw (← append-assoc (take at l) xs rest, take-at front rest n far, past, append-assoc (take at l) xs, append-assoc xs ys)
 
 -- bytes put behind bytes
 pub put-more : (l m out : List ℕ) (at i j : ℕ) (xs ys : List ℕ) → Put l at xs m i → Put m i ys out j → at + length xs + length ys ≤ length l → Put l at (xs ++ ys) out j

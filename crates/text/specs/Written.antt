@@ -2,13 +2,10 @@
 use Prim.Native.Nat.{ℕ, _+_}
 use Prim.Native.Char.{code as ascii}
 use mathlib.Core.Path.{_≡_}
-use mathlib.Core.List.{List, _∷_, _++_}
-use lib.ListN.{take, drop, length}
+use mathlib.Core.List.{List, _∷_}
+use lib.ListN.{length}
 use Rattle.rules.specs.Lines.{digitsOf}
-
--- the buffer with some bytes from a place on
-unfoldable pub written : List ℕ → ℕ → List ℕ → List ℕ
-written buffer at bytes = take at buffer ++ (bytes ++ drop (at + length bytes) buffer)
+use Rattle.rules.specs.Lists.{written}
 
 -- a number of an answer line, behind its comma
 abbrev pub fieldOf : ℕ → List ℕ

@@ -6,7 +6,8 @@ ghost use lib.ListN.{length};
 ghost use lib.Seq.{slice};
 ghost use Rattle.rules.specs.Lines.{digitsOf};
 ghost use Rattle.text.specs.Commands.{grownBy, Digits, fieldFrom, fieldAt, startsWell, noCommand, commandOf};
-ghost use Rattle.text.specs.Written.{written, fieldOf, Put};
+ghost use Rattle.rules.specs.Lists.{written};
+ghost use Rattle.text.specs.Written.{fieldOf, Put};
 ghost use Rattle.text.specs.Cuts.{endOf, textIn, kept};
 
 // ---- a line taken apart

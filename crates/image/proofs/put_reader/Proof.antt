@@ -1,7 +1,8 @@
 use mathlib.Core.Path.{ap, _∙_}
 use borrow.Author.Needs.{needs}
 use Rattle.rules.specs.Image.{field, bytesOf, conditionNumber}
-use Rattle.image.specs.Bytes.{written, readerBytes}
+use Rattle.rules.specs.Lists.{written}
+use Rattle.image.specs.Bytes.{readerBytes}
 use Rattle.image.proofs.Puts.{written-five}
 use Rattle.image.proofs.put_reader.Statement.{statement}
 use Rattle.image.proofs.put_reader.Tie as tie

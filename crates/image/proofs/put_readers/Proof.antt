@@ -3,8 +3,8 @@ use Prim.Native.Nat.{_-_, _≤_}
 use borrow.Author.Needs.{needs}
 use lib.ListN.{length, take}
 use Rattle.rules.specs.Readers.{noReader}
-use Rattle.rules.specs.Lists.{each}
-use Rattle.image.specs.Bytes.{written, readerBytes}
+use Rattle.rules.specs.Lists.{each, written}
+use Rattle.image.specs.Bytes.{readerBytes}
 use Rattle.image.proofs.Puts.{each-none, each-more, each-all, reader-wide}
 use Rattle.image.proofs.put_readers.Statement.{statement}
 use Rattle.image.proofs.put_readers.Tie as tie

@@ -1,5 +1,5 @@
 use borrow.Author.Needs.{needs}
-use Rattle.image.proofs.Puts.{written-one}
+use Rattle.image.proofs.Puts.{written-byte}
 use Rattle.image.proofs.put_u8.Statement.{statement}
 use Rattle.image.proofs.put_u8.Tie as tie
 
@@ -10,7 +10,7 @@ same-length : tie.Need-same-length
 same-length c = search needs
 
 returns : tie.Need-returns
-returns c = search (written-one, needs)
+returns c = search (written-byte, needs)
 
 pub put-u8-spec : {M : Type 1} → statement M
 put-u8-spec = tie.close (tie.spec slice-write-buffer same-length returns)

@@ -6,7 +6,7 @@ use borrow.Author.Needs.{needs}
 use lib.Dec.{eqb}
 use Rattle.bits.specs.Map.{bit}
 use Rattle.rules.specs.Readers.{lastPage, nextKey, awaits}
-use Rattle.image.proofs.Checks.{and-stop, and-pass}
+use Rattle.rules.proofs.Cases.{and-stop, and-pass}
 use Rattle.image.proofs.reader_awaits.Statement.{statement}
 use Rattle.image.proofs.reader_awaits.Tie as tie
 

@@ -1,6 +1,7 @@
 use borrow.Author.Needs.{needs}
 use Rattle.rules.specs.Image.{readerPlaced}
-use Rattle.image.proofs.Checks.{and-later, call-stop, stops, passes}
+use Rattle.rules.proofs.Cases.{call-stop}
+use Rattle.image.proofs.Checks.{and-later, stops, passes}
 use Rattle.image.proofs.reader_placed.Statement.{statement}
 use Rattle.image.proofs.reader_placed.Tie as tie
 

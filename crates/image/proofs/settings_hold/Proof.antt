@@ -2,7 +2,8 @@ use mathlib.Core.Path.{ap, _∙_}
 use borrow.Author.Needs.{needs}
 use Rattle.rules.specs.Lists.{within}
 use Rattle.rules.specs.Calls.{settingsIn}
-use Rattle.image.proofs.Checks.{and-later, call-stop, call-pass}
+use Rattle.rules.proofs.Cases.{call-stop, call-pass}
+use Rattle.image.proofs.Checks.{and-later}
 use Rattle.image.proofs.settings_hold.Statement.{statement}
 use Rattle.image.proofs.settings_hold.Tie as tie
 

@@ -1,6 +1,5 @@
 -- No text came before the chunk, and the piece is the line; or both are joined in a buffer of their own, and the line is too long or stands there. Assumes
 -- nothing.
-use native.Mathlib.Omega.{arith}
 use Rattle.text.proofs.Keeps.{text-none, kept-low}
 use Rattle.lines.proofs.Taking.{answer-long, answer-short}
 use borrow.Author.Needs.{needs}

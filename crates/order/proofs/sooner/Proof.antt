@@ -9,8 +9,9 @@ use Rattle.rules.specs.Readers.{attached, lastPage}
 use Rattle.rules.specs.Valid.{Placed}
 use Rattle.rules.proofs.Cases.{passed, failed}
 use Rattle.rules.proofs.Valids.{placed-at}
-use Rattle.rules.proofs.LookAheads.{Before, before-is}
-use Rattle.rules.proofs.Candidates.{FirstAbsent, absent-least}
+use Rattle.rules.proofs.LookAheads.{before-is}
+use Rattle.rules.specs.Ranks.{FirstAbsent, Before}
+use Rattle.rules.proofs.Candidates.{absent-least}
 use Rattle.rules.specs.declared.State.{State}
 use Rattle.rules.specs.Views.{stateOf}
 use Rattle.order.specs.Choices.{slotOf}

@@ -1,5 +1,5 @@
 -- The loop's invariant: the chunk is fed so far (`FedTo`), and the buffer has room. The measure is what is left of the chunk. Assumes nothing.
-use Prim.Native.Nat.{_-_, _≤_, _<_}
+use Prim.Native.Nat.{_-_, _<_}
 use mathlib.Core.Path.{_≡_, refl, sym}
 use mathlib.Core.Bool.{true≢false}
 use native.Mathlib.Omega.{arith}

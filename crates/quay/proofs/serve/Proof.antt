@@ -1,6 +1,6 @@
 -- The loop's invariant: the image and the text stand for the program after some input, and the buffers keep their lengths. The measure is the count of
 -- turns. Assumes nothing.
-use mathlib.Core.Path.{_≡_, refl, sym}
+use mathlib.Core.Path.{_≡_, refl}
 use borrow.Author.Needs.{needs}
 use lib.ListN.{length}
 use Rattle.lines.specs.Responses.{Roomy}

@@ -1,0 +1,60 @@
+-- The two orders by numbers, and what a search for their heads keeps: the words in which the code's contracts speak of 01's orders. proofs/Ranks.antt and
+-- proofs/Candidates.antt show that these are the orders. Assumes nothing: these are definitions.
+use Prim.Native.Nat.{ℕ, _+_, _*_, _≤_, _<_}
+use mathlib.Core.Path.{_≡_}
+use mathlib.Core.Bool.{Bool, not, cond, _&&_}
+use lib.Dec.{T}
+use Rattle.bits.specs.Map.{lastBit}
+use Rattle.rules.specs.Pages.{fileOf, pageOf, keyOf, cached, inFetch}
+use Rattle.rules.specs.Readers.{readerAt, attached, lastPage}
+use Rattle.rules.specs.UseTimes.{before, sees, never, useFor, useKey, ahead, seen}
+use Rattle.rules.specs.Orders.{place}
+use Rattle.rules.specs.declared.State.{State}
+use Rattle.rules.specs.declared.Reader.{Reader}
+
+-- ---- what a reader has before it
+
+-- `before`, in its parts
+pub record Before (s : State) (r : Reader) (k : ℕ) : Type 0 where
+  pub here : T (attached r)
+  pub of-file : r .file ≡ fileOf k
+  pub past : r .position < pageOf k
+  pub in-file : pageOf k ≤ lastPage (s .sizes) r
+
+-- ---- the steal order
+
+-- the rank of a page: the higher, the sooner it goes
+unfoldable pub rank : State → ℕ → ℕ
+rank s k = cond (ahead s k) (cond (seen s k) (useKey s k) (never + place k)) (2 * never + place k)
+
+-- a key's number, then the key
+abbrev pub pack : (ℕ → ℕ) → ℕ → ℕ
+pack g k = g k * 8192 + k
+
+-- the last cached one of file f's first n pages; 0 where there is none
+abbrev pub lastCached : State → ℕ → ℕ → ℕ
+lastCached s f n = lastBit (s .cached) (f * 1024) n
+
+-- the last cached one of file f's first n pages, if any, has a rank of at most b
+abbrev pub AtMost : State → ℕ → ℕ → ℕ → Type 0
+AtMost s b f n = 0 < lastCached s f n → rank s (keyOf f (lastCached s f n)) ≤ b
+
+-- ---- the fetch order
+
+-- neither cached nor in fetch
+abbrev pub absent : State → ℕ → Bool
+absent s k = not (cached s k) && not (inFetch s k)
+
+-- k is the first absent page that the reader has before it
+pub record FirstAbsent (s : State) (r : Reader) (k : ℕ) : Type 0 where
+  pub ahead-of : T (before s r k)
+  pub lacking : T (absent s k)
+  pub first : (i : ℕ) → T (before s r i) → pageOf i < pageOf k → T (absent s i) → ⊥
+
+-- slot j's first absent page, if the slot sees it, has for the slot a key of at least b
+abbrev pub AtLeast : State → ℕ → ℕ → Type 0
+AtLeast s b j = (k : ℕ) → T (sees s (readerAt s j) k) → FirstAbsent s (readerAt s j) k → b ≤ useFor s k j
+
+-- no first absent page of the first m slots has a key below b
+abbrev pub NoneBelow : State → ℕ → ℕ → Type 0
+NoneBelow s m b = (j : ℕ) → j < m → AtLeast s b j
