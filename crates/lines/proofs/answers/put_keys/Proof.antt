@@ -1,0 +1,87 @@
+use Prim.Native.Nat.{_-_, _≤_}
+use mathlib.Core.Path.{_≡_, refl}
+use native.Mathlib.Omega.{arith}
+use borrow.Author.Needs.{needs}
+use lib.ListN.{length}
+use Rattle.text.specs.Written.{Put}
+use Rattle.lines.specs.Responses.{pairOf}
+use Rattle.lines.proofs.Rows.{rowOf, row-none, row-room, row-step, keys-room, keys-end}
+use Rattle.lines.proofs.answers.put_keys.Statement.{statement}
+use Rattle.lines.proofs.answers.put_keys.Tie as tie
+
+abbrev Inv-loop : tie.InvT-loop
+Inv-loop out₀ letter keys n at₀ i₀ out at i = (i ≤ n) × (length out ≡ length out₀) × Put out₀ at₀ (rowOf pairOf keys i) out at
+
+abbrev μ-loop : tie.MeasureT-loop
+μ-loop out₀ letter keys n at₀ i₀ out at i = n - i
+
+put-number-requires : tie.Need-put-number-requires Inv-loop μ-loop
+put-number-requires c κs = search needs
+
+loop-holds : tie.Need-loop-holds Inv-loop μ-loop
+loop-holds c = (search needs, refl, row-none _ (c .before .before .before .before .before .before .args .keys .now) _ _)
+
+mul-key : tie.Need-mul-key Inv-loop μ-loop
+mul-key c = search needs
+
+shared-slice-read-key : tie.Need-shared-slice-read-key Inv-loop μ-loop
+shared-slice-read-key c = search needs
+
+file-of-requires : tie.Need-file-of-requires Inv-loop μ-loop
+file-of-requires c κs = search needs
+
+cast-put-pair : tie.Need-cast-put-pair Inv-loop μ-loop
+cast-put-pair c = search needs
+
+page-of-requires : tie.Need-page-of-requires Inv-loop μ-loop
+page-of-requires c κs = search needs
+
+put-pair-requires : tie.Need-put-pair-requires Inv-loop μ-loop
+put-pair-requires c κs =
+    let l = c .before .before .before .before .before .loop in
+    let s = c .before .before .before .before .before .before .before .before .before .before .before .before in
+    let room = keys-room _ _ _ _ _ _ (s .pre .0) (c .before .before .before .before .before .before .before .before .put-number .ensures) (s .pre .1 .1) in
+    rw (c .before .file-of .ensures, c .page-of .ensures) (row-room pairOf _ _ (s .pre .0) _ _ _ _ _ (c .before .before .before .before .loop-test .taken) (omega arith) (l .inv .2) (l .inv .1))
+
+add-i : tie.Need-add-i Inv-loop μ-loop
+add-i c = search needs
+
+loop-less : tie.Need-loop-less Inv-loop μ-loop
+loop-less c = search needs
+
+loop-again : tie.Need-loop-again Inv-loop μ-loop
+loop-again c =
+    let l = c .before .before .before .before .before .before .before .before .loop in
+    let s = c .before .before .before .before .before .before .before .before .before .before .before .before .before .before .before in
+    let room = keys-room _ _ _ _ _ _ (s .pre .0) (c .before .before .before .before .before .before .before .before .before .before .before .put-number .ensures) (s .pre .1 .1) in
+    let pair = rw (c .before .before .before .before .file-of .ensures, c .before .before .before .page-of .ensures) at (c .before .before .put-pair .ensures) in
+    (search needs, search needs, row-step pairOf _ _ (s .pre .0) _ _ _ _ _ (c .before .before .before .before .before .before .before .loop-test .taken) (omega arith) (l .inv .2) _ _ pair)
+
+same-length : tie.Need-same-length Inv-loop μ-loop
+same-length c = search needs
+
+returns : tie.Need-returns Inv-loop μ-loop
+returns c =
+    let l = c .before .loop in
+    let s = c .before .before .before .before .before .before .before .before in
+    keys-end _ _ _ _ _ _ (s .pre .0) (c .before .before .before .before .put-number .ensures) (s .pre .1 .1) _ _ _ (l .inv .0) (c .loop-test .left) (l .inv .2)
+
+pub put-keys-spec : {M : Type 1} → statement M
+put-keys-spec =
+    tie.close
+    (tie.spec
+    Inv-loop
+    μ-loop
+    put-number-requires
+    loop-holds
+    mul-key
+    shared-slice-read-key
+    file-of-requires
+    cast-put-pair
+    page-of-requires
+    put-pair-requires
+    add-i
+    loop-less
+    loop-again
+    same-length
+    returns)

@@ -1,0 +1,21 @@
+use native.Mathlib.Omega.{arith}
+use borrow.Author.Needs.{needs}
+use Rattle.text.proofs.Puts.{digits-length}
+use Rattle.lines.proofs.Rows.{put-first}
+use Rattle.lines.proofs.answers.put_number.Statement.{statement}
+use Rattle.lines.proofs.answers.put_number.Tie as tie
+
+put-byte-requires : tie.Need-put-byte-requires
+put-byte-requires c κs = search needs
+
+put-field-requires : tie.Need-put-field-requires
+put-field-requires c κs = (search needs, omega (arith, c .before .before .before .put-byte .ensures .place, digits-length 10 (c .before .before .before .before .before .before .args .n)))
+
+same-length : tie.Need-same-length
+same-length c = search needs
+
+returns : tie.Need-returns
+returns c = search (put-first, needs)
+
+pub put-number-spec : {M : Type 1} → statement M
+put-number-spec = tie.close (tie.spec put-byte-requires put-field-requires same-length returns)

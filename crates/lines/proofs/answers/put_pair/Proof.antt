@@ -1,0 +1,24 @@
+use native.Mathlib.Omega.{arith}
+use borrow.Author.Needs.{needs}
+use Rattle.lines.proofs.Rows.{pair-length, put-both}
+use Rattle.lines.proofs.answers.put_pair.Statement.{statement}
+use Rattle.lines.proofs.answers.put_pair.Tie as tie
+
+put-field-requires : tie.Need-put-field-requires
+put-field-requires c κs =
+    let s = c .before .before in
+    (search needs, omega (arith, pair-length (s .args .a) (s .args .b)))
+
+put-field-requires-2 : tie.Need-put-field-requires-2
+put-field-requires-2 c κs =
+    let s = c .before .before .before .before .before .before in
+    (search needs, omega (arith, pair-length (s .args .a) (s .args .b), c .before .before .before .put-field .ensures .place))
+
+same-length : tie.Need-same-length
+same-length c = search needs
+
+returns : tie.Need-returns
+returns c = search (put-both, needs)
+
+pub put-pair-spec : {M : Type 1} → statement M
+put-pair-spec = tie.close (tie.spec put-field-requires put-field-requires-2 same-length returns)

@@ -1,0 +1,111 @@
+use mathlib.Core.Path.{_≡_}
+use borrow.Author.Needs.{needs}
+use lib.ListN.{length}
+use Rattle.lines.proofs.Letters.{other-count, field-first, fields-two, fields-three, fields-all}
+use Rattle.lines.proofs.dispatch.obey.Statement.{statement}
+use Rattle.lines.proofs.dispatch.obey.Tie as tie
+
+-- a command has eleven places for fields
+eleven : (s : tie.Start) → length (s .args .c .fields) ≡ 11
+eleven s = search needs
+
+obey-alone-requires : tie.Need-obey-alone-requires
+obey-alone-requires c κs = search needs
+
+array-read-obey-one : tie.Need-array-read-obey-one
+array-read-obey-one c = search needs
+
+obey-one-requires : tie.Need-obey-one-requires
+obey-one-requires c κs = search needs
+
+array-read-obey-two : tie.Need-array-read-obey-two
+array-read-obey-two c = search needs
+
+array-read-obey-two-2 : tie.Need-array-read-obey-two-2
+array-read-obey-two-2 c = search needs
+
+obey-two-requires : tie.Need-obey-two-requires
+obey-two-requires c κs = search needs
+
+array-read-obey-three : tie.Need-array-read-obey-three
+array-read-obey-three c = search needs
+
+array-read-obey-three-2 : tie.Need-array-read-obey-three-2
+array-read-obey-three-2 c = search needs
+
+array-read-obey-three-3 : tie.Need-array-read-obey-three-3
+array-read-obey-three-3 c = search needs
+
+obey-three-requires : tie.Need-obey-three-requires
+obey-three-requires c κs = search needs
+
+obey-eleven-requires : tie.Need-obey-eleven-requires
+obey-eleven-requires c κs = search needs
+
+refuse-requires : tie.Need-refuse-requires
+refuse-requires c κs = search needs
+
+same-length : tie.Need-same-length
+same-length c = search needs
+
+returns : tie.Need-returns
+returns c = rw (c .before .before .before .before .before .before .match .keys1) (c .before .before .obey-alone .ensures)
+
+same-length-2 : tie.Need-same-length-2
+same-length-2 c = search needs
+
+returns-2 : tie.Need-returns-2
+returns-2 c = let x = c .before .before .before .before .before .before .before .before .before .args .c .fields in rw (c .before .before .before .before .before .before .match .keys2, ← field-first x (eleven (c .before .before .before .before .before .before .before .before .before))) (c .before .before .obey-one .ensures)
+
+same-length-3 : tie.Need-same-length-3
+same-length-3 c = search needs
+
+returns-3 : tie.Need-returns-3
+returns-3 c = let x = c .before .before .before .before .before .before .before .before .before .args .c .fields in rw (c .before .before .before .before .before .before .match .keys3, ← fields-two x (eleven (c .before .before .before .before .before .before .before .before .before))) (c .before .before .obey-two .ensures)
+
+same-length-4 : tie.Need-same-length-4
+same-length-4 c = search needs
+
+returns-4 : tie.Need-returns-4
+returns-4 c = let x = c .before .before .before .before .before .before .before .args .c .fields in rw (c .before .before .before .before .match .keys4, ← fields-three x (eleven (c .before .before .before .before .before .before .before))) (c .before .before .obey-three .ensures _ _)
+
+same-length-5 : tie.Need-same-length-5
+same-length-5 c = search needs
+
+returns-5 : tie.Need-returns-5
+returns-5 c = let x = c .before .before .before .before .before .before .before .before .before .args .c .fields in rw (c .before .before .before .before .before .before .match .keys5, ← fields-all x (eleven (c .before .before .before .before .before .before .before .before .before))) (c .before .before .obey-eleven .ensures)
+
+same-length-6 : tie.Need-same-length-6
+same-length-6 c = search needs
+
+returns-6 : tie.Need-returns-6
+returns-6 c = let s = c .before .before .before .before .before .before .before in let other = c .before .before .before .before .match .rest in rw (other-count _ _ (s .args .c .fields) (s .args .c .count) (eleven s) (s .pre .1 .0) (other .0 .0 .0 .0 .1) (other .0 .0 .0 .1) (other .0 .0 .1) (other .0 .1) (other .1)) (c .before .before .refuse .ensures _ _)
+
+pub obey-spec : {M : Type 1} → statement M
+obey-spec =
+    tie.close
+    (tie.spec
+    obey-alone-requires
+    array-read-obey-one
+    obey-one-requires
+    array-read-obey-two
+    array-read-obey-two-2
+    obey-two-requires
+    array-read-obey-three
+    array-read-obey-three-2
+    array-read-obey-three-3
+    obey-three-requires
+    obey-eleven-requires
+    refuse-requires
+    same-length
+    returns
+    same-length-2
+    returns-2
+    same-length-3
+    returns-3
+    same-length-4
+    returns-4
+    same-length-5
+    returns-5
+    same-length-6
+    returns-6)

@@ -1,0 +1,83 @@
+use borrow.Author.Needs.{needs}
+use Rattle.rules.specs.Lines.{obeyed}
+use Rattle.lines.proofs.Letters.{other-alone}
+use Rattle.lines.proofs.Replies.{gives-told}
+use Rattle.lines.proofs.dispatch.obey_alone.Statement.{statement}
+use Rattle.lines.proofs.dispatch.obey_alone.Tie as tie
+
+prefetch-requires : tie.Need-prefetch-requires
+prefetch-requires c κs = search needs
+
+answer-requires : tie.Need-answer-requires
+answer-requires c κs = search needs
+
+steal-requires : tie.Need-steal-requires
+steal-requires c κs = search needs
+
+answer-requires-2 : tie.Need-answer-requires-2
+answer-requires-2 c κs = search needs
+
+show-order-requires : tie.Need-show-order-requires
+show-order-requires c κs = search needs
+
+show-order-requires-2 : tie.Need-show-order-requires-2
+show-order-requires-2 c κs = search needs
+
+refuse-requires : tie.Need-refuse-requires
+refuse-requires c κs = search needs
+
+same-length : tie.Need-same-length
+same-length c = search needs
+
+returns : tie.Need-returns
+unfolding obeyed
+returns c = rw (c .before .before .before .before .before .before .before .match .keys1) (gives-told _ _ _ _ _ (c .before .before .before .before .prefetch .ensures) (c .before .before .answer .ensures _ _))
+
+same-length-2 : tie.Need-same-length-2
+same-length-2 c = search needs
+
+returns-2 : tie.Need-returns-2
+unfolding obeyed
+returns-2 c = rw (c .before .before .before .before .before .before .before .match .keys2) (gives-told _ _ _ _ _ (c .before .before .before .before .steal .ensures) (c .before .before .answer2 .ensures _ _))
+
+same-length-3 : tie.Need-same-length-3
+same-length-3 c = search needs
+
+returns-3 : tie.Need-returns-3
+unfolding obeyed
+returns-3 c = let e = c .before .before .before .before .before .before .match .keys3 in rw e (rw e at (c .before .before .show-order .ensures))
+
+same-length-4 : tie.Need-same-length-4
+same-length-4 c = search needs
+
+returns-4 : tie.Need-returns-4
+unfolding obeyed
+returns-4 c = let e = c .before .before .before .before .before .before .match .keys4 in rw e (rw e at (c .before .before .show-order2 .ensures))
+
+same-length-5 : tie.Need-same-length-5
+same-length-5 c = search needs
+
+returns-5 : tie.Need-returns-5
+returns-5 c = let other = c .before .before .before .before .match .rest in rw (other-alone _ _ (other .0 .0 .0 .1) (other .0 .0 .1) (other .0 .1) (other .1)) (c .before .before .refuse .ensures _ _)
+
+pub obey-alone-spec : {M : Type 1} → statement M
+obey-alone-spec =
+    tie.close
+    (tie.spec
+    prefetch-requires
+    answer-requires
+    steal-requires
+    answer-requires-2
+    show-order-requires
+    show-order-requires-2
+    refuse-requires
+    same-length
+    returns
+    same-length-2
+    returns-2
+    same-length-3
+    returns-3
+    same-length-4
+    returns-4
+    same-length-5
+    returns-5)

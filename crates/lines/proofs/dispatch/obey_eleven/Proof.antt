@@ -1,0 +1,84 @@
+use mathlib.Core.Path.{_≡_}
+use borrow.Author.Needs.{needs}
+use lib.ListN.{length}
+use Rattle.lines.proofs.Letters.{other-eleven, letter-setup, fields-sizes}
+use Rattle.lines.proofs.Replies.{gives-setup}
+use Rattle.lines.proofs.dispatch.obey_eleven.Statement.{statement}
+use Rattle.lines.proofs.dispatch.obey_eleven.Tie as tie
+
+refuse-requires : tie.Need-refuse-requires
+refuse-requires c κs = search needs
+
+same-length : tie.Need-same-length
+same-length c = search needs
+
+returns : tie.Need-returns
+returns c = let s = c .before .before .before .before .before .before in let eleven : length (s .args .t5) ≡ 11 = search needs in rw (other-eleven _ _ (s .args .t5) eleven (c .before .before .before .before .if1 .taken)) (c .before .before .refuse .ensures _ _)
+
+array-read-setup : tie.Need-array-read-setup
+array-read-setup c = search needs
+
+array-read-t18 : tie.Need-array-read-t18
+array-read-t18 c = search needs
+
+array-read-t21 : tie.Need-array-read-t21
+array-read-t21 c = search needs
+
+array-read-t24 : tie.Need-array-read-t24
+array-read-t24 c = search needs
+
+array-read-t27 : tie.Need-array-read-t27
+array-read-t27 c = search needs
+
+array-read-t30 : tie.Need-array-read-t30
+array-read-t30 c = search needs
+
+array-read-setup-2 : tie.Need-array-read-setup-2
+array-read-setup-2 c = search needs
+
+array-read-setup-3 : tie.Need-array-read-setup-3
+array-read-setup-3 c = search needs
+
+array-read-setup-4 : tie.Need-array-read-setup-4
+array-read-setup-4 c = search needs
+
+array-read-setup-5 : tie.Need-array-read-setup-5
+array-read-setup-5 c = search needs
+
+array-read-setup-6 : tie.Need-array-read-setup-6
+array-read-setup-6 c = search needs
+
+setup-requires : tie.Need-setup-requires
+setup-requires c κs = search needs
+
+say-setup-requires : tie.Need-say-setup-requires
+say-setup-requires c κs = search needs
+
+same-length-2 : tie.Need-same-length-2
+same-length-2 c = search needs
+
+returns-2 : tie.Need-returns-2
+returns-2 c = let s = c .before .before .before .before .before .before .before .before .before in let eleven : length (s .args .t5) ≡ 11 = search needs in rw (c .before .before .before .before .before .before .before .if1 .left, letter-setup _ (s .args .t5) eleven, ← fields-sizes (s .args .t5) eleven) (gives-setup _ _ _ _ _ _ (c .before .before .before .before .before .before .setup .ensures) (c .before .before .say-setup .ensures))
+
+pub obey-eleven-spec : {M : Type 1} → statement M
+obey-eleven-spec =
+    tie.close
+    (tie.spec
+    refuse-requires
+    same-length
+    returns
+    array-read-setup
+    array-read-t18
+    array-read-t21
+    array-read-t24
+    array-read-t27
+    array-read-t30
+    array-read-setup-2
+    array-read-setup-3
+    array-read-setup-4
+    array-read-setup-5
+    array-read-setup-6
+    setup-requires
+    say-setup-requires
+    same-length-2
+    returns-2)

@@ -1,0 +1,40 @@
+use borrow.Author.Needs.{needs}
+use Rattle.rules.specs.Lines.{obeyed}
+use Rattle.lines.proofs.Letters.{other-three}
+use Rattle.lines.proofs.Replies.{gives-told}
+use Rattle.lines.proofs.dispatch.obey_three.Statement.{statement}
+use Rattle.lines.proofs.dispatch.obey_three.Tie as tie
+
+attach-requires : tie.Need-attach-requires
+attach-requires c κs = search needs
+
+say-requires : tie.Need-say-requires
+say-requires c κs = search needs
+
+same-length : tie.Need-same-length
+same-length c = search needs
+
+returns : tie.Need-returns
+unfolding obeyed
+returns c = λ a b. rw (c .before .before .before .before .before .if1 .taken) (gives-told _ _ _ _ _ (c .before .before .before .before .attach .ensures .0 a b) (c .before .before .say .ensures a b))
+
+refuse-requires : tie.Need-refuse-requires
+refuse-requires c κs = search needs
+
+same-length-2 : tie.Need-same-length-2
+same-length-2 c = search needs
+
+returns-2 : tie.Need-returns-2
+returns-2 c = λ a b. rw (other-three _ _ _ _ _ (c .before .before .before .before .if1 .left)) (c .before .before .refuse .ensures a b)
+
+pub obey-three-spec : {M : Type 1} → statement M
+obey-three-spec =
+    tie.close
+    (tie.spec
+    attach-requires
+    say-requires
+    same-length
+    returns
+    refuse-requires
+    same-length-2
+    returns-2)

@@ -1,0 +1,23 @@
+use mathlib.Core.Path.{sym, subst, ap, _∙_}
+use borrow.Author.Needs.{needs}
+use Rattle.rules.proofs.Kept.{idle-valid}
+use Rattle.rules.specs.Image.{imageOf}
+use Rattle.rules.specs.Valid.{Valid}
+use Rattle.lines.proofs.stream.idle_image.Statement.{statement}
+use Rattle.lines.proofs.stream.idle_image.Tie as tie
+
+idle-requires : tie.Need-idle-requires
+idle-requires c κs = search needs
+
+slice-aggregate-save-whole : tie.Need-slice-aggregate-save-whole
+slice-aggregate-save-whole c = search needs
+
+save-whole-requires : tie.Need-save-whole-requires
+save-whole-requires c κs = (subst Valid (sym (c .before .before .before .idle .ensures)) idle-valid, search needs)
+
+returns : tie.Need-returns
+returns c = c .before .save-whole .ensures ∙ ap imageOf (c .before .before .before .before .before .idle .ensures)
+
+pub idle-image-spec : {M : Type 1} → statement M
+idle-image-spec =
+    tie.close (tie.spec idle-requires slice-aggregate-save-whole save-whole-requires returns)
