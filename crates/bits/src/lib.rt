@@ -1,3 +1,5 @@
+// A map of pages: one bit a page in 64-bit words. Bits are counted by ones of words, and found by zeros of words.
+
 ghost use mathlib.Core.Path.{_≡_};
 ghost use mathlib.Core.List.{[], _∷_};
 ghost use Prim.Native.Nat.{_+_, _-_, _*_, _/_, _<_, _≤_, _%_};

@@ -1,3 +1,5 @@
+// The heads of the two orders: the page to give up, and the next page to fetch. No walk over pages, no sort.
+
 use rules::Condition;
 use rules::Reader;
 use rules::View;
