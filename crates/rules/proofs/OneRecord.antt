@@ -51,20 +51,3 @@ unfolding attachOf readOf readRunning detachOf
 one-record (attaching file pace) s slot = search (cond-all (One s slot), condition-all (One s slot), same-state, record-set) depth 12
 one-record reading s slot = search (cond-all (One s slot), condition-all (One s slot), same-state, record-set) depth 12
 one-record detaching s slot = search (cond-all (One s slot), condition-all (One s slot), same-state, record-set) depth 12
-
--- not Read
-abbrev pub NoRead : SlotCall → Type 0
-NoRead (attaching file pace) = Unit {0}
-NoRead reading = ⊥
-NoRead detaching = Unit {0}
-
--- the reply's state has the same pages in fetch
-abbrev Still : State → Reply → Type 0
-Still s r = r .state .fetching ≡ s .fetching
-
--- Attach and Detach open no fetch and close none
-pub same-fetches : (c : SlotCall) → NoRead c → (s : State) (slot : ℕ) → callOf (callAt c slot) s .state .fetching ≡ s .fetching
-unfolding attachOf detachOf
-same-fetches (attaching file pace) _ s slot = search (cond-all (Still s), condition-all (Still s)) depth 12
-same-fetches reading h s slot = absurd h
-same-fetches detaching _ s slot = search (cond-all (Still s), condition-all (Still s)) depth 12

@@ -68,26 +68,12 @@ rest-one sep (b ∷ bs) =
     rw (split-on sep b bs e, split-some sep bs)
     (one-on sep b (firstPiece sep bs) (drop 1 (split sep bs)) e (rw (split-some sep bs) at (rest-one sep bs))))
 
--- what takes a piece that others follow as it is, takes all such pieces so
-front-append : (f : List (List ℕ) → List (List ℕ)) → ((x y : List ℕ) (ys : List (List ℕ)) → f (x ∷ (y ∷ ys)) ≡ x ∷ f (y ∷ ys))
-    → (xs : List (List ℕ)) (p : List ℕ) (ps : List (List ℕ)) → f (xs ++ p ∷ ps) ≡ xs ++ f (p ∷ ps)
-front-append f step [] p ps = refl
-front-append f step (x ∷ []) p ps = step x p ps
-front-append f step (x ∷ (y ∷ ys)) p ps = step x y (ys ++ p ∷ ps) ∙ ap (λ zs. x ∷ zs) (front-append f step (y ∷ ys) p ps)
-
-complete-append : (xs : List (List ℕ)) (p : List ℕ) (ps : List (List ℕ)) → complete (xs ++ p ∷ ps) ≡ xs ++ complete (p ∷ ps)
-unfolding complete
-complete-append = front-append complete (λ x y ys. refl)
-
+-- pieces that others follow are lines as they are
 lines-append : (xs : List (List ℕ)) (p : List ℕ) (ps : List (List ℕ)) → linesOf (xs ++ p ∷ ps) ≡ xs ++ linesOf (p ∷ ps)
 unfolding linesOf
-lines-append = front-append linesOf (λ x y ys. refl)
-
-rest-append : (xs : List (List ℕ)) (p : List ℕ) (ps : List (List ℕ)) → rest (xs ++ p ∷ ps) ≡ rest (p ∷ ps)
-unfolding rest
-rest-append [] p ps = refl
-rest-append (x ∷ []) p ps = refl
-rest-append (x ∷ (y ∷ ys)) p ps = rest-append (y ∷ ys) p ps
+lines-append [] p ps = refl
+lines-append (x ∷ []) p ps = refl
+lines-append (x ∷ (y ∷ ys)) p ps = ap (λ zs. x ∷ zs) (lines-append (y ∷ ys) p ps)
 
 module _ (sep : ℕ) (a b : List ℕ) where
   -- the pieces of a whole are the complete ones of its first part, then those of the rest with the second part behind it
@@ -96,14 +82,6 @@ module _ (sep : ℕ) (a b : List ℕ) where
 
   two : split sep (a ++ b) ≡ complete (split sep a) ++ firstPiece sep (rest (split sep a) ++ b) ∷ drop 1 (split sep (rest (split sep a) ++ b))
   two = split-two ∙ ap (λ ps. complete (split sep a) ++ ps) (split-some sep (rest (split sep a) ++ b))
-
-  -- so are the complete pieces
-  pub complete-two : complete (split sep (a ++ b)) ≡ complete (split sep a) ++ complete (split sep (rest (split sep a) ++ b))
-  complete-two = rw (two, complete-append, ← split-some)
-
-  -- the rest of a whole
-  pub rest-two : rest (split sep (a ++ b)) ≡ rest (split sep (rest (split sep a) ++ b))
-  rest-two = rw (two, rest-append, ← split-some)
 
   -- the lines of a whole are the complete lines of its first part, then those of the rest with the second part behind it
   pub lines-two : linesOf (split sep (a ++ b)) ≡ complete (split sep a) ++ linesOf (split sep (rest (split sep a) ++ b))
@@ -127,13 +105,6 @@ obeying-two : (f : Fed) (xs ys : List (List ℕ)) (t u : List ℕ) → obeying (
 obeying-two f xs ys t u = rw (state-append, answers-append, append-assoc)
 
 -- ---- chunks one after the other
-
--- two chunks, or both in one
-pub feed-two : (f : Fed) (a b : List ℕ) → feed (feed f a) b ≡ feed f (a ++ b)
-unfolding feed
-feed-two f a b =
-    rw (← append-assoc (f .text) a b, complete-two (ascii "\n") (f .text ++ a) b, rest-two (ascii "\n") (f .text ++ a) b)
-    (obeying-two f (complete (split (ascii "\n") (f .text ++ a))) _ [] _)
 
 -- what the output will be if so many more bytes are all that comes
 wholeOutput : Fed → List ℕ → List ℕ
