@@ -11,7 +11,7 @@ use Rattle.text.proofs.Feeds.{feed-none}
 use Rattle.lines.specs.Responses.{Roomy}
 use Rattle.lines.specs.Sessions.{noText, feedOf, StandsIn}
 use Rattle.lines.proofs.Stands.{stands-on, stands-first}
-use Rattle.quay.specs.Runs.{Stands, Within, Told, told, handed}
+use Rattle.quay.specs.Program.{Stands, Within, Handed, handedIn, handedOf}
 use Rattle.quay.specs.declared.Input.{Input}
 use Rattle.quay.specs.declared.Input.the-variants.{Bytes}
 
@@ -34,14 +34,14 @@ fed-none image text chunk s = record { stands = s; left = λ f at. (f, at, refl)
 
 module _ (image text chunk now held : List ℕ) (next : ℕ) (k : FedTo image text chunk now held next) where
   module _ (out : List ℕ) (roomy : Roomy out) (inside : next < length chunk) (after kept said : List ℕ) (to : ℕ)
-      (e : told after kept said to ≡ handed (feedOf now held chunk next out)) where
+      (e : handedIn after kept said to ≡ handedOf (feedOf now held chunk next out)) where
     -- what the call left stands for the program that it was fed to
     on : (f : Fed) → StandsIn now held f → (g : Fed) × StandsIn after kept g × (feed f (drop next chunk) ≡ feed g (drop to chunk)) × (next < to)
     on f at =
         let s = stands-on now held chunk next out f at roomy (omega arith) in
-        let image-is = ap (λ (t : Told). t .image) e in
-        let text-is = ap (λ (t : Told). t .text) e in
-        let next-is = ap (λ (t : Told). t .next) e in
+        let image-is = ap (λ (t : Handed). t .image) e in
+        let text-is = ap (λ (t : Handed). t .text) e in
+        let next-is = ap (λ (t : Handed). t .next) e in
         (s .to, rw (image-is, text-is) (s .stands), rw next-is (s .rest), rw next-is (s .more inside))
 
     -- some more

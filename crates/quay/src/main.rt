@@ -11,7 +11,7 @@ ghost use Rattle.rules.specs.Image.{imageOf};
 ghost use Rattle.text.specs.Streams.{Fed, feed};
 ghost use Rattle.lines.specs.Responses.{Roomy};
 ghost use Rattle.lines.specs.Sessions.{noText, feedOf, finishOf, StandsIn};
-ghost use Rattle.quay.specs.Runs.{Stands, Within, answersIn, handed, told};
+ghost use Rattle.quay.specs.Program.{Stands, Within, answersIn, handedOf, handedIn};
 
 // What reading came to: so many bytes, the end of the input, or a failure.
 enum Input {
@@ -59,7 +59,7 @@ fn answers<'a>(
     out: &'a mut [u8],
 ) -> &'a [u8]
     ensures { λ r.
-        ⌜ told (now (image .exit)) (now (text .exit)) (now r) (now (next .exit)) ≡ handed (feedOf (now (image .entry)) (now (text .entry)) (now (chunk .entry)) (now (next .entry)) (now (out .entry))) ⌝ }
+        ⌜ handedIn (now (image .exit)) (now (text .exit)) (now r) (now (next .exit)) ≡ handedOf (feedOf (now (image .entry)) (now (text .entry)) (now (chunk .entry)) (now (next .entry)) (now (out .entry))) ⌝ }
 {
     let from = *next;
     let r = lines::feed(image, text, chunk, from, out);

@@ -1,7 +1,7 @@
 -- What is handed back is what the call left at the front of the buffer. Assumes nothing.
 use mathlib.Core.Path.{sym, ap}
 use lib.Seq.{length-take-le}
-use Rattle.quay.specs.Runs.{handed}
+use Rattle.quay.specs.Program.{handedOf}
 use Rattle.lines.proofs.Taking.{feed-fits}
 use borrow.Author.Needs.{needs}
 use Rattle.quay.proofs.answers.Statement.{statement}
@@ -20,7 +20,7 @@ same-length-2 : tie.Need-same-length-2
 same-length-2 c = search needs
 
 returns : tie.Need-returns
-returns c = ap handed (c .before .before .before .before .before .before .before .before .feed .ensures)
+returns c = ap handedOf (c .before .before .before .before .before .before .before .before .feed .ensures)
 
 pub answers-spec : {M : Type 1} → statement M
 answers-spec =

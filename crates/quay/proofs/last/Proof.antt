@@ -1,7 +1,7 @@
 -- What is handed back is what the call left at the front of the buffer. Assumes nothing.
 use mathlib.Core.Path.{sym, ap}
 use lib.Seq.{length-take-le}
-use Rattle.quay.specs.Runs.{answersIn}
+use Rattle.quay.specs.Program.{answersIn}
 use Rattle.lines.proofs.Taking.{finish-fits}
 use borrow.Author.Needs.{needs}
 use Rattle.quay.proofs.last.Statement.{statement}

@@ -22,15 +22,15 @@ abbrev pub answersIn : Left → List ℕ
 answersIn l = take (l .len) (l .out)
 
 -- the lent buffers after some of a chunk was fed, the answers that are handed to the writer, and the place
-pub record Told : Type 0 where
+pub record Handed : Type 0 where
   pub image : List ℕ
   pub text : List ℕ
   pub answers : List ℕ
   pub next : ℕ
 
-abbrev pub told : List ℕ → List ℕ → List ℕ → ℕ → Told
-told image text answers next = record { image = image; text = text; answers = answers; next = next }
+abbrev pub handedIn : List ℕ → List ℕ → List ℕ → ℕ → Handed
+handedIn image text answers next = record { image = image; text = text; answers = answers; next = next }
 
 -- what feeding leaves
-abbrev pub handed : Taken → Told
-handed t = told (t .left .image) (t .left .text) (answersIn (t .left)) (t .next)
+abbrev pub handedOf : Taken → Handed
+handedOf t = handedIn (t .left .image) (t .left .text) (answersIn (t .left)) (t .next)
