@@ -2,3 +2,4 @@ pub mod Words
 pub mod Bits
 pub mod Counts
 pub mod Finds
+pub mod Joins

@@ -26,7 +26,8 @@ use Rattle.order.specs.Absent.{nextAbsent}
 use Rattle.order.specs.Searches.{lower, Over, Ranked, Raised, Highest, Soonest}
 use Rattle.order.specs.declared.Pick.{Pick}
 use Rattle.order.proofs.Slots.{lower-least}
-use Rattle.order.proofs.Lacks.{joined, joined-clear, absent-joined}
+use Rattle.bits.proofs.Joins.{joined, joined-clear}
+use Rattle.order.proofs.Lacks.{absent-joined}
 
 -- ---- the victim
 

@@ -5,7 +5,8 @@ use native.Mathlib.Omega.{arith}
 use borrow.Author.Needs.{needs}
 use borrow.Author.Tests.{ltb-true, ltb-false}
 use Rattle.bits.proofs.Finds.{Without, Next, without-join, next-at, next-none}
-use Rattle.order.proofs.Lacks.{joined, absent-joined, clear-word}
+use Rattle.bits.proofs.Joins.{joined}
+use Rattle.order.proofs.Lacks.{absent-joined, clear-word}
 use Rattle.order.proofs.next_absent.Statement.{statement}
 use Rattle.order.proofs.next_absent.Tie as tie
 
