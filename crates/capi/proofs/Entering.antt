@@ -9,7 +9,7 @@ use lib.ListN.{getD, length}
 use mir.Syntax.{w8}
 use mir.Val.{Fits}
 use Rattle.rules.specs.Valid.{Valid}
-use Rattle.rules.specs.Image.{imageOf, restoreOf}
+use Rattle.rules.specs.Image.{imageLength, imageOf, restoreOf}
 use Rattle.rules.specs.Entries.{code, carriedOut, Call, callOf, Entered, entered, enter}
 use Rattle.rules.proofs.Images.{done-length, done-or-not, restore-refused, lent-valid}
 use Rattle.rules.proofs.Enters.{enter-unrestored, enter-restored}
@@ -50,7 +50,7 @@ module _ (image : List ℕ) (r : Reply) (restored : r ≡ restoreOf image) where
 
       module _ (t : not ok ≡ false) (q : Reply) (called : q ≡ callOf c (r .state)) where
         -- what the end of the entry asks for
-        pub entry-ready : Lent image → Valid (q .state) × (length image ≡ 2208)
+        pub entry-ready : Lent image → Valid (q .state) × (length image ≡ imageLength)
         entry-ready lent = (rw called (kept c (r .state) (entry-valid lent)), done-length image (done t))
 
         -- the end of the entry gives what the rule says

@@ -7,6 +7,7 @@ ghost use lib.ListN.{length};
 ghost use Rattle.rules.specs.Views.{stateOf, replyOf};
 ghost use Rattle.rules.specs.Pages.{keyOf};
 ghost use Rattle.rules.specs.Valid.{Valid};
+ghost use Rattle.rules.specs.Image.{imageLength};
 ghost use Rattle.rules.specs.Entries.{code, carriedOut, attach, detach, read, arrive, lost, prefetch, steal, run, entered, enter};
 
 // What an entry returns for a buffer that is no image: Restore's refusal.
@@ -65,7 +66,7 @@ fn carried_out(a: Answer) -> bool
 
 // A refusal leaves the buffer; after any other answer it holds the state.
 fn finish<'a>(r: Outcome, cached: &'a [u64; 128], fetching: &'a [u64; 128], image: &mut [u8]) -> u64
-    requires { ⌜ Valid (stateOf (r .view) (now cached) (now fetching)) × (length (now image) ≡ 2208) ⌝ }
+    requires { ⌜ Valid (stateOf (r .view) (now cached) (now fetching)) × (length (now image) ≡ imageLength) ⌝ }
     ensures { λ n. ⌜ record { number = n; image = now (image .exit) } ≡ entered (now (image .entry)) (replyOf r (now (cached .entry)) (now (fetching .entry))) ⌝ }
 {
     let answer = r.answer;

@@ -8,10 +8,10 @@ use lib.Arith.{mod-mul}
 use lib.ListN.{length, getD, take, set, length-append, take-append-drop}
 use lib.Seq.{length-take-le, take-all, take-suc}
 use Rattle.rules.specs.Lists.{each, written}
-use Rattle.rules.specs.Image.{Field, bytesOf}
+use Rattle.rules.specs.Image.{Field, bytesOf, encoded}
 use Rattle.rules.proofs.Parts.{length-each}
 use Rattle.rules.proofs.Numbers.{bytes-length}
-use Rattle.image.specs.Bytes.{encoded, readerBytes}
+use Rattle.image.specs.Bytes.{readerBytes}
 use Rattle.rules.specs.declared.Reader.{Reader}
 use Rattle.rules.proofs.Lists.{each-append, written-one, written-more}
 

@@ -15,17 +15,18 @@ use Rattle.rules.specs.Lists.{range, every, within}
 use Rattle.rules.specs.Pages.{size, cached, Page, cachedPages}
 use Rattle.rules.specs.Schedules.{num, count}
 use Rattle.rules.specs.Calls.{reply, refused, settingsIn, idle}
-use Rattle.rules.specs.Image.{stateFrom, slotHolds, keyHolds, accepts, restoreOf}
+use Rattle.rules.specs.Image.{stateFrom, slotHolds, keyHolds, accepts, restoreOf, imageNumbers, imageLength, restored}
 use Rattle.rules.proofs.Cases.{passed}
 use Rattle.rules.proofs.Tests.{or-left}
 use Rattle.rules.proofs.Members.{range-at}
 use Rattle.rules.proofs.Parts.{every-all}
 use Rattle.rules.proofs.Counts.{pages-count}
 use Rattle.rules.proofs.Accepts.{settings-in, key-in, unset}
-use Rattle.rules.proofs.Offsets.{setting-at, gap-at}
-use Rattle.image.specs.Bytes.{numberAt, numbersAt, numbers, stateIn}
+use Rattle.rules.proofs.Images.{upgraded-same}
+use Rattle.rules.proofs.Offsets.{setting-at}
+use Rattle.image.specs.Bytes.{numberAt, stateIn}
 use Rattle.image.specs.Tests.{SizesLow, settingsFrom, gapsHold, apartAt, sizeHolds}
-use Rattle.image.proofs.States.{sizes-read, cached-long}
+use Rattle.image.proofs.States.{cached-long}
 use Rattle.image.proofs.MapTests.{maps-keys}
 use Rattle.rules.specs.declared.State.{State}
 use Rattle.rules.specs.declared.Answer.the-variants.{Done}
@@ -64,11 +65,11 @@ abbrev pub verdict : List ℕ → List ℕ → List ℕ → List ℕ → Bool
 verdict image sizes cached fetching =
     settingsFrom image sizes
     && (within 0 15 (numberAt 1 image 2)
-    && (every (slotHolds (numbers image)) (range 0 16)
+    && (every (slotHolds (imageNumbers image)) (range 0 16)
     && (every (apartAt cached fetching) (range 0 8192)
     && (every (sizeHolds sizes cached fetching) (range 0 8)
     && (leb (ones cached 0 8192) (numberAt 2 image 0)
-    && gapsHold image)))))
+    && gapsHold (imageNumbers image))))))
 
 module _ (image : List ℕ) where
   -- the numbers before the sizes
@@ -84,24 +85,22 @@ module _ (image : List ℕ) where
   unfolding stateFrom
   settings-same sizes = λ i. settingsIn (sym (setting-at image 0 (omega arith)) i) (sym (setting-at image 3 (omega arith)) i) (sym (setting-at image 4 (omega arith)) i) sizes
 
-  verdict-accepts : verdict image (stateIn image .sizes) (stateIn image .cached) (stateIn image .fetching) ≡ accepts (numbers image)
+  verdict-accepts : verdict image (stateIn image .sizes) (stateIn image .cached) (stateIn image .fetching) ≡ accepts (imageNumbers image)
   unfolding accepts
   verdict-accepts =
       let s = stateIn image in
       let keys = every (keyHolds s) (range 0 8192) in
-      let gap = ap (λ n. eqb n 0) (sym (setting-at image 2 (omega arith))) in
-      let gap-maps = ap (λ n. eqb n 0) (sym (gap-at image)) in
       rw (settings-same (s .sizes), turn-same, frames-same)
-      (and-same (settingsIn (s .frames) (s .«look_ahead») (s .«fetch_time») (s .sizes)) _ _ (λ h. ap (λ r. within 0 15 (s .turn) && (every (slotHolds (numbers image)) (range 0 16) && r))
-      (sym (and-assoc (every (apartAt (s .cached) (s .fetching)) (range 0 8192)) (every (sizeHolds (s .sizes) (s .cached) (s .fetching)) (range 0 8)) (leb (ones (s .cached) 0 8192) (s .frames) && gapsHold image))
+      (and-same (settingsIn (s .frames) (s .«look_ahead») (s .«fetch_time») (s .sizes)) _ _ (λ h. ap (λ r. within 0 15 (s .turn) && (every (slotHolds (imageNumbers image)) (range 0 16) && r))
+      (sym (and-assoc (every (apartAt (s .cached) (s .fetching)) (range 0 8192)) (every (sizeHolds (s .sizes) (s .cached) (s .fetching)) (range 0 8)) (leb (ones (s .cached) 0 8192) (s .frames) && gapsHold (imageNumbers image)))
       ∙ rw (maps-keys s) (and-same keys _ _ (λ k. ap₂ _&&_
       (ap (λ n. leb n (s .frames)) (sym (pages-ones s (cached-long image) (settings-in (s .frames) (s .«look_ahead») (s .«fetch_time») (s .sizes) h .sizes-in) k)))
-      (ap₂ _&&_ gap gap-maps))))))
+      refl)))))
 
   -- the tests are those of the rule
-  pub verdict-is : (sizes cached fetching : List ℕ) → sizes ≡ numbersAt 2 image 12 8 → cached ≡ stateIn image .cached → fetching ≡ stateIn image .fetching
-      → (t : Bool) → t ≡ verdict image sizes cached fetching → t ≡ accepts (numbers image)
-  verdict-is sizes cached fetching z c f t e = e ∙ rw (z, sizes-read image, c, f) verdict-accepts
+  pub verdict-is : (sizes cached fetching : List ℕ) → sizes ≡ stateIn image .sizes → cached ≡ stateIn image .cached → fetching ≡ stateIn image .fetching
+      → (t : Bool) → t ≡ verdict image sizes cached fetching → t ≡ accepts (imageNumbers image)
+  verdict-is sizes cached fetching z c f t e = e ∙ rw (z, c, f) verdict-accepts
 
 -- the sizes are low where the test of the settings passes
 pub sizes-low : (image sizes : List ℕ) (t : Bool) → t ≡ settingsFrom image sizes → not t ≡ false → SizesLow sizes
@@ -119,16 +118,16 @@ room-pass words frames number n e f l = le-leb (ones words 0 8192) frames (rw (e
 
 module _ (image : List ℕ) where
   -- another length
-  pub restore-short : (length image ≡ 2208 → ⊥) → refused idle 13 ≡ restoreOf image
-  unfolding restoreOf
-  restore-short n = rw (ne-eqb (length image) 2208 n)
+  pub restore-short : (length image ≡ imageLength → ⊥) → refused idle 13 ≡ restoreOf image
+  unfolding restoreOf restored
+  restore-short n = rw (upgraded-same image, ne-eqb (length image) imageLength n)
 
   -- the tests fail
-  pub restore-stop : length image ≡ 2208 → (t : Bool) → t ≡ accepts (numbers image) → not t ≡ true → refused idle 13 ≡ restoreOf image
-  unfolding restoreOf
-  restore-stop l t e n = rw (l, ← e, not-true t n)
+  pub restore-stop : length image ≡ imageLength → (t : Bool) → t ≡ accepts (imageNumbers image) → not t ≡ true → refused idle 13 ≡ restoreOf image
+  unfolding restoreOf restored
+  restore-stop l t e n = rw (upgraded-same image, l, ← e, not-true t n)
 
   -- they pass
-  pub restore-pass : length image ≡ 2208 → (t : Bool) (s : State) → t ≡ accepts (numbers image) → not t ≡ false → s ≡ stateIn image → reply s Done ≡ restoreOf image
-  unfolding restoreOf
-  restore-pass l t s e n read = rw (l, ← e, not-false t n, read)
+  pub restore-pass : length image ≡ imageLength → (t : Bool) (s : State) → t ≡ accepts (imageNumbers image) → not t ≡ false → s ≡ stateIn image → reply s Done ≡ restoreOf image
+  unfolding restoreOf restored
+  restore-pass l t s e n read = rw (upgraded-same image, l, ← e, not-false t n, read)

@@ -6,10 +6,11 @@ use native.Mathlib.Omega.{arith}
 use lib.ListN.{length, length-append, drop-of-length-le}
 use Rattle.rules.specs.Lists.{each, written}
 use Rattle.rules.specs.Valid.{Valid}
-use Rattle.rules.specs.Image.{Field, field, readerFields, layout, bytesOf, imageOf}
+use Rattle.rules.specs.Image.{Field, field, readerFields, layout, bytesOf, imageOf, encoded, tail, imageLength}
 use Rattle.rules.proofs.Parts.{each-map, length-each}
 use Rattle.rules.proofs.Numbers.{bytes-length}
-use Rattle.image.specs.Bytes.{encoded, readerBytes, settingsFields}
+use Rattle.rules.proofs.Offsets.{sizesAt, readersAt, gapAt, cachedAt, fetchingAt}
+use Rattle.image.specs.Bytes.{readerBytes, settingsFields}
 use Rattle.rules.proofs.Lists.{each-append}
 use Rattle.image.proofs.Puts.{written-next, reader-wide}
 use Rattle.rules.specs.declared.State.{State}
@@ -21,11 +22,11 @@ unfolding each readerBytes
 encoded-readers [] = refl
 encoded-readers (r ∷ rs) = each-append (λ f. bytesOf (f .width) (f .value)) (readerFields r) (each readerFields rs) ∙ ap (λ l. encoded (readerFields r) ++ l) (encoded-readers rs)
 
--- the first 12 bytes
+-- the bytes before the sizes
 abbrev settings : State → List ℕ
 settings s = encoded (settingsFields (s .frames) (s .turn) (s .«look_ahead») (s .«fetch_time»))
 
-settings-long : (s : State) → length (settings s) ≡ 12
+settings-long : (s : State) → length (settings s) ≡ sizesAt
 unfolding each bytesOf
 settings-long s = refl
 
@@ -34,8 +35,11 @@ image-parts : (s : State)
 unfolding imageOf layout each
 image-parts s =
     let g : Field → List ℕ = λ f. bytesOf (f .width) (f .value) in
-    let words = each-append g (map (field 8) (s .cached)) (map (field 8) (s .fetching)) ∙ ap₂ _++_ (each-map g (field 8) (s .cached)) (each-map g (field 8) (s .fetching)) in
-    let maps : List Field = field 4 0 ∷ (map (field 8) (s .cached) ++ map (field 8) (s .fetching)) in
+    let end : List Field = map (field 8) (s .fetching) ++ tail s in
+    -- there is no tail yet
+    let ends = ap (each g) (append-nil (map (field 8) (s .fetching))) ∙ each-map g (field 8) (s .fetching) in
+    let words = each-append g (map (field 8) (s .cached)) end ∙ ap₂ _++_ (each-map g (field 8) (s .cached)) ends in
+    let maps : List Field = field 4 0 ∷ (map (field 8) (s .cached) ++ end) in
     let slots = each-append g (each readerFields (s .readers)) maps ∙ ap₂ _++_ (encoded-readers (s .readers)) (ap (λ l. bytesOf 4 0 ++ l) words) in
     let rest : List Field = each readerFields (s .readers) ++ maps in
     let sizes = each-append g (map (field 2) (s .sizes)) rest ∙ ap₂ _++_ (each-map g (field 2) (s .sizes)) slots in
@@ -49,13 +53,13 @@ written-all l bs e = ap (λ r. bs ++ r) (drop-of-length-le l {i = 0 + length bs}
 
 -- the parts, put one after the other, are the image
 module _ (s : State) (v : Valid s) where
-  pub written-image : (l k m n o p q : List ℕ) → length l ≡ 2208
+  pub written-image : (l k m n o p q : List ℕ) → length l ≡ imageLength
       → k ≡ written l 0 (settings s)
-      → m ≡ written k 12 (each (bytesOf 2) (s .sizes))
-      → n ≡ written m 28 (each readerBytes (s .readers))
-      → o ≡ written n 156 (bytesOf 4 0)
-      → p ≡ written o 160 (each (bytesOf 8) (s .cached))
-      → q ≡ written p 1184 (each (bytesOf 8) (s .fetching))
+      → m ≡ written k sizesAt (each (bytesOf 2) (s .sizes))
+      → n ≡ written m readersAt (each readerBytes (s .readers))
+      → o ≡ written n gapAt (bytesOf 4 0)
+      → p ≡ written o cachedAt (each (bytesOf 8) (s .cached))
+      → q ≡ written p fetchingAt (each (bytesOf 8) (s .fetching))
       → q ≡ imageOf s
   written-image l k m n o p q fits e₁ e₂ e₃ e₄ e₅ e₆ =
       let a : List ℕ = settings s in
@@ -69,14 +73,14 @@ module _ (s : State) (v : Valid s) where
       let d-long : length d ≡ 4 = bytes-length 4 0 in
       let x-long : length x ≡ 1024 = omega (arith, length-each (bytesOf 8) 8 (bytes-length 8) (s .cached), v .cached-map .all) in
       let y-long : length y ≡ 1024 = omega (arith, length-each (bytesOf 8) 8 (bytes-length 8) (s .fetching), v .fetching-map .all) in
-      let l₂ : length (a ++ b) ≡ 28 = omega (arith, length-append a b, settings-long s) in
-      let l₃ : length ((a ++ b) ++ c) ≡ 156 = omega (arith, length-append (a ++ b) c) in
-      let l₄ : length (((a ++ b) ++ c) ++ d) ≡ 160 = omega (arith, length-append ((a ++ b) ++ c) d) in
-      let l₅ : length ((((a ++ b) ++ c) ++ d) ++ x) ≡ 1184 = omega (arith, length-append (((a ++ b) ++ c) ++ d) x) in
-      let l₆ : length (((((a ++ b) ++ c) ++ d) ++ x) ++ y) ≡ 2208 = omega (arith, length-append ((((a ++ b) ++ c) ++ d) ++ x) y) in
-      let s₂ = written-next l k m 0 12 a b (settings-long s) e₁ e₂ (omega arith) in
-      let s₃ = written-next l m n 0 28 (a ++ b) c l₂ s₂ e₃ (omega arith) in
-      let s₄ = written-next l n o 0 156 ((a ++ b) ++ c) d l₃ s₃ e₄ (omega arith) in
-      let s₅ = written-next l o p 0 160 (((a ++ b) ++ c) ++ d) x l₄ s₄ e₅ (omega arith) in
-      let s₆ = written-next l p q 0 1184 ((((a ++ b) ++ c) ++ d) ++ x) y l₅ s₅ e₆ (omega arith) in
+      let l₂ : length (a ++ b) ≡ readersAt = omega (arith, length-append a b, settings-long s) in
+      let l₃ : length ((a ++ b) ++ c) ≡ gapAt = omega (arith, length-append (a ++ b) c) in
+      let l₄ : length (((a ++ b) ++ c) ++ d) ≡ cachedAt = omega (arith, length-append ((a ++ b) ++ c) d) in
+      let l₅ : length ((((a ++ b) ++ c) ++ d) ++ x) ≡ fetchingAt = omega (arith, length-append (((a ++ b) ++ c) ++ d) x) in
+      let l₆ : length (((((a ++ b) ++ c) ++ d) ++ x) ++ y) ≡ imageLength = omega (arith, length-append ((((a ++ b) ++ c) ++ d) ++ x) y) in
+      let s₂ = written-next l k m 0 sizesAt a b (settings-long s) e₁ e₂ (omega arith) in
+      let s₃ = written-next l m n 0 readersAt (a ++ b) c l₂ s₂ e₃ (omega arith) in
+      let s₄ = written-next l n o 0 gapAt ((a ++ b) ++ c) d l₃ s₃ e₄ (omega arith) in
+      let s₅ = written-next l o p 0 cachedAt (((a ++ b) ++ c) ++ d) x l₄ s₄ e₅ (omega arith) in
+      let s₆ = written-next l p q 0 fetchingAt ((((a ++ b) ++ c) ++ d) ++ x) y l₅ s₅ e₆ (omega arith) in
       s₆ ∙ written-all l (((((a ++ b) ++ c) ++ d) ++ x) ++ y) (omega arith) ∙ simp append-assoc (image-parts s)

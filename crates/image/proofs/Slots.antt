@@ -9,11 +9,11 @@ use lib.Dec.{eqb}
 use Rattle.rules.specs.Lists.{within}
 use Rattle.rules.specs.Calls.{noFile}
 use Rattle.rules.specs.Readers.{awaits}
-use Rattle.rules.specs.Image.{readerNumber, readerFrom, readerPlaced, readerHolds, slotHolds}
+use Rattle.rules.specs.Image.{readerNumber, readerFrom, readerPlaced, readerHolds, slotHolds, imageNumbers}
 use Rattle.rules.proofs.Cases.{passed, file-there, call-stop, call-pass}
 use Rattle.rules.proofs.Tests.{is-true, and-first}
-use Rattle.rules.proofs.Offsets.{slot-at}
-use Rattle.image.specs.Bytes.{numberAt, numbers, stateIn}
+use Rattle.rules.proofs.Offsets.{readersAt, slot-at}
+use Rattle.image.specs.Bytes.{numberAt, stateIn}
 use Rattle.image.specs.Tests.{among, FromImage}
 use Rattle.image.proofs.Checks.{and-later}
 use Rattle.rules.specs.declared.State.{State}
@@ -58,31 +58,31 @@ holds-among s r = refl
 
 module _ (image sizes fetching : List ℕ) (h : FromImage image sizes fetching) (j : ℕ) (low : j < 16) where
   -- the test of the record
-  record-holds : (r : Reader) (t : Bool) → r ≡ readerFrom (numbers image) j → t ≡ readerHolds (among sizes fetching) r
-      → t ≡ readerHolds (stateIn image) (readerFrom (numbers image) j)
-  record-holds r t e f = f ∙ rw (h .sizes-read, h .fetching-read, e) (holds-among (stateIn image) (readerFrom (numbers image) j))
+  record-holds : (r : Reader) (t : Bool) → r ≡ readerFrom (imageNumbers image) j → t ≡ readerHolds (among sizes fetching) r
+      → t ≡ readerHolds (stateIn image) (readerFrom (imageNumbers image) j)
+  record-holds r t e f = f ∙ rw (h .sizes-read, h .fetching-read, e) (holds-among (stateIn image) (readerFrom (imageNumbers image) j))
 
   -- the test of the condition's number
-  condition-holds : (n : ℕ) (t : Bool) → n ≡ numberAt 1 image (28 + 8 * j) → t ≡ within 0 2 n → t ≡ within 0 2 (readerNumber (numbers image) j 0)
+  condition-holds : (n : ℕ) (t : Bool) → n ≡ numberAt 1 image (readersAt + 8 * j) → t ≡ within 0 2 n → t ≡ within 0 2 (readerNumber (imageNumbers image) j 0)
   condition-holds n t e f =
-      let start : 28 + 8 * j + 0 ≡ 28 + 8 * j = omega arith in
+      let start : readersAt + 8 * j + 0 ≡ readersAt + 8 * j = omega arith in
       f ∙ ap (within 0 2) (e ∙ ap (numberAt 1 image) (sym start) ∙ sym (slot-at image j 0 low (omega arith)))
 
   -- the condition is out of range
-  pub slot-stop : (n : ℕ) (t : Bool) → n ≡ numberAt 1 image (28 + 8 * j) → t ≡ within 0 2 n → not t ≡ true → false ≡ slotHolds (numbers image) j
+  pub slot-stop : (n : ℕ) (t : Bool) → n ≡ numberAt 1 image (readersAt + 8 * j) → t ≡ within 0 2 n → not t ≡ true → false ≡ slotHolds (imageNumbers image) j
   unfolding slotHolds
-  slot-stop n t e f m = call-stop (within 0 2 (readerNumber (numbers image) j 0)) _ t (condition-holds n t e f) m
+  slot-stop n t e f m = call-stop (within 0 2 (readerNumber (imageNumbers image) j 0)) _ t (condition-holds n t e f) m
 
   -- the record does not hold
-  pub slot-out : (r : Reader) (t : Bool) → r ≡ readerFrom (numbers image) j → t ≡ readerHolds (among sizes fetching) r → not t ≡ true → false ≡ slotHolds (numbers image) j
+  pub slot-out : (r : Reader) (t : Bool) → r ≡ readerFrom (imageNumbers image) j → t ≡ readerHolds (among sizes fetching) r → not t ≡ true → false ≡ slotHolds (imageNumbers image) j
   unfolding slotHolds
-  slot-out r t e f m = and-later (within 0 2 (readerNumber (numbers image) j 0)) _ (call-stop (readerHolds (stateIn image) (readerFrom (numbers image) j)) _ t (record-holds r t e f) m)
+  slot-out r t e f m = and-later (within 0 2 (readerNumber (imageNumbers image) j 0)) _ (call-stop (readerHolds (stateIn image) (readerFrom (imageNumbers image) j)) _ t (record-holds r t e f) m)
 
   -- the 0 bytes are left
-  pub slot-last : (n o : ℕ) (r : Reader) (t u : Bool) → n ≡ numberAt 1 image (28 + 8 * j) → t ≡ within 0 2 n → not t ≡ false
-      → r ≡ readerFrom (numbers image) j → u ≡ readerHolds (among sizes fetching) r → not u ≡ false
-      → o ≡ numberAt 2 image (28 + 8 * j + 6) → eqb o 0 ≡ slotHolds (numbers image) j
+  pub slot-last : (n o : ℕ) (r : Reader) (t u : Bool) → n ≡ numberAt 1 image (readersAt + 8 * j) → t ≡ within 0 2 n → not t ≡ false
+      → r ≡ readerFrom (imageNumbers image) j → u ≡ readerHolds (among sizes fetching) r → not u ≡ false
+      → o ≡ numberAt 2 image (readersAt + 8 * j + 6) → eqb o 0 ≡ slotHolds (imageNumbers image) j
   unfolding slotHolds
   slot-last n o r t u e f m g k l z =
-      call-pass (within 0 2 (readerNumber (numbers image) j 0)) _ t _ (condition-holds n t e f) m
-      (call-pass (readerHolds (stateIn image) (readerFrom (numbers image) j)) _ u _ (record-holds r u g k) l (ap (λ x. eqb x 0) (z ∙ sym (slot-at image j 4 low (omega arith)))))
+      call-pass (within 0 2 (readerNumber (imageNumbers image) j 0)) _ t _ (condition-holds n t e f) m
+      (call-pass (readerHolds (stateIn image) (readerFrom (imageNumbers image) j)) _ u _ (record-holds r u g k) l (ap (λ x. eqb x 0) (z ∙ sym (slot-at image j 4 low (omega arith)))))

@@ -8,11 +8,11 @@ use lib.Seq.{ext-getD}
 use Rattle.rules.specs.Lists.{range, each}
 use Rattle.rules.specs.Calls.{idle}
 use Rattle.rules.specs.Views.{stateOf, viewOf}
-use Rattle.rules.specs.Image.{layout, conditionOf, readerFrom, stateFrom}
+use Rattle.rules.specs.Image.{layout, conditionOf, readerFrom, stateFrom, imageNumbers}
 use Rattle.rules.proofs.Parts.{part-listed, length-listed, getD-listed}
 use Rattle.rules.proofs.Tables.{numbers-length}
-use Rattle.rules.proofs.Offsets.{setting-at, size-at, slot-at, cached-at, fetching-at}
-use Rattle.image.specs.Bytes.{numberAt, numberFrom, numbersAt, numbers, stateIn}
+use Rattle.rules.proofs.Offsets.{sizesAt, readersAt, cachedAt, fetchingAt, setting-at, size-at, slot-at, cached-at, fetching-at}
+use Rattle.image.specs.Bytes.{numberAt, numberFrom, numbersAt, stateIn}
 use Rattle.rules.specs.declared.View.{View}
 use Rattle.rules.specs.declared.Reader.{Reader}
 use Rattle.rules.specs.declared.Condition.{Condition}
@@ -25,31 +25,31 @@ waiting-of (suc zero) z o = absurd (o refl)
 waiting-of (suc (suc n)) z o = refl
 
 module _ (image : List ℕ) where
-  numbers-long : length (numbers image) ≡ 350
+  numbers-long : length (imageNumbers image) ≡ 350
   unfolding layout each
   numbers-long = numbers-length (layout idle) image
 
   -- numbers of one width that stand one after the other are those of the table
-  pub part-at : (w place o n : ℕ) → ((k : ℕ) → k < n → getD (numbers image) (o + k) 0 ≡ numberFrom w image place k) → o + n ≤ 350
-      → numbersAt w image place n ≡ take n (drop o (numbers image))
+  pub part-at : (w place o n : ℕ) → ((k : ℕ) → k < n → getD (imageNumbers image) (o + k) 0 ≡ numberFrom w image place k) → o + n ≤ 350
+      → numbersAt w image place n ≡ take n (drop o (imageNumbers image))
   part-at w place o n at fits =
       let f : ℕ → ℕ = numberFrom w image place in
-      let g : ℕ → ℕ = λ k. getD (numbers image) (o + k) 0 in
+      let g : ℕ → ℕ = λ k. getD (imageNumbers image) (o + k) 0 in
       ext-getD 0 (map f (range 0 n)) (map g (range 0 n)) (length-listed f n ∙ sym (length-listed g n)) (λ k l.
       let low : k < n = omega (arith, length-listed f n) in
       getD-listed f n k 0 low ∙ sym (at k low) ∙ sym (getD-listed g n k 0 low))
-      ∙ sym (part-listed (numbers image) 0 o n (omega (arith, numbers-long)))
+      ∙ sym (part-listed (imageNumbers image) 0 o n (omega (arith, numbers-long)))
 
   -- the record of a slot
   pub reader-read : (condition : Condition) (j number file pace position : ℕ) → j < 16
       → condition ≡ conditionOf number
-      → number ≡ numberAt 1 image (28 + 8 * j)
-      → file ≡ numberAt 1 image (28 + 8 * j + 1)
-      → pace ≡ numberAt 2 image (28 + 8 * j + 2)
-      → position ≡ numberAt 2 image (28 + 8 * j + 4)
-      → _≡_ {A = Reader} (record { condition = condition; file = file; pace = pace; position = position }) (readerFrom (numbers image) j)
+      → number ≡ numberAt 1 image (readersAt + 8 * j)
+      → file ≡ numberAt 1 image (readersAt + 8 * j + 1)
+      → pace ≡ numberAt 2 image (readersAt + 8 * j + 2)
+      → position ≡ numberAt 2 image (readersAt + 8 * j + 4)
+      → _≡_ {A = Reader} (record { condition = condition; file = file; pace = pace; position = position }) (readerFrom (imageNumbers image) j)
   reader-read condition j number file pace position l e e₀ e₁ e₂ e₃ =
-      let start : 28 + 8 * j + 0 ≡ 28 + 8 * j = omega arith in
+      let start : readersAt + 8 * j + 0 ≡ readersAt + 8 * j = omega arith in
       let first = slot-at image j 0 l (omega arith) ∙ ap (numberAt 1 image) start in
       λ i.
       record {
@@ -60,21 +60,21 @@ module _ (image : List ℕ) where
       }
 
   -- the sizes and the maps
-  pub sizes-read : numbersAt 2 image 12 8 ≡ stateIn image .sizes
+  pub sizes-read : numbersAt 2 image sizesAt 8 ≡ stateIn image .sizes
   unfolding stateFrom
-  sizes-read = part-at 2 12 5 8 (size-at image) (omega arith)
+  sizes-read = part-at 2 sizesAt 5 8 (size-at image) (omega arith)
 
-  pub cached-read : numbersAt 8 image 160 128 ≡ stateIn image .cached
+  pub cached-read : numbersAt 8 image cachedAt 128 ≡ stateIn image .cached
   unfolding stateFrom
-  cached-read = part-at 8 160 94 128 (cached-at image) (omega arith)
+  cached-read = part-at 8 cachedAt 94 128 (cached-at image) (omega arith)
 
-  pub fetching-read : numbersAt 8 image 1184 128 ≡ stateIn image .fetching
+  pub fetching-read : numbersAt 8 image fetchingAt 128 ≡ stateIn image .fetching
   unfolding stateFrom
-  fetching-read = part-at 8 1184 222 128 (fetching-at image) (omega arith)
+  fetching-read = part-at 8 fetchingAt 222 128 (fetching-at image) (omega arith)
 
   -- the cached map has 128 words
   pub cached-long : length (stateIn image .cached) ≡ 128
-  cached-long = ap length (sym cached-read) ∙ length-listed (numberFrom 8 image 160) 128
+  cached-long = ap length (sym cached-read) ∙ length-listed (numberFrom 8 image cachedAt) 128
 
   -- the state but its maps
   pub view-read : (frames turn look time : ℕ) (sizes : List ℕ) (readers : List Reader)
@@ -82,8 +82,8 @@ module _ (image : List ℕ) where
       → turn ≡ numberAt 1 image 2
       → look ≡ numberAt 4 image 4
       → time ≡ numberAt 4 image 8
-      → sizes ≡ numbersAt 2 image 12 8
-      → readers ≡ map (readerFrom (numbers image)) (range 0 16)
+      → sizes ≡ stateIn image .sizes
+      → readers ≡ map (readerFrom (imageNumbers image)) (range 0 16)
       → _≡_ {A = View} (record { frames = frames; turn = turn; «look_ahead» = look; «fetch_time» = time; sizes = sizes; readers = readers }) (viewOf (stateIn image))
   unfolding stateFrom
   view-read frames turn look time sizes readers e₀ e₁ e₃ e₄ e₅ r = λ i.
@@ -92,11 +92,11 @@ module _ (image : List ℕ) where
         turn = (e₁ ∙ sym (setting-at image 1 (omega arith))) i;
         «look_ahead» = (e₃ ∙ sym (setting-at image 3 (omega arith))) i;
         «fetch_time» = (e₄ ∙ sym (setting-at image 4 (omega arith))) i;
-        sizes = (e₅ ∙ sizes-read) i;
+        sizes = e₅ i;
         readers = r i;
       }
 
   -- with its maps it is whole
-  pub state-read : (v : View) (cached fetching : List ℕ) → v ≡ viewOf (stateIn image) → cached ≡ numbersAt 8 image 160 128 → fetching ≡ numbersAt 8 image 1184 128
+  pub state-read : (v : View) (cached fetching : List ℕ) → v ≡ viewOf (stateIn image) → cached ≡ numbersAt 8 image cachedAt 128 → fetching ≡ numbersAt 8 image fetchingAt 128
       → stateOf v cached fetching ≡ stateIn image
   state-read v cached fetching e c f = λ i. stateOf (e i) ((c ∙ cached-read) i) ((f ∙ fetching-read) i)

@@ -2,15 +2,10 @@
 use Prim.Native.Nat.{ℕ, _+_, _*_}
 use mathlib.Core.List.{List, [], _∷_, map}
 use lib.ListN.{take, drop}
-use Rattle.rules.specs.Lists.{range, each}
-use Rattle.rules.specs.Calls.{idle}
-use Rattle.rules.specs.Image.{Field, field, readerFields, layout, bytesOf, numberOf, numbersIn, stateFrom}
+use Rattle.rules.specs.Lists.{range}
+use Rattle.rules.specs.Image.{Field, field, readerFields, encoded, numberOf, imageNumbers, stateFrom}
 use Rattle.rules.specs.declared.State.{State}
 use Rattle.rules.specs.declared.Reader.{Reader}
-
--- the bytes of some fields, one field after the other
-abbrev pub encoded : List Field → List ℕ
-encoded = each (λ f. bytesOf (f .width) (f .value))
 
 -- the bytes of a slot's record
 unfoldable pub readerBytes : Reader → List ℕ
@@ -32,10 +27,6 @@ numberFrom width image at k = numberAt width image (at + width * k)
 abbrev pub numbersAt : ℕ → List ℕ → ℕ → ℕ → List ℕ
 numbersAt width image at n = map (numberFrom width image at) (range 0 n)
 
--- the numbers of an image, by the table's widths
-abbrev pub numbers : List ℕ → List ℕ
-numbers = numbersIn (layout idle)
-
 -- the state that an image's numbers are of
 abbrev pub stateIn : List ℕ → State
-stateIn image = stateFrom (numbers image)
+stateIn image = stateFrom (imageNumbers image)

@@ -8,6 +8,7 @@ use lib.Dec.{eqb}
 use Rattle.bits.specs.Map.{bit}
 use Rattle.rules.specs.Lists.{range, every}
 use Rattle.rules.specs.Calls.{settingsIn, idle}
+use Rattle.rules.specs.Image.{imageLength}
 use Rattle.image.specs.Bytes.{numberAt, stateIn}
 use Rattle.rules.specs.declared.State.{State}
 
@@ -27,7 +28,7 @@ among sizes fetching =
 
 -- these sizes and these fetches are those of the image
 pub record FromImage (image sizes fetching : List ℕ) : Type 0 where
-  pub long : length image ≡ 2208
+  pub long : length image ≡ imageLength
   pub sizes-read : sizes ≡ stateIn image .sizes
   pub fetching-read : fetching ≡ stateIn image .fetching
 
@@ -39,9 +40,9 @@ SizesLow sizes = (f : ℕ) → getD sizes f 0 ≤ 1024
 abbrev pub settingsFrom : List ℕ → List ℕ → Bool
 settingsFrom image sizes = settingsIn (numberAt 2 image 0) (numberAt 4 image 4) (numberAt 4 image 8) sizes
 
--- the 0 bytes after the turn and before the maps
+-- the numbers after the turn and before the maps are 0
 abbrev pub gapsHold : List ℕ → Bool
-gapsHold image = eqb (numberAt 1 image 3) 0 && eqb (numberAt 4 image 156) 0
+gapsHold numbers = eqb (getD numbers 2 0) 0 && eqb (getD numbers 93 0) 0
 
 -- the page of key k is not in both maps
 abbrev pub apartAt : List ℕ → List ℕ → ℕ → Bool

@@ -11,14 +11,28 @@ ghost use Rattle.rules.specs.Valid.{Valid};
 ghost use Rattle.rules.specs.Views.{stateOf, viewOf, replyOf};
 ghost use Rattle.rules.specs.Calls.{refused, idle as idleState};
 ghost use Rattle.rules.specs.Readers.{noReader, awaits};
-ghost use Rattle.rules.specs.Image.{bytesOf, conditionNumber, conditionOf, readerFrom, imageOf, saveOf, readerPlaced, readerHolds, slotHolds, accepts, restoreOf};
-ghost use Rattle.image.specs.Bytes.{encoded, readerBytes, settingsFields, numberAt, numbersAt, numbers, stateIn};
+ghost use Rattle.rules.specs.Image.{bytesOf, conditionNumber, conditionOf, readerFrom, imageOf, saveOf, readerPlaced, readerHolds, slotHolds, accepts, restoreOf, encoded, imageNumbers, imageLength};
+ghost use Rattle.image.specs.Bytes.{readerBytes, settingsFields, numberAt, numbersAt, stateIn};
 ghost use Rattle.image.specs.Tests.{among, FromImage, SizesLow, settingsFrom, gapsHold, apartAt, clearAt, clearAbove, sizeHolds};
 use rules::Answer;
 use rules::Condition;
 use rules::Outcome;
 use rules::Reader;
 use rules::View;
+
+// ---- the table: 01's length of an image, and where its parts stand
+
+pub const IMAGE_LENGTH: usize = 2208;
+
+const SIZES_AT: usize = 12;
+
+const READERS_AT: usize = 28;
+
+const GAP_AT: usize = 156;
+
+const CACHED_AT: usize = 160;
+
+const FETCHING_AT: usize = 1184;
 
 // ---- numbers as bytes, the lowest first
 
@@ -139,7 +153,7 @@ fn put_words(buffer: &mut [u8], at: usize, words: &[u64; 128])
     }
 }
 
-// Writes frames, turn, 0, L and T: the first 12 bytes.
+// Writes frames, turn, 0, L and T: the bytes before the sizes.
 fn put_settings(buffer: &mut [u8], frames: u16, turn: u8, look_ahead: u32, fetch_time: u32)
     requires { ⌜ 12 ≤ length (now buffer) ⌝ }
     ensures { λ _. ⌜ now (buffer .exit) ≡ written (now (buffer .entry)) 0 (encoded (settingsFields frames turn «look_ahead» «fetch_time»)) ⌝ }
@@ -153,16 +167,16 @@ fn put_settings(buffer: &mut [u8], frames: u16, turn: u8, look_ahead: u32, fetch
 
 // Save into a buffer that is as long as an image.
 pub fn save_whole<'a>(v: View, cached: &'a [u64; 128], fetching: &'a [u64; 128], buffer: &mut [u8])
-    requires { ⌜ Valid (stateOf v (now cached) (now fetching)) × (length (now buffer) ≡ 2208) ⌝ }
+    requires { ⌜ Valid (stateOf v (now cached) (now fetching)) × (length (now buffer) ≡ imageLength) ⌝ }
     ensures { λ _. ⌜ now (buffer .exit) ≡ imageOf (stateOf v (now (cached .entry)) (now (fetching .entry))) ⌝ }
 {
     put_settings(buffer, v.frames, v.turn, v.look_ahead, v.fetch_time);
-    put_sizes(buffer, 12, &v.sizes);
+    put_sizes(buffer, SIZES_AT, &v.sizes);
     let readers = v.readers;
-    put_readers(buffer, 28, readers);
-    put_u32(buffer, 156, 0);
-    put_words(buffer, 160, cached);
-    put_words(buffer, 1184, fetching);
+    put_readers(buffer, READERS_AT, readers);
+    put_u32(buffer, GAP_AT, 0);
+    put_words(buffer, CACHED_AT, cached);
+    put_words(buffer, FETCHING_AT, fetching);
 }
 
 pub fn save<'a>(
@@ -174,10 +188,10 @@ pub fn save<'a>(
     requires { ⌜ Valid (stateOf v (now cached) (now fetching)) ⌝ }
     ensures { λ r. ⌜ record { answer = r; buffer = now (buffer .exit) } ≡ saveOf (stateOf v (now (cached .entry)) (now (fetching .entry))) (now (buffer .entry)) ⌝ }
 {
-    if buffer.len() < 2208 {
+    if buffer.len() < IMAGE_LENGTH {
         return Answer::Refused(12);
     }
-    save_whole(v, cached, fetching, &mut buffer[..2208]);
+    save_whole(v, cached, fetching, &mut buffer[..IMAGE_LENGTH]);
     Answer::Done
 }
 
@@ -195,10 +209,10 @@ fn condition_of(n: u8) -> Condition
 
 // The record of a slot.
 fn reader_in(image: &[u8], slot: usize) -> Reader
-    requires { ⌜ (length (now image) ≡ 2208) × (slot < 16) ⌝ }
-    ensures { λ r. ⌜ r ≡ readerFrom (numbers (now (image .entry))) slot ⌝ }
+    requires { ⌜ (length (now image) ≡ imageLength) × (slot < 16) ⌝ }
+    ensures { λ r. ⌜ r ≡ readerFrom (imageNumbers (now (image .entry))) slot ⌝ }
 {
-    let at = 28 + 8 * slot;
+    let at = READERS_AT + 8 * slot;
     let condition = condition_of(get_u8(image, at));
     Reader {
         condition,
@@ -221,8 +235,8 @@ fn no_readers() -> [Reader; 16]
 }
 
 fn readers_in(image: &[u8]) -> [Reader; 16]
-    requires { ⌜ length (now image) ≡ 2208 ⌝ }
-    ensures { λ r. ⌜ r ≡ map (readerFrom (numbers (now (image .entry)))) (range 0 16) ⌝ }
+    requires { ⌜ length (now image) ≡ imageLength ⌝ }
+    ensures { λ r. ⌜ r ≡ map (readerFrom (imageNumbers (now (image .entry)))) (range 0 16) ⌝ }
 {
     let mut readers = no_readers();
     let mut j: usize = 0;
@@ -235,13 +249,13 @@ fn readers_in(image: &[u8]) -> [Reader; 16]
 }
 
 fn sizes_in(image: &[u8]) -> [u16; 8]
-    requires { ⌜ 28 ≤ length (now image) ⌝ }
-    ensures { λ r. ⌜ r ≡ numbersAt 2 (now (image .entry)) 12 8 ⌝ }
+    requires { ⌜ length (now image) ≡ imageLength ⌝ }
+    ensures { λ r. ⌜ r ≡ stateIn (now (image .entry)) .sizes ⌝ }
 {
     let mut sizes = [0u16; 8];
     let mut f: usize = 0;
     while f < 8 {
-        let n = get_u16(image, 12 + 2 * f);
+        let n = get_u16(image, SIZES_AT + 2 * f);
         sizes[f] = n;
         f += 1;
     }
@@ -277,7 +291,7 @@ fn idle() -> View
 
 // All of an image's state but the maps.
 fn view_in(image: &[u8]) -> View
-    requires { ⌜ length (now image) ≡ 2208 ⌝ }
+    requires { ⌜ length (now image) ≡ imageLength ⌝ }
     ensures { λ r. ⌜ r ≡ viewOf (stateIn (now (image .entry))) ⌝ }
 {
     let sizes = sizes_in(image);
@@ -325,7 +339,7 @@ fn sizes_hold(sizes: &[u16; 8]) -> bool
 }
 
 fn settings_hold(image: &[u8], sizes: &[u16; 8]) -> bool
-    requires { ⌜ (length (now image) ≡ 2208) × (length (now sizes) ≡ 8) ⌝ }
+    requires { ⌜ (length (now image) ≡ imageLength) × (length (now sizes) ≡ 8) ⌝ }
     ensures { λ r. ⌜ r ≡ settingsFrom (now (image .entry)) (now (sizes .entry)) ⌝ }
 {
     if !is_within(1, 1024, get_u16(image, 0) as u32) {
@@ -402,9 +416,9 @@ fn reader_holds(r: Reader, sizes: &[u16; 8], fetching: &[u64; 128]) -> bool
 // A slot: its condition is in range, its record holds, its two 0 bytes are 0.
 fn slot_holds(image: &[u8], slot: usize, sizes: &[u16; 8], fetching: &[u64; 128]) -> bool
     requires { ⌜ FromImage (now image) (now sizes) (now fetching) × SizesLow (now sizes) × (slot < 16) ⌝ }
-    ensures { λ r. ⌜ r ≡ slotHolds (numbers (now (image .entry))) slot ⌝ }
+    ensures { λ r. ⌜ r ≡ slotHolds (imageNumbers (now (image .entry))) slot ⌝ }
 {
-    let at = 28 + 8 * slot;
+    let at = READERS_AT + 8 * slot;
     if !is_within(0, 2, get_u8(image, at) as u32) {
         return false;
     }
@@ -416,7 +430,7 @@ fn slot_holds(image: &[u8], slot: usize, sizes: &[u16; 8], fetching: &[u64; 128]
 
 fn slots_hold(image: &[u8], sizes: &[u16; 8], fetching: &[u64; 128]) -> bool
     requires { ⌜ FromImage (now image) (now sizes) (now fetching) × SizesLow (now sizes) ⌝ }
-    ensures { λ r. ⌜ r ≡ every (slotHolds (numbers (now (image .entry)))) (range 0 16) ⌝ }
+    ensures { λ r. ⌜ r ≡ every (slotHolds (imageNumbers (now (image .entry)))) (range 0 16) ⌝ }
 {
     let mut j: usize = 0;
     while j < 16 {
@@ -499,19 +513,19 @@ fn files_hold<'a>(sizes: &[u16; 8], cached: &'a [u64; 128], fetching: &'a [u64; 
 
 // The 0 bytes that are no slot's are 0.
 fn gaps_hold(image: &[u8]) -> bool
-    requires { ⌜ length (now image) ≡ 2208 ⌝ }
-    ensures { λ r. ⌜ r ≡ gapsHold (now (image .entry)) ⌝ }
+    requires { ⌜ length (now image) ≡ imageLength ⌝ }
+    ensures { λ r. ⌜ r ≡ gapsHold (imageNumbers (now (image .entry))) ⌝ }
 {
     if get_u8(image, 3) != 0 {
         return false;
     }
-    get_u32(image, 156) == 0
+    get_u32(image, GAP_AT) == 0
 }
 
 // None of the grounds for 13 but the length. The maps are those of the image.
 fn accepted<'a>(image: &[u8], cached: &'a [u64; 128], fetching: &'a [u64; 128]) -> bool
-    requires { ⌜ (length (now image) ≡ 2208) × (now cached ≡ stateIn (now image) .cached) × (now fetching ≡ stateIn (now image) .fetching) ⌝ }
-    ensures { λ r. ⌜ r ≡ accepts (numbers (now (image .entry))) ⌝ }
+    requires { ⌜ (length (now image) ≡ imageLength) × (now cached ≡ stateIn (now image) .cached) × (now fetching ≡ stateIn (now image) .fetching) ⌝ }
+    ensures { λ r. ⌜ r ≡ accepts (imageNumbers (now (image .entry))) ⌝ }
 {
     let sizes = sizes_in(image);
     if !settings_hold(image, &sizes) {
@@ -553,11 +567,11 @@ fn refuse(cached: &mut [u64; 128], fetching: &mut [u64; 128]) -> Outcome
 pub fn restore(image: &[u8], cached: &mut [u64; 128], fetching: &mut [u64; 128]) -> Outcome
     ensures { λ r. ⌜ replyOf r (now (cached .exit)) (now (fetching .exit)) ≡ restoreOf (now (image .entry)) ⌝ }
 {
-    if image.len() != 2208 {
+    if image.len() != IMAGE_LENGTH {
         return refuse(cached, fetching);
     }
-    read_words(cached, image, 160);
-    read_words(fetching, image, 1184);
+    read_words(cached, image, CACHED_AT);
+    read_words(fetching, image, FETCHING_AT);
     if !accepted(image, cached, fetching) {
         return refuse(cached, fetching);
     }

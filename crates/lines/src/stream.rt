@@ -96,12 +96,12 @@ fn go_through(
 // ---- on lent buffers
 
 // The image of the idle state, with which the program starts.
-pub fn idle_image() -> [u8; 2208]
+pub fn idle_image() -> [u8; image::IMAGE_LENGTH]
     ensures { λ r. ⌜ r ≡ imageOf idle ⌝ }
 {
     let cached = [0u64; 128];
     let fetching = [0u64; 128];
-    let mut image = [0u8; 2208];
+    let mut image = [0u8; image::IMAGE_LENGTH];
     image::save_whole(calls::idle(), &cached, &fetching, &mut image);
     image
 }

@@ -18,7 +18,7 @@ use Rattle.rules.specs.Image.{readerNumber, readerFrom, stateFrom, reade
 use Rattle.rules.proofs.Tests.{less, key, and-both, and-first, and-second, or-left, or-right}
 use Rattle.rules.proofs.Members.{range-in, range-at}
 use Rattle.rules.proofs.Parts.{Always, always-take, always-drop, all-always, always-all, every-all, all-every}
-use Rattle.rules.proofs.Layouts.{condition-low, Lengths, valid-lengths, numbersOf, slot-number, reader-numbers, gap-number, state-numbers, Table, lengths-from, reader-from}
+use Rattle.rules.proofs.Layouts.{condition-low, Lengths, valid-lengths, stateNumbers, slot-number, reader-numbers, gap-number, state-numbers, Table, lengths-from, reader-from}
 use Rattle.rules.specs.declared.State.{State}
 use Rattle.rules.specs.declared.Reader.{Reader}
 use Rattle.rules.specs.declared.Condition.{Condition}
@@ -321,7 +321,7 @@ module _ (s : State) (v : Valid s) where
   lengths : Lengths s
   lengths = valid-lengths s v
 
-  slot-accepted : (j : ℕ) → j < 16 → SlotIn (numbersOf s) j
+  slot-accepted : (j : ℕ) → j < 16 → SlotIn (stateNumbers s) j
   slot-accepted j l =
       record {
         condition-in = rw (slot-number s lengths j 0 l (omega arith)) (condition-low (readerAt s j .condition));
@@ -337,7 +337,7 @@ module _ (s : State) (v : Valid s) where
       go false p f q h = q h .there
 
   -- a valid state's numbers are accepted
-  pub valid-accepted : Accepted (numbersOf s)
+  pub valid-accepted : Accepted (stateNumbers s)
   valid-accepted =
       let back = sym (state-numbers s lengths) in
       record {

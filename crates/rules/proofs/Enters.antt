@@ -9,7 +9,7 @@ use Rattle.rules.specs.Calls.{reply}
 use Rattle.rules.specs.Image.{imageOf, restoreOf}
 use Rattle.rules.specs.Entries.{code, carriedOut, Call, callOf, entered, enter}
 use Rattle.rules.proofs.Numbers.{Bytes}
-use Rattle.rules.proofs.Images.{done-or-not, restore-refused, restore-save, save-restore, restored-valid}
+use Rattle.rules.proofs.Images.{done-or-not, restore-refused, restore-save, upgraded-same, save-restore, restored-valid}
 use Rattle.rules.proofs.Kept.{kept}
 use Rattle.rules.proofs.Refusals.{refused-same}
 use Rattle.rules.specs.declared.Reply.{Reply}
@@ -68,7 +68,7 @@ module _ (c : Call) (image : List ℕ) where
   enter-saves bytes d =
       ap (λ r. r .image) (enter-restored d)
       ∙ answer-all (λ l. l ≡ imageOf (callOf c (restoreOf image .state) .state)) (callOf c (restoreOf image .state) .answer) _ image refl
-      (λ n e. sym (save-restore image bytes d) ∙ ap imageOf (sym (refused-same c (restoreOf image .state) n e)))
+      (λ n e. sym (save-restore image bytes d ∙ upgraded-same image) ∙ ap imageOf (sym (refused-same c (restoreOf image .state) n e)))
 
   -- so the next entry finds an image that it takes
   pub enter-again : Bytes image → restoreOf image .answer ≡ Done → restoreOf (enter c image .image) ≡ reply (callOf c (restoreOf image .state) .state) Done

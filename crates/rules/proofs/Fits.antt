@@ -7,7 +7,7 @@ use Rattle.rules.specs.Lists.{each}
 use Rattle.rules.specs.Pages.{size}
 use Rattle.rules.specs.Readers.{noReader, readerAt}
 use Rattle.rules.specs.Valid.{ReaderIn, Valid}
-use Rattle.rules.specs.Image.{Field, field, readerFields, layout}
+use Rattle.rules.specs.Image.{Field, field, readerFields, tail, layout}
 use Rattle.rules.proofs.Parts.{Always, always-append, always-map, always-each}
 use Rattle.rules.proofs.Tables.{Fit, Fits}
 use Rattle.rules.proofs.Layouts.{condition-low}
@@ -44,17 +44,22 @@ module _ (s : State) (v : Valid s) where
       let low = reader-fits s r (r .condition) (v .sizes-high) (v .readers-in j) in
       all-fit (readerFields r) (omega (arith, condition-low (r .condition)))
 
+  tail-fits : Fits (tail s)
+  tail-fits = all-fit (tail s) tt
+
   -- a valid state's values fit their widths
   pub layout-fits : Fits (layout s)
   unfolding layout
   layout-fits =
       let settings : List Field = field 2 (s .frames) ∷ field 1 (s .turn) ∷ field 1 0 ∷ field 4 (s .«look_ahead») ∷ field 4 (s .«fetch_time») ∷ [] in
       let gap : List Field = field 4 0 ∷ [] in
-      let maps = map (field 8) (s .cached) ++ map (field 8) (s .fetching) in
+      let fetches = map (field 8) (s .fetching) in
+      let maps = map (field 8) (s .cached) ++ (fetches ++ tail s) in
       let slots = each readerFields (s .readers) in
       let sizes = map (field 2) (s .sizes) in
       both-fit settings (sizes ++ (slots ++ (gap ++ maps))) (all-fit settings (omega (arith, v .frames-high, v .turn-low, v .look-high, v .time-high)))
       (both-fit sizes (slots ++ (gap ++ maps)) (words-fit 2 (s .sizes) (λ j. omega (arith, v .sizes-high j)))
       (both-fit slots (gap ++ maps) (always-each Fit (field 0 0) (omega arith) noReader readerFields (s .readers) slot-fits)
       (both-fit gap maps (all-fit gap (omega arith))
-      (both-fit (map (field 8) (s .cached)) (map (field 8) (s .fetching)) (words-fit 8 (s .cached) (v .cached-map .fit)) (words-fit 8 (s .fetching) (v .fetching-map .fit))))))
+      (both-fit (map (field 8) (s .cached)) (fetches ++ tail s) (words-fit 8 (s .cached) (v .cached-map .fit))
+      (both-fit fetches (tail s) (words-fit 8 (s .fetching) (v .fetching-map .fit)) tail-fits)))))

@@ -8,12 +8,27 @@ use lib.ListN.{getD, take, drop}
 use lib.Dec.{T, eqb, eqb→eq}
 use Rattle.rules.specs.Lists.{range, each, every}
 use Rattle.rules.specs.Calls.{idle}
-use Rattle.rules.specs.Image.{layout, numberOf, readerNumber}
+use Rattle.rules.specs.Image.{layout, numberOf, imageNumbers, readerNumber}
 use Rattle.rules.proofs.Tests.{and-first, and-second}
 use Rattle.rules.proofs.Members.{range-at}
 use Rattle.rules.proofs.Parts.{every-all}
 use Rattle.rules.proofs.Tables.{widths, total, number-at}
-use Rattle.rules.proofs.Images.{numbers}
+
+-- where the sizes, the readers, the 4 bytes of 0, the cached map and the fetch map begin: the laws below compute it from the table
+abbrev pub sizesAt : ℕ
+sizesAt = 12
+
+abbrev pub readersAt : ℕ
+readersAt = 28
+
+abbrev pub gapAt : ℕ
+gapAt = 156
+
+abbrev pub cachedAt : ℕ
+cachedAt = 160
+
+abbrev pub fetchingAt : ℕ
+fetchingAt = 1184
 
 -- the width of a field of the table, and the place of its first byte
 abbrev wide : ℕ → ℕ
@@ -28,7 +43,7 @@ Stand index width place n = every (λ k. eqb (wide (index k)) (width k) && eqb (
 
 -- so their numbers are read there: a table of closed numbers is tested by computing
 pub numbers-at : (index width place : ℕ → ℕ) (n : ℕ) → T (Stand index width place n) → (image : List ℕ) (k : ℕ) → k < n
-    → getD (numbers image) (index k) 0 ≡ numberOf (take (width k) (drop (place k) image))
+    → getD (imageNumbers image) (index k) 0 ≡ numberOf (take (width k) (drop (place k) image))
 numbers-at index width place n h image k l =
     let row = range-at (λ i. T (eqb (wide (index i)) (width i) && eqb (start (index i)) (place i))) 0 n k (every-all _ (range 0 n) h) (omega arith) (omega arith) in
     let w = eqb→eq (wide (index k)) (width k) (and-first (eqb (wide (index k)) (width k)) _ row) in
@@ -38,38 +53,38 @@ numbers-at index width place n h image k l =
 module _ (image : List ℕ) where
   -- frames, turn, 0, L, T
   pub setting-at : (i : ℕ) → i < 5
-      → getD (numbers image) i 0 ≡ numberOf (take (getD (2 ∷ 1 ∷ 1 ∷ 4 ∷ 4 ∷ []) i 0) (drop (getD (0 ∷ 2 ∷ 3 ∷ 4 ∷ 8 ∷ []) i 0) image))
+      → getD (imageNumbers image) i 0 ≡ numberOf (take (getD (2 ∷ 1 ∷ 1 ∷ 4 ∷ 4 ∷ []) i 0) (drop (getD (0 ∷ 2 ∷ 3 ∷ 4 ∷ 8 ∷ []) i 0) image))
   unfolding layout each every range total
   setting-at = numbers-at (λ i. i) (λ i. getD (2 ∷ 1 ∷ 1 ∷ 4 ∷ 4 ∷ []) i 0) (λ i. getD (0 ∷ 2 ∷ 3 ∷ 4 ∷ 8 ∷ []) i 0) 5 tt image
 
   -- the size of file f
-  pub size-at : (f : ℕ) → f < 8 → getD (numbers image) (5 + f) 0 ≡ numberOf (take 2 (drop (12 + 2 * f) image))
+  pub size-at : (f : ℕ) → f < 8 → getD (imageNumbers image) (5 + f) 0 ≡ numberOf (take 2 (drop (sizesAt + 2 * f) image))
   unfolding layout each every range total
-  size-at = numbers-at (λ f. 5 + f) (λ f. 2) (λ f. 12 + 2 * f) 8 tt image
+  size-at = numbers-at (λ f. 5 + f) (λ f. 2) (λ f. sizesAt + 2 * f) 8 tt image
 
   -- condition, file, pace, position and 0 of slot j
   pub slot-at : (j i : ℕ) → j < 16 → i < 5
-      → readerNumber (numbers image) j i ≡ numberOf (take (getD (1 ∷ 1 ∷ 2 ∷ 2 ∷ 2 ∷ []) i 0) (drop (28 + 8 * j + getD (0 ∷ 1 ∷ 2 ∷ 4 ∷ 6 ∷ []) i 0) image))
+      → readerNumber (imageNumbers image) j i ≡ numberOf (take (getD (1 ∷ 1 ∷ 2 ∷ 2 ∷ 2 ∷ []) i 0) (drop (readersAt + 8 * j + getD (0 ∷ 1 ∷ 2 ∷ 4 ∷ 6 ∷ []) i 0) image))
   unfolding layout each every range total
   slot-at j i l m =
       let at : 13 + 5 * j + i ≡ 13 + (5 * j + i) = omega arith in
       let slot : (5 * j + i) / 5 ≡ j = omega arith in
       let number : (5 * j + i) % 5 ≡ i = omega arith in
-      ap (λ n. getD (numbers image) n 0) at
-      ∙ numbers-at (λ m. 13 + m) (λ m. getD (1 ∷ 1 ∷ 2 ∷ 2 ∷ 2 ∷ []) (m % 5) 0) (λ m. 28 + 8 * (m / 5) + getD (0 ∷ 1 ∷ 2 ∷ 4 ∷ 6 ∷ []) (m % 5) 0) 80 tt image (5 * j + i) (omega arith)
-      ∙ ap₂ (λ a b. numberOf (take (getD (1 ∷ 1 ∷ 2 ∷ 2 ∷ 2 ∷ []) b 0) (drop (28 + 8 * a + getD (0 ∷ 1 ∷ 2 ∷ 4 ∷ 6 ∷ []) b 0) image))) slot number
+      ap (λ n. getD (imageNumbers image) n 0) at
+      ∙ numbers-at (λ m. 13 + m) (λ m. getD (1 ∷ 1 ∷ 2 ∷ 2 ∷ 2 ∷ []) (m % 5) 0) (λ m. readersAt + 8 * (m / 5) + getD (0 ∷ 1 ∷ 2 ∷ 4 ∷ 6 ∷ []) (m % 5) 0) 80 tt image (5 * j + i) (omega arith)
+      ∙ ap₂ (λ a b. numberOf (take (getD (1 ∷ 1 ∷ 2 ∷ 2 ∷ 2 ∷ []) b 0) (drop (readersAt + 8 * a + getD (0 ∷ 1 ∷ 2 ∷ 4 ∷ 6 ∷ []) b 0) image))) slot number
 
   -- the 4 bytes of 0
-  pub gap-at : getD (numbers image) 93 0 ≡ numberOf (take 4 (drop 156 image))
+  pub gap-at : getD (imageNumbers image) 93 0 ≡ numberOf (take 4 (drop gapAt image))
   unfolding layout each every range total
-  gap-at = numbers-at (λ _. 93) (λ _. 4) (λ _. 156) 1 tt image 0 (omega arith)
+  gap-at = numbers-at (λ _. 93) (λ _. 4) (λ _. gapAt) 1 tt image 0 (omega arith)
 
   -- word k of the cached map
-  pub cached-at : (k : ℕ) → k < 128 → getD (numbers image) (94 + k) 0 ≡ numberOf (take 8 (drop (160 + 8 * k) image))
+  pub cached-at : (k : ℕ) → k < 128 → getD (imageNumbers image) (94 + k) 0 ≡ numberOf (take 8 (drop (cachedAt + 8 * k) image))
   unfolding layout each every range total
-  cached-at = numbers-at (λ k. 94 + k) (λ k. 8) (λ k. 160 + 8 * k) 128 tt image
+  cached-at = numbers-at (λ k. 94 + k) (λ k. 8) (λ k. cachedAt + 8 * k) 128 tt image
 
   -- word k of the fetch map
-  pub fetching-at : (k : ℕ) → k < 128 → getD (numbers image) (222 + k) 0 ≡ numberOf (take 8 (drop (1184 + 8 * k) image))
+  pub fetching-at : (k : ℕ) → k < 128 → getD (imageNumbers image) (222 + k) 0 ≡ numberOf (take 8 (drop (fetchingAt + 8 * k) image))
   unfolding layout each every range total
-  fetching-at = numbers-at (λ k. 222 + k) (λ k. 8) (λ k. 1184 + 8 * k) 128 tt image
+  fetching-at = numbers-at (λ k. 222 + k) (λ k. 8) (λ k. fetchingAt + 8 * k) 128 tt image

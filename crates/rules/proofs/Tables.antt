@@ -7,7 +7,7 @@ use native.Mathlib.Omega.{arith}
 use lib.ListN.{length, getD, take, drop, length-append, length-take, length-drop, take-append-drop}
 use lib.Seq.{take-at, drop-at, drop-drop, length-take-le}
 use Rattle.rules.specs.Lists.{each}
-use Rattle.rules.specs.Image.{Field, field, bytesOf, numberOf, numbersIn}
+use Rattle.rules.specs.Image.{Field, field, bytesOf, encoded, numberOf, numbersIn}
 use Rattle.rules.proofs.Parts.{Always, always-take, always-drop}
 use Rattle.rules.proofs.Numbers.{Bytes, bytes-length, number-bytes, bytes-number, number-low}
 
@@ -18,10 +18,6 @@ widths = map (λ f. f .width)
 -- a table's values
 abbrev pub values : List Field → List ℕ
 values = map (λ f. f .value)
-
--- the table's values as bytes, one after the other
-abbrev pub encoded : List Field → List ℕ
-encoded = each (λ f. bytesOf (f .width) (f .value))
 
 -- the value fits its width
 abbrev pub Fit : Field → Type 0

@@ -35,23 +35,35 @@ abbrev pub readerFields : Reader → List Field
 readerFields r =
     field 1 (conditionNumber (r .condition)) ∷ field 1 (r .file) ∷ field 2 (r .pace) ∷ field 2 (r .position) ∷ field 2 0 ∷ []
 
--- the one table: "frames (2), turn (1), 0 (1), L (4), T (4), sizes (8 of 2), sixteen readers .., 4 bytes of 0, cached map 1,024, fetch map 1,024".
--- A map's word is 8 bytes, lowest first, so that "page 1 [is] in the lowest bit of the first".
+-- the fields behind those of 01: the image grows at its end
+abbrev pub tail : State → List Field
+tail s = []
+
+-- the one table: "frames (2), turn (1), 0 (1), L (4), T (4), sizes (8 of 2), sixteen readers .., 4 bytes of 0, cached map 1,024, fetch map 1,024",
+-- and the tail. A map's word is 8 bytes, lowest first, so that "page 1 [is] in the lowest bit of the first".
 unfoldable pub layout : State → List Field
 layout s =
     field 2 (s .frames) ∷ field 1 (s .turn) ∷ field 1 0 ∷ field 4 (s .«look_ahead») ∷ field 4 (s .«fetch_time»)
-    ∷ (map (field 2) (s .sizes) ++ (each readerFields (s .readers) ++ (field 4 0 ∷ (map (field 8) (s .cached) ++ map (field 8) (s .fetching)))))
+    ∷ (map (field 2) (s .sizes) ++ (each readerFields (s .readers) ++ (field 4 0 ∷ (map (field 8) (s .cached) ++ (map (field 8) (s .fetching) ++ tail s)))))
 
 -- a number as so many bytes, "little-endian"
 unfoldable pub bytesOf : ℕ → ℕ → List ℕ
 bytesOf zero n = []
 bytesOf (suc width) n = n % 256 ∷ bytesOf width (n / 256)
 
+-- the bytes of some fields, one field after the other
+abbrev pub encoded : List Field → List ℕ
+encoded = each (λ f. bytesOf (f .width) (f .value))
+
+-- "Save writes 2,208 bytes"
+abbrev pub imageLength : ℕ
+imageLength = 2208
+
 -- ---- Save
 
--- the image of a state, 2,208 bytes
+-- the image of a state
 unfoldable pub imageOf : State → List ℕ
-imageOf s = each (λ f. bytesOf (f .width) (f .value)) (layout s)
+imageOf s = encoded (layout s)
 
 -- the answer, and the lent buffer after the call
 pub record Saved : Type 0 where
@@ -61,8 +73,8 @@ pub record Saved : Type 0 where
 -- "12: buffer shorter; bytes after 2,208 keep"
 unfoldable pub saveOf : State → List ℕ → Saved
 saveOf s buffer =
-    cond (ltb (length buffer) 2208) (record { answer = Refused 12; buffer = buffer })
-    (record { answer = Done; buffer = imageOf s ++ drop 2208 buffer })
+    cond (ltb (length buffer) imageLength) (record { answer = Refused 12; buffer = buffer })
+    (record { answer = Done; buffer = imageOf s ++ drop imageLength buffer })
 
 -- ---- Restore
 
@@ -71,10 +83,14 @@ unfoldable pub numberOf : List ℕ → ℕ
 numberOf [] = 0
 numberOf (b ∷ bs) = b + 256 * numberOf bs
 
--- the numbers of the image, by the table's widths
+-- the numbers of some bytes, by a table's widths
 unfoldable pub numbersIn : List Field → List ℕ → List ℕ
 numbersIn [] image = []
 numbersIn (f ∷ fs) image = numberOf (take (f .width) image) ∷ numbersIn fs (drop (f .width) image)
+
+-- the numbers of an image
+abbrev pub imageNumbers : List ℕ → List ℕ
+imageNumbers = numbersIn (layout idle)
 
 abbrev pub conditionOf : ℕ → Condition
 conditionOf zero = Empty
@@ -138,8 +154,15 @@ accepts numbers =
     && (leb (length (cachedPages (stateFrom numbers))) (stateFrom numbers .frames)
     && (eqb (getD numbers 2 0) 0 && eqb (getD numbers 93 0) 0)))))
 
+-- an older image as one of today's length, which it would be saved back as. There is none yet.
+unfoldable pub upgraded : List ℕ → List ℕ
+upgraded image = image
+
 -- "13: another length, .. The idle state comes back"
+unfoldable pub restored : List ℕ → Reply
+restored image =
+    cond (eqb (length image) imageLength && accepts (imageNumbers image)) (reply (stateFrom (imageNumbers image)) Done) (refused idle 13)
+
+-- the one Restore, of an image of any age
 unfoldable pub restoreOf : List ℕ → Reply
-restoreOf image =
-    cond (eqb (length image) 2208 && accepts (numbersIn (layout idle) image)) (reply (stateFrom (numbersIn (layout idle) image)) Done)
-    (refused idle 13)
+restoreOf image = restored (upgraded image)

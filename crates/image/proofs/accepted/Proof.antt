@@ -3,7 +3,6 @@ use borrow.Author.Needs.{needs}
 use Rattle.rules.specs.Lists.{within}
 use Rattle.rules.proofs.Cases.{and-stop, and-pass, call-stop, call-pass}
 use Rattle.image.proofs.Checks.{and-later}
-use Rattle.image.proofs.States.{sizes-read}
 use Rattle.image.proofs.Restores.{verdict-is, sizes-low, room-stop, room-pass}
 use Rattle.image.proofs.accepted.Statement.{statement}
 use Rattle.image.proofs.accepted.Tie as tie
@@ -42,7 +41,7 @@ slots-hold-requires c κs =
     let e₁ = c .before .before .before .before in
     let read = e₁ .before .before .before in
     let start = read .before .before in (
-      record { long = start .pre .0; sizes-read = read .sizes-in .ensures ∙ sizes-read (start .args .image .now); fetching-read = start .pre .2 },
+      record { long = start .pre .0; sizes-read = read .sizes-in .ensures; fetching-read = start .pre .2 },
       sizes-low (start .args .image .now) (read .sizes-in .result) _ (e₁ .before .settings-hold .ensures) (e₁ .if1 .left),
     )
 

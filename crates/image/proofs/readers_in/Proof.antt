@@ -3,14 +3,13 @@ use Prim.Native.Nat.{_-_, _≤_}
 use borrow.Author.Needs.{needs}
 use lib.ListN.{length}
 use Rattle.rules.specs.Readers.{noReader}
-use Rattle.rules.specs.Image.{readerFrom}
-use Rattle.image.specs.Bytes.{numbers}
+use Rattle.rules.specs.Image.{readerFrom, imageNumbers}
 use Rattle.image.proofs.Fills.{filled, filled-more, filled-all}
 use Rattle.image.proofs.readers_in.Statement.{statement}
 use Rattle.image.proofs.readers_in.Tie as tie
 
 abbrev Inv-loop : tie.InvT-loop
-Inv-loop image readers₀ j₀ readers j = (j ≤ 16) × (length readers₀ ≡ 16) × (readers ≡ filled (readerFrom (numbers image)) 16 noReader j readers₀)
+Inv-loop image readers₀ j₀ readers j = (j ≤ 16) × (length readers₀ ≡ 16) × (readers ≡ filled (readerFrom (imageNumbers image)) 16 noReader j readers₀)
 
 abbrev μ-loop : tie.MeasureT-loop
 μ-loop image readers₀ j₀ readers j = 16 - j
@@ -39,12 +38,12 @@ loop-less c = search needs
 loop-again : tie.Need-loop-again Inv-loop μ-loop
 loop-again c =
     let a = c .before .before .before .before .before .args in
-    search (filled-more (readerFrom (numbers (a .image .now))) 16 noReader, needs)
+    search (filled-more (readerFrom (imageNumbers (a .image .now))) 16 noReader, needs)
 
 returns : tie.Need-returns Inv-loop μ-loop
 returns c =
     let a = c .before .before .before .before .args in
-    search (filled-all (readerFrom (numbers (a .image .now))) 16 noReader, needs)
+    search (filled-all (readerFrom (imageNumbers (a .image .now))) 16 noReader, needs)
 
 pub readers-in-spec : {M : Type 1} → statement M
 readers-in-spec =

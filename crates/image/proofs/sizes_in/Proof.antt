@@ -2,13 +2,15 @@ use mathlib.Core.Path.{_≡_}
 use Prim.Native.Nat.{_-_, _≤_}
 use borrow.Author.Needs.{needs}
 use lib.ListN.{length}
+use Rattle.rules.proofs.Offsets.{sizesAt}
 use Rattle.image.specs.Bytes.{numberFrom}
+use Rattle.image.proofs.States.{sizes-read}
 use Rattle.image.proofs.Fills.{filled, filled-more, filled-all}
 use Rattle.image.proofs.sizes_in.Statement.{statement}
 use Rattle.image.proofs.sizes_in.Tie as tie
 
 abbrev Inv-loop : tie.InvT-loop
-Inv-loop image sizes₀ f₀ sizes f = (f ≤ 8) × (length sizes₀ ≡ 8) × (sizes ≡ filled (numberFrom 2 image 12) 8 0 f sizes₀)
+Inv-loop image sizes₀ f₀ sizes f = (f ≤ 8) × (length sizes₀ ≡ 8) × (sizes ≡ filled (numberFrom 2 image sizesAt) 8 0 f sizes₀)
 
 abbrev μ-loop : tie.MeasureT-loop
 μ-loop image sizes₀ f₀ sizes f = 8 - f
@@ -40,12 +42,12 @@ loop-less c = search needs
 loop-again : tie.Need-loop-again Inv-loop μ-loop
 loop-again c =
     let a = c .before .before .before .before .args in
-    search (filled-more (numberFrom 2 (a .image .now) 12) 8 0, needs)
+    search (filled-more (numberFrom 2 (a .image .now) sizesAt) 8 0, needs)
 
 returns : tie.Need-returns Inv-loop μ-loop
 returns c =
     let a = c .before .before .before .args in
-    search (filled-all (numberFrom 2 (a .image .now) 12) 8 0, needs)
+    rw (← sizes-read (a .image .now)) (search (filled-all (numberFrom 2 (a .image .now) sizesAt) 8 0, needs))
 
 pub sizes-in-spec : {M : Type 1} → statement M
 sizes-in-spec =

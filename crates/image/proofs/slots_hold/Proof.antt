@@ -3,14 +3,13 @@ use mathlib.Core.Bool.{true}
 use Prim.Native.Nat.{_-_, _≤_}
 use borrow.Author.Needs.{needs}
 use Rattle.rules.specs.Lists.{range, every}
-use Rattle.rules.specs.Image.{slotHolds}
-use Rattle.image.specs.Bytes.{numbers}
+use Rattle.rules.specs.Image.{slotHolds, imageNumbers}
 use Rattle.image.proofs.Checks.{every-none, every-more, every-stop, every-end}
 use Rattle.image.proofs.slots_hold.Statement.{statement}
 use Rattle.image.proofs.slots_hold.Tie as tie
 
 abbrev Inv-loop : tie.InvT-loop
-Inv-loop image sizes fetching j₀ j = (j ≤ 16) × (every (slotHolds (numbers image)) (range 0 j) ≡ true)
+Inv-loop image sizes fetching j₀ j = (j ≤ 16) × (every (slotHolds (imageNumbers image)) (range 0 j) ≡ true)
 
 abbrev μ-loop : tie.MeasureT-loop
 μ-loop image sizes fetching j₀ j = 16 - j
