@@ -1,0 +1,19 @@
+-- The idle state comes back, its maps cleared.
+use borrow.Author.Needs.{needs}
+use Rattle.image.proofs.restoring.refuse.Statement.{statement}
+use Rattle.image.proofs.restoring.refuse.Tie as tie
+
+clear-all-requires : tie.Need-clear-all-requires
+clear-all-requires c κs = search needs
+
+clear-all-requires-2 : tie.Need-clear-all-requires-2
+clear-all-requires-2 c κs = search needs
+
+idle-requires : tie.Need-idle-requires
+idle-requires c κs = search needs
+
+returns : tie.Need-returns
+returns c = rw (c .idle .ensures, c .before .clear-all2 .ensures, c .before .before .before .clear-all .ensures)
+
+pub refuse-spec : {M : Type 1} → statement M
+refuse-spec = tie.close (tie.spec clear-all-requires clear-all-requires-2 idle-requires returns)

@@ -1,0 +1,58 @@
+-- A slot is tested in three parts, up to the first that fails.
+use borrow.Author.Needs.{needs}
+use Rattle.image.proofs.Slots.{slot-stop, slot-out, slot-last}
+use Rattle.image.proofs.restoring.slot_holds.Statement.{statement}
+use Rattle.image.proofs.restoring.slot_holds.Tie as tie
+
+mul-at : tie.Need-mul-at
+mul-at c = search needs
+
+add-at : tie.Need-add-at
+add-at c = search needs
+
+get-u8-requires : tie.Need-get-u8-requires
+get-u8-requires c κs = search needs
+
+cast-is-within : tie.Need-cast-is-within
+cast-is-within c = search needs
+
+is-within-requires : tie.Need-is-within-requires
+is-within-requires c κs = search needs
+
+returns : tie.Need-returns
+returns c = search (slot-stop, needs)
+
+reader-in-requires : tie.Need-reader-in-requires
+reader-in-requires c κs = search needs
+
+reader-holds-requires : tie.Need-reader-holds-requires
+reader-holds-requires c κs = search needs
+
+returns-2 : tie.Need-returns-2
+returns-2 c = search (slot-out, needs)
+
+add-get-u16 : tie.Need-add-get-u16
+add-get-u16 c = search needs
+
+get-u16-requires : tie.Need-get-u16-requires
+get-u16-requires c κs = search needs
+
+returns-3 : tie.Need-returns-3
+returns-3 c = search (slot-last, needs)
+
+pub slot-holds-spec : {M : Type 1} → statement M
+slot-holds-spec =
+    tie.close
+    (tie.spec
+    mul-at
+    add-at
+    get-u8-requires
+    cast-is-within
+    is-within-requires
+    returns
+    reader-in-requires
+    reader-holds-requires
+    returns-2
+    add-get-u16
+    get-u16-requires
+    returns-3)

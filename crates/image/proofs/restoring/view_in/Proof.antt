@@ -1,0 +1,38 @@
+-- The numbers, each read in its place, make the state but its maps.
+use borrow.Author.Needs.{needs}
+use Rattle.image.proofs.States.{view-read}
+use Rattle.image.proofs.restoring.view_in.Statement.{statement}
+use Rattle.image.proofs.restoring.view_in.Tie as tie
+
+sizes-in-requires : tie.Need-sizes-in-requires
+sizes-in-requires c κs = search needs
+
+readers-in-requires : tie.Need-readers-in-requires
+readers-in-requires c κs = search needs
+
+get-u16-requires : tie.Need-get-u16-requires
+get-u16-requires c κs = search needs
+
+get-u8-requires : tie.Need-get-u8-requires
+get-u8-requires c κs = search needs
+
+get-u32-requires : tie.Need-get-u32-requires
+get-u32-requires c κs = search needs
+
+get-u32-requires-2 : tie.Need-get-u32-requires-2
+get-u32-requires-2 c κs = search needs
+
+returns : tie.Need-returns
+returns c = search (view-read, needs)
+
+pub view-in-spec : {M : Type 1} → statement M
+view-in-spec =
+    tie.close
+    (tie.spec
+    sizes-in-requires
+    readers-in-requires
+    get-u16-requires
+    get-u8-requires
+    get-u32-requires
+    get-u32-requires-2
+    returns)

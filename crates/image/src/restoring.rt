@@ -1,0 +1,417 @@
+// Restore: the state of an image's numbers, the tests that refuse an image, and the idle state where one does.
+ghost use mathlib.Core.Path.{_≡_};
+ghost use mathlib.Core.Bool.{_&&_};
+ghost use mathlib.Core.List.{[], map};
+ghost use Prim.Native.Nat.{_+_, _*_, _-_, _<_, _≤_};
+ghost use lib.Bits.{bitAnd, bitOr};
+ghost use lib.ListN.{length, replicate};
+ghost use lib.Dec.{eqb};
+ghost use Rattle.rules.specs.Lists.{range, every, within};
+ghost use Rattle.rules.specs.Views.{viewOf, replyOf};
+ghost use Rattle.rules.specs.Calls.{refused, idle as idleState};
+ghost use Rattle.rules.specs.Readers.{noReader, awaits};
+ghost use Rattle.rules.specs.Image.{conditionOf, readerFrom, readerPlaced, readerHolds, slotHolds, accepts, restoreOf, imageNumbers, imageLength};
+ghost use Rattle.image.specs.Bytes.{numbersAt, stateIn};
+ghost use Rattle.image.specs.Tests.{among, FromImage, SizesLow, settingsFrom, gapsHold, apartAt, clearAt, clearAbove, sizeHolds};
+use crate::CACHED_AT;
+use crate::FETCHING_AT;
+use crate::GAP_AT;
+use crate::IMAGE_LENGTH;
+use crate::READERS_AT;
+use crate::SIZES_AT;
+use crate::bytes::get_u8;
+use crate::bytes::get_u16;
+use crate::bytes::get_u32;
+use crate::bytes::get_u64;
+use rules::Answer;
+use rules::Condition;
+use rules::Outcome;
+use rules::Reader;
+use rules::View;
+
+// ---- the state of an image's numbers
+
+fn condition_of(n: u8) -> Condition
+    ensures { λ r. ⌜ r ≡ conditionOf n ⌝ }
+{
+    match n {
+        0 => Condition::Empty,
+        1 => Condition::Running,
+        _ => Condition::Waiting,
+    }
+}
+
+// The record of a slot.
+fn reader_in(image: &[u8], slot: usize) -> Reader
+    requires { ⌜ (length (now image) ≡ imageLength) × (slot < 16) ⌝ }
+    ensures { λ r. ⌜ r ≡ readerFrom (imageNumbers (now (image .entry))) slot ⌝ }
+{
+    let at = READERS_AT + 8 * slot;
+    let condition = condition_of(get_u8(image, at));
+    Reader {
+        condition,
+        file: get_u8(image, at + 1),
+        pace: get_u16(image, at + 2),
+        position: get_u16(image, at + 4),
+    }
+}
+
+fn no_readers() -> [Reader; 16]
+    ensures { λ r. ⌜ r ≡ replicate 16 noReader ⌝ }
+{
+    let r = Reader {
+        condition: Condition::Empty,
+        file: 0,
+        pace: 0,
+        position: 0,
+    };
+    [r; 16]
+}
+
+fn readers_in(image: &[u8]) -> [Reader; 16]
+    requires { ⌜ length (now image) ≡ imageLength ⌝ }
+    ensures { λ r. ⌜ r ≡ map (readerFrom (imageNumbers (now (image .entry)))) (range 0 16) ⌝ }
+{
+    let mut readers = no_readers();
+    let mut j: usize = 0;
+    while j < 16 {
+        let r = reader_in(image, j);
+        readers[j] = r;
+        j += 1;
+    }
+    readers
+}
+
+fn sizes_in(image: &[u8]) -> [u16; 8]
+    requires { ⌜ length (now image) ≡ imageLength ⌝ }
+    ensures { λ r. ⌜ r ≡ stateIn (now (image .entry)) .sizes ⌝ }
+{
+    let mut sizes = [0u16; 8];
+    let mut f: usize = 0;
+    while f < 8 {
+        let n = get_u16(image, SIZES_AT + 2 * f);
+        sizes[f] = n;
+        f += 1;
+    }
+    sizes
+}
+
+// Reads a map into its place. It is lent as a slice, whose length is told.
+fn read_words(words: &mut [u64], image: &[u8], at: usize)
+    requires { ⌜ (length (now words) ≡ 128) × (at + 1024 ≤ length (now image)) ⌝ }
+    ensures { λ _. ⌜ now (words .exit) ≡ numbersAt 8 (now (image .entry)) at 128 ⌝ }
+{
+    let mut k: usize = 0;
+    while k < 128 {
+        let n = get_u64(image, at + 8 * k);
+        words[k] = n;
+        k += 1;
+    }
+}
+
+fn idle() -> View
+    ensures { λ r. ⌜ r ≡ viewOf idleState ⌝ }
+{
+    let readers = no_readers();
+    View {
+        frames: 1,
+        turn: 0,
+        look_ahead: 1,
+        fetch_time: 0,
+        sizes: [0u16; 8],
+        readers,
+    }
+}
+
+// All of an image's state but the maps.
+fn view_in(image: &[u8]) -> View
+    requires { ⌜ length (now image) ≡ imageLength ⌝ }
+    ensures { λ r. ⌜ r ≡ viewOf (stateIn (now (image .entry))) ⌝ }
+{
+    let sizes = sizes_in(image);
+    let readers = readers_in(image);
+    View {
+        frames: get_u16(image, 0),
+        turn: get_u8(image, 2),
+        look_ahead: get_u32(image, 4),
+        fetch_time: get_u32(image, 8),
+        sizes,
+        readers,
+    }
+}
+
+// ---- its tests
+
+fn is_within(low: u32, high: u32, n: u32) -> bool
+    ensures { λ r. ⌜ r ≡ within low high n ⌝ }
+{
+    if n < low {
+        return false;
+    }
+    n <= high
+}
+
+fn size_holds(size: u16) -> bool
+    ensures { λ r. ⌜ r ≡ within 0 1024 size ⌝ }
+{
+    is_within(0, 1024, size as u32)
+}
+
+fn sizes_hold(sizes: &[u16; 8]) -> bool
+    requires { ⌜ length (now sizes) ≡ 8 ⌝ }
+    ensures { λ r. ⌜ r ≡ every (within 0 1024) (now (sizes .entry)) ⌝ }
+{
+    let mut f: usize = 0;
+    while f < 8 {
+        let ok = size_holds(sizes[f]);
+        if !ok {
+            return false;
+        }
+        f += 1;
+    }
+    true
+}
+
+fn settings_hold(image: &[u8], sizes: &[u16; 8]) -> bool
+    requires { ⌜ (length (now image) ≡ imageLength) × (length (now sizes) ≡ 8) ⌝ }
+    ensures { λ r. ⌜ r ≡ settingsFrom (now (image .entry)) (now (sizes .entry)) ⌝ }
+{
+    if !is_within(1, 1024, get_u16(image, 0) as u32) {
+        return false;
+    }
+    if !is_within(1, 2000000, get_u32(image, 4)) {
+        return false;
+    }
+    if !is_within(0, 2000000, get_u32(image, 8)) {
+        return false;
+    }
+    sizes_hold(sizes)
+}
+
+// An attached reader: its file is there, its pace is in range, its position is in the file.
+fn reader_placed(r: Reader, sizes: &[u16; 8]) -> bool
+    ensures { λ t. ⌜ t ≡ readerPlaced (among (now (sizes .entry)) []) r ⌝ }
+{
+    let file = r.file as usize;
+    if 7 < file {
+        return false;
+    }
+    let size = sizes[file];
+    if size == 0 {
+        return false;
+    }
+    if !is_within(1, 1000, r.pace as u32) {
+        return false;
+    }
+    r.position <= size
+}
+
+// A reader's next page is in fetch.
+fn reader_awaits(r: Reader, sizes: &[u16; 8], fetching: &[u64; 128]) -> bool
+    requires { ⌜ (r .file < 8) × SizesLow (now sizes) ⌝ }
+    ensures { λ t. ⌜ t ≡ awaits (among (now (sizes .entry)) (now (fetching .entry))) r ⌝ }
+{
+    let file = r.file as usize;
+    if sizes[file] <= r.position {
+        return false;
+    }
+    bits::has_bit(fetching, file * 1024 + r.position as usize)
+}
+
+fn is_blank(r: Reader) -> bool
+    ensures { λ t. ⌜ t ≡ (eqb (r .file) 0 && (eqb (r .pace) 0 && eqb (r .position) 0)) ⌝ }
+{
+    if r.file != 0 {
+        return false;
+    }
+    if r.pace != 0 {
+        return false;
+    }
+    r.position == 0
+}
+
+fn reader_holds(r: Reader, sizes: &[u16; 8], fetching: &[u64; 128]) -> bool
+    requires { ⌜ SizesLow (now sizes) ⌝ }
+    ensures { λ t. ⌜ t ≡ readerHolds (among (now (sizes .entry)) (now (fetching .entry))) r ⌝ }
+{
+    let condition = r.condition;
+    match condition {
+        Condition::Empty => is_blank(r),
+        Condition::Running => reader_placed(r, sizes),
+        Condition::Waiting => {
+            if !reader_placed(r, sizes) {
+                return false;
+            }
+            reader_awaits(r, sizes, fetching)
+        }
+    }
+}
+
+// A slot: its condition is in range, its record holds, its two 0 bytes are 0.
+fn slot_holds(image: &[u8], slot: usize, sizes: &[u16; 8], fetching: &[u64; 128]) -> bool
+    requires { ⌜ FromImage (now image) (now sizes) (now fetching) × SizesLow (now sizes) × (slot < 16) ⌝ }
+    ensures { λ r. ⌜ r ≡ slotHolds (imageNumbers (now (image .entry))) slot ⌝ }
+{
+    let at = READERS_AT + 8 * slot;
+    if !is_within(0, 2, get_u8(image, at) as u32) {
+        return false;
+    }
+    if !reader_holds(reader_in(image, slot), sizes, fetching) {
+        return false;
+    }
+    get_u16(image, at + 6) == 0
+}
+
+fn slots_hold(image: &[u8], sizes: &[u16; 8], fetching: &[u64; 128]) -> bool
+    requires { ⌜ FromImage (now image) (now sizes) (now fetching) × SizesLow (now sizes) ⌝ }
+    ensures { λ r. ⌜ r ≡ every (slotHolds (imageNumbers (now (image .entry)))) (range 0 16) ⌝ }
+{
+    let mut j: usize = 0;
+    while j < 16 {
+        let ok = slot_holds(image, j, sizes, fetching);
+        if !ok {
+            return false;
+        }
+        j += 1;
+    }
+    true
+}
+
+// The pages that a word has in both maps.
+fn in_both(c: u64, f: u64) -> u64
+    ensures { λ r. ⌜ r ≡ bitAnd c f ⌝ }
+{
+    c & f
+}
+
+// The pages that a word has in either map.
+fn in_either(c: u64, f: u64) -> u64
+    ensures { λ r. ⌜ r ≡ bitOr c f ⌝ }
+{
+    c | f
+}
+
+// No page is in both maps. The loop has no exit on its way, so that it takes several words at a time.
+fn is_apart<'a>(cached: &'a [u64; 128], fetching: &'a [u64; 128]) -> bool
+    ensures { λ r. ⌜ r ≡ every (apartAt (now (cached .entry)) (now (fetching .entry))) (range 0 8192) ⌝ }
+{
+    let mut both: u64 = 0;
+    let mut i: usize = 0;
+    while i < 128 {
+        both = both | in_both(cached[i], fetching[i]);
+        i += 1;
+    }
+    both == 0
+}
+
+// No page is in either map from key `from` on to the end of word `end` - 1.
+fn is_clear<'a>(cached: &'a [u64; 128], fetching: &'a [u64; 128], from: usize, end: usize) -> bool
+    requires { ⌜ (from < end * 64) × (end ≤ 128) ⌝ }
+    ensures { λ r. ⌜ r ≡ every (clearAt (now (cached .entry)) (now (fetching .entry))) (range from (end * 64 - from)) ⌝ }
+{
+    let first = from / 64;
+    let mut any = in_either(cached[first], fetching[first]) >> (from % 64);
+    let mut i = first + 1;
+    while i < end {
+        any = any | in_either(cached[i], fetching[i]);
+        i += 1;
+    }
+    any == 0
+}
+
+// No bit stands above the size of file f. A file of 1,024 pages has no such bits.
+fn file_holds<'a>(f: usize, size: u16, cached: &'a [u64; 128], fetching: &'a [u64; 128]) -> bool
+    requires { ⌜ (f < 8) × (size ≤ 1024) ⌝ }
+    ensures { λ r. ⌜ r ≡ clearAbove (now (cached .entry)) (now (fetching .entry)) f size ⌝ }
+{
+    if size == 1024 {
+        return true;
+    }
+    is_clear(cached, fetching, f * 1024 + size as usize, f * 16 + 16)
+}
+
+fn files_hold<'a>(sizes: &[u16; 8], cached: &'a [u64; 128], fetching: &'a [u64; 128]) -> bool
+    requires { ⌜ SizesLow (now sizes) ⌝ }
+    ensures { λ r. ⌜ r ≡ every (sizeHolds (now (sizes .entry)) (now (cached .entry)) (now (fetching .entry))) (range 0 8) ⌝ }
+{
+    let mut f: usize = 0;
+    while f < 8 {
+        let ok = file_holds(f, sizes[f], cached, fetching);
+        if !ok {
+            return false;
+        }
+        f += 1;
+    }
+    true
+}
+
+// The 0 bytes that are no slot's are 0.
+fn gaps_hold(image: &[u8]) -> bool
+    requires { ⌜ length (now image) ≡ imageLength ⌝ }
+    ensures { λ r. ⌜ r ≡ gapsHold (imageNumbers (now (image .entry))) ⌝ }
+{
+    if get_u8(image, 3) != 0 {
+        return false;
+    }
+    get_u32(image, GAP_AT) == 0
+}
+
+// None of the grounds for 13 but the length. The maps are those of the image.
+fn accepted<'a>(image: &[u8], cached: &'a [u64; 128], fetching: &'a [u64; 128]) -> bool
+    requires { ⌜ (length (now image) ≡ imageLength) × (now cached ≡ stateIn (now image) .cached) × (now fetching ≡ stateIn (now image) .fetching) ⌝ }
+    ensures { λ r. ⌜ r ≡ accepts (imageNumbers (now (image .entry))) ⌝ }
+{
+    let sizes = sizes_in(image);
+    if !settings_hold(image, &sizes) {
+        return false;
+    }
+    if !is_within(0, 15, get_u8(image, 2) as u32) {
+        return false;
+    }
+    if !slots_hold(image, &sizes, fetching) {
+        return false;
+    }
+    if !is_apart(cached, fetching) {
+        return false;
+    }
+    if !files_hold(&sizes, cached, fetching) {
+        return false;
+    }
+    if (get_u16(image, 0) as u32) < bits::count(cached, 0, 8192) {
+        return false;
+    }
+    gaps_hold(image)
+}
+
+// ---- Restore
+
+fn refuse(cached: &mut [u64; 128], fetching: &mut [u64; 128]) -> Outcome
+    ensures { λ r. ⌜ replyOf r (now (cached .exit)) (now (fetching .exit)) ≡ refused idleState 13 ⌝ }
+{
+    bits::clear_all(cached);
+    bits::clear_all(fetching);
+    let view = idle();
+    Outcome {
+        view,
+        answer: Answer::Refused(13),
+    }
+}
+
+// The lent maps become those of the image, whatever they held; where it is refused, those of the idle state.
+pub fn restore(image: &[u8], cached: &mut [u64; 128], fetching: &mut [u64; 128]) -> Outcome
+    ensures { λ r. ⌜ replyOf r (now (cached .exit)) (now (fetching .exit)) ≡ restoreOf (now (image .entry)) ⌝ }
+{
+    if image.len() != IMAGE_LENGTH {
+        return refuse(cached, fetching);
+    }
+    read_words(cached, image, CACHED_AT);
+    read_words(fetching, image, FETCHING_AT);
+    if !accepted(image, cached, fetching) {
+        return refuse(cached, fetching);
+    }
+    let view = view_in(image);
+    Outcome {
+        view,
+        answer: Answer::Done,
+    }
+}
