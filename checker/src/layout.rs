@@ -3,6 +3,8 @@
 //! Quick and the trials go by this table. The model does not: it writes and
 //! reads an image piece by piece, so that each tries the other.
 
+use crate::limits::IMAGE_BYTES;
+
 /// "frames (2)".
 pub const FRAMES: usize = 0;
 
@@ -36,5 +38,5 @@ pub const CACHED: usize = 160;
 /// "fetch map 1,024".
 pub const IN_FETCH: usize = 1_184;
 
-/// Behind the last piece: "Save writes 2,208 bytes".
-pub const END: usize = 2_208;
+/// Behind the last piece.
+pub const END: usize = IMAGE_BYTES;

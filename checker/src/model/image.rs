@@ -22,7 +22,7 @@ impl State {
         Ok(())
     }
 
-    /// The 2,208 bytes of Save, piece by piece as the paper lists them.
+    /// The bytes of Save, piece by piece as the paper lists them.
     pub fn image(&self) -> Vec<u8> {
         let mut image = Vec::with_capacity(IMAGE_BYTES);
         put(&mut image, 2, self.frames);

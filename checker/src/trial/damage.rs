@@ -20,7 +20,7 @@ const PIECES: [Range<usize>; 6] = [
 ];
 
 /// "The buffer must be exactly 2,208 bytes, else 13".
-const WRONG_LENGTHS: [usize; 5] = [0, 1, 2_207, 2_209, 4_096];
+const WRONG_LENGTHS: [usize; 5] = [0, 1, IMAGE_BYTES - 1, IMAGE_BYTES + 1, 4_096];
 
 /// Every byte changed, each in some valid images: one bit of it, or several.
 pub fn every_byte(report: &mut Report, entry: Entry, dice: &mut Dice) {

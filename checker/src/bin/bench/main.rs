@@ -5,10 +5,10 @@
 //!     QUAY_LIB=folder QUAY_PROGRAM=path \
 //!         cargo run --release --features box --bin bench
 //!
-//! Both entries restore, call and save a 2,208-byte image each time. Every
-//! number is the median of several samples, taken in turns, in nanoseconds a
-//! call; each includes one copy of the image into the buffer. Prints markdown
-//! tables. Without `QUAY_PROGRAM` the programs are left out.
+//! Both entries restore, call and save an image each time. Every number is the
+//! median of several samples, taken in turns, in nanoseconds a call; each
+//! includes one copy of the image into the buffer. Prints markdown tables.
+//! Without `QUAY_PROGRAM` the programs are left out.
 
 mod lines;
 
