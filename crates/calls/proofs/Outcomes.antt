@@ -1,7 +1,7 @@
 -- Rules by which `search` shows that a result is the one that a rule's tests lead to. Assumes nothing.
 use Prim.Native.Nat.{ℕ}
 use mathlib.Core.Path.{_≡_, _∙_, sym, ap}
-use mathlib.Core.Bool.{Bool, true, false, not, cond, _&&_, _||_}
+use mathlib.Core.Bool.{Bool, true, false, not, cond}
 use mathlib.Core.List.{List, [], _∷_}
 use types.Run.{OneOf, miss}
 use denote.Enum.Declared.{tagOf}
@@ -13,7 +13,7 @@ use Rattle.rules.specs.Readers.{byCondition}
 use Rattle.rules.specs.declared.Condition.{Condition}
 use Rattle.rules.specs.declared.Condition.the-variants.{Empty, Running, Waiting}
 use Rattle.rules.proofs.Condition.{the-type}
-use Rattle.rules.proofs.Cases.{and-pass, call-stop, call-pass, cond-yes, cond-no, condition-empty, condition-running, condition-waiting, outcomes}
+use Rattle.rules.proofs.Cases.{cond-yes, cond-no, condition-empty, condition-running, condition-waiting, outcomes}
 
 module _ {A : Type 0} where
   -- the test passes
@@ -73,21 +73,6 @@ module _ {A : Type 0} where
   is-attached Empty r x y h e = absurd (miss (1 ∷ 2 ∷ []) 0 tt h)
   is-attached Running r x y h e = e
   is-attached Waiting r x y h e = e
-
--- the first does not hold, and is the result
-pub not-both : (a b : Bool) → a ≡ false → a ≡ (a && b)
-not-both a b e = rw e
-
--- either: the first does not hold, and the result is the second
-pub or-second : (a b r : Bool) → a ≡ false → r ≡ b → r ≡ (a || b)
-or-second a b r e h = rw e h
-
--- the first holds, and is the result
-pub or-first : (a b : Bool) → a ≡ true → a ≡ (a || b)
-or-first a b e = rw e
-
--- for a function that answers yes or no
-pub ruleset tests = (and-pass, not-both, call-pass, call-stop, or-second, or-first, outcomes, needs)
 
 -- for a rule that goes by tests and by a slot's condition
 pub ruleset answers = (is-yes, is-no, called-yes, called-no, turned-yes, turned-no, is-empty, is-running, is-waiting, is-attached, outcomes, needs)

@@ -12,9 +12,10 @@ use Rattle.rules.specs.Pages.{keyOf, inFetch}
 use Rattle.rules.specs.Calls.{refused, noFile, noPage, forFetch}
 use Rattle.rules.specs.declared.State.{State}
 use Rattle.rules.specs.declared.Reply.{Reply}
-use Rattle.calls.specs.Parts.{noFileIn, noPageIn, Small, fetchRefusal}
+use Rattle.parts.specs.Files.{noFileIn, noPageIn, Small}
+use Rattle.calls.specs.Parts.{fetchRefusal}
 use Rattle.calls.proofs.Outcomes.{is-yes, is-no}
-use Rattle.calls.proofs.Ranges.{there-small, there-low}
+use Rattle.parts.proofs.Files.{there-small, there-low}
 
 -- the refusals, or what is done, by the number
 pub for-fetch-is : (s : State) (file page : ℕ) (done : Reply)

@@ -1,21 +1,27 @@
 -- Attach, Read and Detach: the reader of a slot, and the other slots' records. Assumes nothing.
-use Prim.Native.Nat.{ℕ, _≤_, _<_}
+use Prim.Native.Nat.{ℕ, _+_, _≤_, _<_}
 use mathlib.Core.Path.{_≡_, ap, _∙_}
 use mathlib.Core.Bool.{Bool, true, false, not}
 use mathlib.Core.List.{List, []}
+use lib.ListN.{set}
+use lib.Dec.{eqb}
+use Rattle.bits.specs.Map.{bit, putBit}
 use Rattle.rules.specs.Lists.{within}
-use Rattle.rules.specs.Readers.{readerAt, byCondition}
-use Rattle.rules.specs.Calls.{reply, refused, withReader, docked, attachOf, readOf, detachOf}
+use Rattle.rules.specs.Readers.{readerAt, byCondition, lastPage, nextKey, inCondition}
+use Rattle.rules.specs.Calls.{reply, refused, remade, withReader, docked, attachOf, readRunning, readOf, detachOf}
 use Rattle.rules.specs.Entries.{callOf}
 use Rattle.rules.specs.declared.State.{State}
+use Rattle.rules.specs.declared.Reader.{Reader}
 use Rattle.rules.specs.declared.Reply.{Reply}
 use Rattle.rules.specs.declared.View.{View}
 use Rattle.rules.specs.declared.Outcome.{Outcome}
 use Rattle.rules.specs.Views.{stateOf, replyOf}
-use Rattle.rules.specs.declared.Answer.the-variants.{Done}
+use Rattle.rules.specs.declared.Answer.the-variants.{Done, Fetch}
+use Rattle.rules.specs.declared.Condition.the-variants.{Waiting}
 use Rattle.rules.proofs.OneRecord.{SlotCall, attaching, detaching, reading, callAt, one-record}
-use Rattle.calls.specs.Parts.{noFileIn, OthersStay}
-use Rattle.calls.proofs.Outcomes.{answers}
+use Rattle.parts.specs.Files.{noFileIn}
+use Rattle.calls.specs.Parts.{OthersStay}
+use Rattle.calls.proofs.Outcomes.{answers, keyed}
 
 -- a call of a slot leaves the other slots' records, with these maps before and those after
 stay : (c : SlotCall) (v : View) (slot : ℕ) (r : Outcome) (cached fetching left still : List ℕ)
@@ -63,3 +69,12 @@ module _ (s : State) (slot file pace : ℕ) (r : Reply) where
   attach-there h f a b w c d e = search answers depth 12
 
 -- ---- Read
+
+-- F by the results: the last page, the page's key, whether the maps have the page, the record that waits, and the fetch map with the page
+pub read-fetch : (s : State) (slot : ℕ) (r w : Reader) (last k : ℕ) (hit wait : Bool) (still : List ℕ)
+    → last ≡ lastPage (s .sizes) r → (r .position ≡ last → ⊥) → k ≡ nextKey r
+    → hit ≡ eqb (bit (s .cached) k) 1 → hit ≡ false → wait ≡ eqb (bit (s .fetching) k) 1 → wait ≡ false
+    → w ≡ inCondition Waiting r → still ≡ putBit (s .fetching) k 1
+    → reply (remade s (s .turn) (set (s .readers) slot w) (s .cached) still) (Fetch (r .file) (r .position + 1)) ≡ readRunning s slot r
+unfolding readRunning
+read-fetch s slot r w last k hit wait still l n e a b c d f g = rw (f, g, e, ← l) (search keyed depth 12)

@@ -1,7 +1,7 @@
 -- The parts of the rules that the functions work out, over just the fields that they read. Assumes nothing: these are definitions.
-use Prim.Native.Nat.{ℕ, _≤_, _<_}
+use Prim.Native.Nat.{ℕ, _<_}
 use mathlib.Core.Path.{_≡_}
-use mathlib.Core.Bool.{Bool, cond}
+use mathlib.Core.Bool.{cond}
 use mathlib.Core.List.{List, map}
 use mathlib.Core.Logic.{_≢_}
 use mathlib.Core.Option.{Option, some}
@@ -11,7 +11,8 @@ use Rattle.bits.specs.Map.{bit, putBit}
 use Rattle.rules.specs.Lists.{onOption}
 use Rattle.rules.specs.Pages.{fileOf, pageOf, keyOf}
 use Rattle.rules.specs.Readers.{noReader}
-use Rattle.rules.specs.Calls.{remade, noFile, noPage, fresh, without, woken}
+use Rattle.rules.specs.Calls.{remade, without, woken}
+use Rattle.parts.specs.Files.{noFileIn, noPageIn}
 use Rattle.rules.specs.declared.State.{State}
 use Rattle.rules.specs.declared.Answer.{Answer}
 use Rattle.rules.specs.declared.View.{View}
@@ -25,23 +26,6 @@ outcomeOf v a = record { view = v; answer = a }
 -- a refusal, which leaves the view
 abbrev pub refusal : View → ℕ → Outcome
 refusal v number = outcomeOf v (Refused number)
-
--- any state with these sizes: what the rules' tests of files and pages read
-abbrev pub sized : List ℕ → State
-sized sizes = fresh 1 1 0 sizes
-
--- the rules' 3 and 8 by the sizes
-abbrev pub noFileIn : List ℕ → ℕ → Bool
-noFileIn sizes file = noFile (sized sizes) file
-
-abbrev pub noPageIn : List ℕ → ℕ → ℕ → Bool
-noPageIn sizes file page = noPage (sized sizes) file page
-
--- numbers of a file and a page whose key can be worked out
-pub record Small (file page : ℕ) : Type 0 where
-  pub file-small : file < 256
-  pub page-low : 1 ≤ page
-  pub page-small : page ≤ 65536
 
 -- with what Arrive and Lost refuse a page: 3, 8 or 9; 0 where it is in fetch
 unfoldable pub fetchRefusal : List ℕ → List ℕ → ℕ → ℕ → ℕ

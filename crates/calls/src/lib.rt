@@ -14,13 +14,10 @@ ghost use lib.ListN.{getD};
 ghost use Rattle.bits.specs.Map.{ones};
 ghost use Rattle.rules.specs.Views.{stateOf, noPages, replyOf};
 ghost use Rattle.rules.specs.Lists.{within, every};
-ghost use Rattle.rules.specs.Pages.{fileOf, pageOf, keyOf};
 ghost use Rattle.rules.specs.Valid.{Valid, Placed};
 ghost use Rattle.rules.specs.Calls.{
   reply,
   settingsIn,
-  fresh,
-  idle,
   setupOf,
   attachOf,
   readRunning,
@@ -34,7 +31,7 @@ ghost use Rattle.rules.specs.Calls.{
   prefetchOf,
 };
 ghost use Rattle.order.specs.Choices.{chosen, Housed};
-ghost use Rattle.calls.specs.Parts.{outcomeOf, refusal, noFileIn, noPageIn, Small, fetchRefusal, OthersStay, closed, InMap, eased, landedWith, arrivalOf};
+ghost use Rattle.calls.specs.Parts.{outcomeOf, refusal, fetchRefusal, OthersStay, closed, InMap, eased, landedWith, arrivalOf};
 
 // ---- outcomes and refusals
 
@@ -51,48 +48,18 @@ pub fn refuse(v: View, number: u8) -> Outcome
     outcome(v, Answer::Refused(number))
 }
 
-// Is n from low to high, both included?
-fn within(low: u64, high: u64, n: u64) -> bool
-    ensures { λ r. ⌜ r ≡ within low high n ⌝ }
-{
-    low <= n && n <= high
-}
-
-// 3: file above 7 or of size 0.
-pub fn no_file(sizes: [u16; 8], file: u64) -> bool
-    ensures { λ r. ⌜ r ≡ noFileIn sizes file ⌝ }
-{
-    7 < file || sizes[file as usize] == 0
-}
-
-// 8: page 0 or above the size.
-pub fn no_page(sizes: [u16; 8], file: u64, page: u64) -> bool
-    requires { ⌜ file < 8 ⌝ }
-    ensures { λ r. ⌜ r ≡ noPageIn sizes file page ⌝ }
-{
-    !within(1, sizes[file as usize] as u64, page)
-}
-
-// The key of a page.
-pub fn page_key(file: u64, page: u64) -> usize
-    requires { ⌜ Small file page ⌝ }
-    ensures { λ r. ⌜ r ≡ keyOf file page ⌝ }
-{
-    (file * 1024 + page - 1) as usize
-}
-
 // With what Arrive and Lost refuse a page: 3, 8 or 9; 0 where it is in fetch.
 pub fn fetch_refusal(sizes: [u16; 8], fetching: &[u64; 128], file: u64, page: u64) -> u8
     requires { ⌜ getD sizes file 0 ≤ 1024 ⌝ }
     ensures { λ r. ⌜ r ≡ fetchRefusal sizes (now (fetching .entry)) file page ⌝ }
 {
-    if no_file(sizes, file) {
+    if parts::no_file(sizes, file) {
         return 3;
     }
-    if no_page(sizes, file, page) {
+    if parts::no_page(sizes, file, page) {
         return 8;
     }
-    if bits::has_bit(fetching, page_key(file, page)) {
+    if bits::has_bit(fetching, parts::page_key(file, page)) {
         return 0;
     }
     9
@@ -106,7 +73,7 @@ fn sizes_in(sizes: [u64; 8]) -> bool
 {
     let mut i: usize = 0;
     while i < 8 {
-        if !within(0, 1024, sizes[i]) {
+        if !parts::within(0, 1024, sizes[i]) {
             return false;
         }
         i += 1;
@@ -118,13 +85,13 @@ fn sizes_in(sizes: [u64; 8]) -> bool
 fn settings_in(frames: u64, look_ahead: u64, fetch_time: u64, sizes: [u64; 8]) -> bool
     ensures { λ r. ⌜ r ≡ settingsIn frames «look_ahead» «fetch_time» sizes ⌝ }
 {
-    if !within(1, 1024, frames) {
+    if !parts::within(1, 1024, frames) {
         return false;
     }
-    if !within(1, 2000000, look_ahead) {
+    if !parts::within(1, 2000000, look_ahead) {
         return false;
     }
-    if !within(0, 2000000, fetch_time) {
+    if !parts::within(0, 2000000, fetch_time) {
         return false;
     }
     sizes_in(sizes)
@@ -144,44 +111,16 @@ fn stored_sizes(sizes: [u64; 8]) -> [u16; 8]
     stored
 }
 
-// The view of a state without readers, pages or fetches.
-fn fresh(frames: u64, look_ahead: u64, fetch_time: u64, sizes: [u64; 8]) -> View
-    requires { ⌜ settingsIn frames «look_ahead» «fetch_time» sizes ≡ true ⌝ }
-    ensures { λ r. ⌜ stateOf r noPages noPages ≡ fresh frames «look_ahead» «fetch_time» sizes ⌝ }
-{
-    let empty = Reader {
-        condition: Condition::Empty,
-        file: 0,
-        pace: 0,
-        position: 0,
-    };
-    let stored = stored_sizes(sizes);
-    let readers = [empty; 16];
-    View {
-        frames: frames as u16,
-        turn: 0,
-        look_ahead: look_ahead as u32,
-        fetch_time: fetch_time as u32,
-        sizes: stored,
-        readers,
-    }
-}
-
-// The view of the idle state.
-pub fn idle() -> View
-    ensures { λ r. ⌜ stateOf r noPages noPages ≡ idle ⌝ }
-{
-    fresh(1, 1, 0, [0u64; 8])
-}
-
 // No page is cached or in fetch after Setup: no maps are lent.
 pub fn setup(frames: u64, look_ahead: u64, fetch_time: u64, sizes: [u64; 8]) -> Outcome
     ensures { λ r. ⌜ replyOf r noPages noPages ≡ setupOf frames «look_ahead» «fetch_time» sizes ⌝ }
 {
     if settings_in(frames, look_ahead, fetch_time, sizes) {
-        return outcome(fresh(frames, look_ahead, fetch_time, sizes), Answer::Done);
+        let stored = stored_sizes(sizes);
+        let view = parts::fresh(frames as u16, look_ahead as u32, fetch_time as u32, stored);
+        return outcome(view, Answer::Done);
     }
-    refuse(idle(), 1)
+    refuse(parts::idle(), 1)
 }
 
 // ---- the calls of a slot: one record changes, and the others stay
@@ -194,10 +133,10 @@ pub fn attach(mut v: View, slot: u64, file: u64, pace: u64) -> Outcome
         return refuse(v, 2);
     }
     let sizes = v.sizes;
-    if no_file(sizes, file) {
+    if parts::no_file(sizes, file) {
         return refuse(v, 3);
     }
-    if !within(1, 1000, pace) {
+    if !parts::within(1, 1000, pace) {
         return refuse(v, 4);
     }
     let i = slot as usize;
@@ -205,12 +144,7 @@ pub fn attach(mut v: View, slot: u64, file: u64, pace: u64) -> Outcome
     let condition = old.condition;
     match condition {
         Condition::Empty => {
-            v.readers[i] = Reader {
-                condition: Condition::Running,
-                file: file as u8,
-                pace: pace as u16,
-                position: 0,
-            };
+            v.readers[i] = parts::docked(file as u8, pace as u16);
             outcome(v, Answer::Done)
         }
         Condition::Running | Condition::Waiting => refuse(v, 5),
@@ -230,25 +164,18 @@ fn read_running(
     requires { ⌜ i < 16 ⌝ }
     ensures { λ r. ⌜ replyOf r (now (cached .entry)) (now (fetching .exit)) ≡ readRunning (stateOf v (now (cached .entry)) (now (fetching .entry))) i old ⌝ }
 {
-    let file = old.file;
-    let position = old.position;
-    if position == v.sizes[file as usize] {
+    let sizes = v.sizes;
+    if old.position == parts::last_page(sizes, old) {
         return outcome(v, Answer::End);
     }
-    let page = position + 1;
-    let key = page_key(file as u64, page as u64);
+    let file = old.file;
+    let page = old.position + 1;
+    let key = parts::next_key(old);
     if bits::has_bit(cached, key) {
-        let mut next = old;
-        next.position = page;
-        v.readers[i] = next;
+        v.readers[i] = parts::onward(old);
         return outcome(v, Answer::Hit { file, page });
     }
-    v.readers[i] = Reader {
-        condition: Condition::Waiting,
-        file,
-        pace: old.pace,
-        position,
-    };
+    v.readers[i] = parts::in_condition(old, Condition::Waiting);
     if bits::has_bit(fetching, key) {
         return outcome(v, Answer::Wait { file, page });
     }
@@ -287,12 +214,7 @@ pub fn detach(mut v: View, slot: u64) -> Outcome
     match condition {
         Condition::Empty => refuse(v, 6),
         Condition::Running | Condition::Waiting => {
-            v.readers[i] = Reader {
-                condition: Condition::Empty,
-                file: 0,
-                pace: 0,
-                position: 0,
-            };
+            v.readers[i] = parts::no_reader();
             outcome(v, Answer::Done)
         }
     }
@@ -309,13 +231,8 @@ fn wake_reader(r: Reader, key: usize) -> Reader
         Condition::Empty => r,
         Condition::Running => r,
         Condition::Waiting => {
-            if page_key(r.file as u64, r.position as u64 + 1) == key {
-                return Reader {
-                    condition: Condition::Running,
-                    file: r.file,
-                    pace: r.pace,
-                    position: r.position,
-                };
+            if parts::next_key(r) == key {
+                return parts::in_condition(r, Condition::Running);
             }
             r
         }
@@ -356,21 +273,10 @@ pub fn lost(v: View, fetching: &mut [u64; 128], file: u64, page: u64) -> Outcome
     if number != 0 {
         return refuse(v, number);
     }
-    outcome(close_fetch(v, fetching, page_key(file, page)), Answer::Done)
-}
-
-// The file of a key.
-pub fn file_of(key: u16) -> u8
-    ensures { λ r. ⌜ r ≡ fileOf key ⌝ }
-{
-    (key / 1024) as u8
-}
-
-// The page of a key.
-pub fn page_of(key: u16) -> u16
-    ensures { λ r. ⌜ r ≡ pageOf key ⌝ }
-{
-    key % 1024 + 1
+    outcome(
+        close_fetch(v, fetching, parts::page_key(file, page)),
+        Answer::Done,
+    )
 }
 
 // The page chosen, if any, gives up its frame.
@@ -407,8 +313,8 @@ pub fn arrival(gone: Choice) -> Answer
 {
     match gone {
         Choice::Key(k) => Answer::Replaced {
-            file: file_of(k),
-            page: page_of(k),
+            file: parts::file_of(k),
+            page: parts::page_of(k),
         },
         Choice::Nothing => Answer::Arrived,
     }
@@ -456,7 +362,7 @@ pub fn arrive(
         return refuse(v, number);
     }
     let gone = give_up(v, cached, fetching);
-    let after = land(v, cached, fetching, page_key(file, page), gone);
+    let after = land(v, cached, fetching, parts::page_key(file, page), gone);
     outcome(after, arrival(gone))
 }
 
@@ -471,8 +377,8 @@ pub fn steal(v: View, cached: &mut [u64; 128], fetching: &[u64; 128]) -> Answer
         Choice::Key(k) => {
             bits::clear_bit(cached, k as usize);
             Answer::Stolen {
-                file: file_of(k),
-                page: page_of(k),
+                file: parts::file_of(k),
+                page: parts::page_of(k),
             }
         }
         Choice::Nothing => Answer::Nothing,
@@ -488,8 +394,8 @@ pub fn prefetch(v: View, cached: &[u64; 128], fetching: &mut [u64; 128]) -> Answ
         Choice::Key(k) => {
             bits::set_bit(fetching, k as usize);
             Answer::Fetch {
-                file: file_of(k),
-                page: page_of(k),
+                file: parts::file_of(k),
+                page: parts::page_of(k),
             }
         }
         Choice::Nothing => Answer::Nothing,

@@ -77,7 +77,7 @@ fn put_keys(out: &mut [u8], letter: u8, keys: &[u16], n: u16) -> usize
     let mut i: usize = 0;
     while i < n as usize {
         let key = keys[i];
-        at = put_pair(out, at, calls::file_of(key) as u16, calls::page_of(key));
+        at = put_pair(out, at, parts::file_of(key) as u16, parts::page_of(key));
         i += 1;
     }
     at

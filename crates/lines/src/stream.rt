@@ -102,7 +102,7 @@ pub fn idle_image() -> [u8; image::IMAGE_LENGTH]
     let cached = [0u64; 128];
     let fetching = [0u64; 128];
     let mut image = [0u8; image::IMAGE_LENGTH];
-    image::save_whole(calls::idle(), &cached, &fetching, &mut image);
+    image::save_whole(parts::idle(), &cached, &fetching, &mut image);
     image
 }
 

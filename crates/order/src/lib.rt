@@ -1,6 +1,6 @@
-// The heads of the two orders: the page to give up, and the next page to fetch. No walk over pages, no sort.
+// The heads of the two orders, and a page's rank and use key, by which the lists are sorted. The orders themselves are not made here: of a few pages that
+// can come first, the searches keep the best.
 
-use rules::Condition;
 use rules::Reader;
 use rules::View;
 ghost use mathlib.Core.Path.{_≡_};
@@ -36,18 +36,6 @@ struct Pick {
 
 // Above every use key: the page is in no look-ahead.
 pub const NEVER: u64 = 67108864;
-
-// Is there a reader in the slot?
-fn is_attached(r: Reader) -> bool
-    ensures { λ b. ⌜ b ≡ attached r ⌝ }
-{
-    let condition = r.condition;
-    match condition {
-        Condition::Empty => false,
-        Condition::Running => true,
-        Condition::Waiting => true,
-    }
-}
 
 // The smaller of two numbers.
 fn lesser(a: u64, b: u64) -> u64
@@ -124,7 +112,7 @@ pub fn seats_of(readers: [Reader; 16]) -> [u16; 56]
     let mut slot: usize = 0;
     while slot < 16 {
         let r = readers[slot];
-        if is_attached(r) {
+        if parts::is_attached(r) {
             let at = 48 + r.file as usize;
             seats[slot] = r.position;
             seats[16 + slot] = r.pace;
@@ -214,7 +202,7 @@ fn higher(
 fn behind(r: Reader) -> usize
     ensures { λ n. ⌜ n ≡ cond (attached r) (r .position) 0 ⌝ }
 {
-    if is_attached(r) {
+    if parts::is_attached(r) {
         return r.position as usize;
     }
     0
@@ -292,12 +280,13 @@ fn sooner<'a>(
     ensures { λ r. ⌜ Soonest (stateOf v (now (cached .entry)) (now (fetching .entry))) (slot + 1) r ⌝ }
 {
     let r = v.readers[slot];
-    if !is_attached(r) {
+    if !parts::is_attached(r) {
         return best;
     }
     let file = r.file as usize;
     let position = r.position as usize;
-    let last = v.sizes[file] as usize;
+    let sizes = v.sizes;
+    let last = parts::last_page(sizes, r) as usize;
     let key = next_absent(cached, fetching, file * 1024 + position, last - position);
     if key == file * 1024 + last {
         return best;

@@ -1,5 +1,6 @@
 use borrow.Author.Needs.{needs}
-use Rattle.calls.proofs.Ranges.{file-fits, within-fits}
+use Rattle.parts.proofs.Files.{file-fits}
+use Rattle.calls.proofs.Ranges.{within-fits}
 use Rattle.calls.proofs.Slots.{attach-stays, attach-no-slot, attach-no-file, attach-no-pace, attach-there}
 use Rattle.calls.proofs.Outcomes.{answers}
 use Rattle.calls.proofs.attach.Statement.{statement}
@@ -38,14 +39,17 @@ element-copy-out-old c = search needs
 enum-told : tie.Need-enum-told
 enum-told c = search needs
 
-cast-t22 : tie.Need-cast-t22
-cast-t22 c = search (file-fits, needs)
+cast-docked : tie.Need-cast-docked
+cast-docked c = search (file-fits, needs)
 
-cast-t23 : tie.Need-cast-t23
-cast-t23 c = search (within-fits, needs)
+cast-docked-2 : tie.Need-cast-docked-2
+cast-docked-2 c = search (within-fits, needs)
 
-mul-t25 : tie.Need-mul-t25
-mul-t25 c = search needs
+docked-requires : tie.Need-docked-requires
+docked-requires c κs = search needs
+
+mul-t24 : tie.Need-mul-t24
+mul-t24 c = search needs
 
 element-set-from-v : tie.Need-element-set-from-v
 element-set-from-v c = search needs
@@ -57,7 +61,7 @@ refuse-requires-4 : tie.Need-refuse-requires-4
 refuse-requires-4 c κs = search needs
 
 returns-4 : tie.Need-returns-4
-returns-4 c = attach-stays _ _ _ _ _ (λ a b. rw (c .outcome .ensures) (search (attach-there, answers) depth 12))
+returns-4 c = attach-stays _ _ _ _ _ (λ a b. rw (c .outcome .ensures, c .before .docked .ensures) (search (attach-there, answers) depth 12))
 
 returns-5 : tie.Need-returns-5
 returns-5 c = attach-stays _ _ _ _ _ (λ a b. rw (c .refuse4 .ensures) (search (attach-there, answers) depth 12))
@@ -77,9 +81,10 @@ attach-spec =
     mul-old
     element-copy-out-old
     enum-told
-    cast-t22
-    cast-t23
-    mul-t25
+    cast-docked
+    cast-docked-2
+    docked-requires
+    mul-t24
     element-set-from-v
     outcome-requires
     refuse-requires-4

@@ -24,8 +24,11 @@ enum-told c = search needs
 refuse-requires-2 : tie.Need-refuse-requires-2
 refuse-requires-2 c κs = search needs
 
-mul-t17 : tie.Need-mul-t17
-mul-t17 c = search needs
+no-reader-requires : tie.Need-no-reader-requires
+no-reader-requires c κs = search needs
+
+mul-t16 : tie.Need-mul-t16
+mul-t16 c = search needs
 
 element-set-from-v : tie.Need-element-set-from-v
 element-set-from-v c = search needs
@@ -39,7 +42,7 @@ returns-2 c = detach-stays _ _ _ (λ a b. rw (c .refuse2 .ensures) (search answe
 
 returns-3 : tie.Need-returns-3
 unfolding detachOf
-returns-3 c = detach-stays _ _ _ (λ a b. rw (c .outcome .ensures) (search answers depth 12))
+returns-3 c = detach-stays _ _ _ (λ a b. rw (c .outcome .ensures, c .before .no-reader .ensures) (search answers depth 12))
 
 pub detach-spec : {M : Type 1} → statement M
 detach-spec =
@@ -51,7 +54,8 @@ detach-spec =
     element-copy-out-old
     enum-told
     refuse-requires-2
-    mul-t17
+    no-reader-requires
+    mul-t16
     element-set-from-v
     outcome-requires
     returns-2

@@ -1,7 +1,7 @@
 use borrow.Author.Needs.{needs}
 use Rattle.calls.specs.Parts.{fetchRefusal}
 use Rattle.calls.proofs.Outcomes.{keyed}
-use Rattle.calls.proofs.Ranges.{file-low, there-small, there-low}
+use Rattle.parts.proofs.Files.{file-low, there-small, there-low}
 use Rattle.calls.proofs.fetch_refusal.Statement.{statement}
 use Rattle.calls.proofs.fetch_refusal.Tie as tie
 

@@ -1,58 +1,63 @@
+-- The four cases of Read, each by the tests that lead to it. F goes by a law of its own: there two maps' bits, the key and the record that waits are results of calls.
 use borrow.Author.Needs.{needs}
+use Rattle.rules.specs.Views.{stateOf}
 use Rattle.rules.specs.Calls.{readRunning}
 use Rattle.calls.proofs.Outcomes.{keyed}
+use Rattle.calls.proofs.Slots.{read-fetch}
 use Rattle.calls.proofs.read_running.Statement.{statement}
 use Rattle.calls.proofs.read_running.Tie as tie
 
-cast-if1 : tie.Need-cast-if1
-cast-if1 c = search needs
+-- from where the page is looked up back to where the last page is known
+abbrev asked : tie.After-has-bit → tie.After-last-page
+asked c = c .before .before .before .before .before
 
-mul-if1 : tie.Need-mul-if1
-mul-if1 c = search needs
+-- from where the reader begins to wait back to where the page is looked up
+abbrev missed : tie.After-in-condition → tie.After-has-bit
+missed c = c .before .before
 
-element-copy-out-if1 : tie.Need-element-copy-out-if1
-element-copy-out-if1 c = search needs
+last-page-requires : tie.Need-last-page-requires
+last-page-requires c κs = c .before .pre .0 .file-low
 
 outcome-requires : tie.Need-outcome-requires
 outcome-requires c κs = search needs
 
 returns : tie.Need-returns
 unfolding readRunning
-returns c = rw (c .outcome .ensures) (search keyed depth 12)
+returns c = rw (c .outcome .ensures, ← c .before .before .before .last-page .ensures) (search keyed depth 12)
 
 add-page : tie.Need-add-page
 add-page c = search needs
 
-cast-page-key : tie.Need-cast-page-key
-cast-page-key c = search needs
-
-cast-page-key-2 : tie.Need-cast-page-key-2
-cast-page-key-2 c = search needs
-
-page-key-requires : tie.Need-page-key-requires
-page-key-requires c κs = search needs
+next-key-requires : tie.Need-next-key-requires
+next-key-requires c κs = search needs
 
 has-bit-requires : tie.Need-has-bit-requires
 has-bit-requires c κs = search needs
 
-mul-next : tie.Need-mul-next
-mul-next c = search needs
+onward-requires : tie.Need-onward-requires
+onward-requires c κs = search needs
 
-element-set-from-next : tie.Need-element-set-from-next
-element-set-from-next c = search needs
+mul-t17 : tie.Need-mul-t17
+mul-t17 c = search needs
+
+element-set-from-v : tie.Need-element-set-from-v
+element-set-from-v c = search needs
 
 outcome-requires-2 : tie.Need-outcome-requires-2
 outcome-requires-2 c κs = search needs
 
 returns-2 : tie.Need-returns-2
 unfolding readRunning
-returns-2 c = rw (c .outcome2 .ensures) (search keyed depth 12)
+returns-2 c = rw (c .outcome2 .ensures, c .before .onward .ensures, ← asked (c .before .before .before) .last-page .ensures) (search keyed depth 12)
 
-mul-t12 : tie.Need-mul-t12
-mul-t12 c = search needs
+in-condition-requires : tie.Need-in-condition-requires
+in-condition-requires c κs = search needs
 
-element-set-from-v : tie.Need-element-set-from-v
-element-set-from-v c = search needs
+mul-t24 : tie.Need-mul-t24
+mul-t24 c = search needs
+
+element-set-from-v-2 : tie.Need-element-set-from-v-2
+element-set-from-v-2 c = search needs
 
 has-bit-requires-2 : tie.Need-has-bit-requires-2
 has-bit-requires-2 c κs = search needs
@@ -62,7 +67,9 @@ outcome-requires-3 c κs = search needs
 
 returns-3 : tie.Need-returns-3
 unfolding readRunning
-returns-3 c = rw (c .outcome3 .ensures) (search keyed depth 12)
+returns-3 c =
+    let w = c .before .before .before .before in
+    rw (c .outcome3 .ensures, w .in-condition .ensures, ← asked (missed w) .last-page .ensures) (search keyed depth 12)
 
 set-bit-requires : tie.Need-set-bit-requires
 set-bit-requires c κs = search needs
@@ -71,29 +78,34 @@ outcome-requires-4 : tie.Need-outcome-requires-4
 outcome-requires-4 c κs = search needs
 
 returns-4 : tie.Need-returns-4
-unfolding readRunning
-returns-4 c = rw (c .outcome4 .ensures, c .before .set-bit .ensures, c .before .before .before .before .before .before .before .before .page-key .ensures) (search keyed depth 12)
+returns-4 c =
+    let w = c .before .before .before .before .before .before in
+    let h = missed w in
+    let a = asked h .before .before .args in
+    rw (c .outcome4 .ensures)
+    (read-fetch (stateOf (a .t1) (a .cached .now) (a .fetching .now)) (a .i) (a .old) _ _ _ _ _ _
+    (asked h .last-page .ensures) (h .before .before .before .if1 .left) (h .before .next-key .ensures)
+    (h .has-bit .ensures) (w .before .if2 .left) (c .before .before .before .before .has-bit2 .ensures) (c .before .before .before .if3 .left)
+    (w .in-condition .ensures) (c .before .set-bit .ensures))
 
 pub read-running-spec : {M : Type 1} → statement M
 read-running-spec =
     tie.close
     (tie.spec
-    cast-if1
-    mul-if1
-    element-copy-out-if1
+    last-page-requires
     outcome-requires
     returns
     add-page
-    cast-page-key
-    cast-page-key-2
-    page-key-requires
+    next-key-requires
     has-bit-requires
-    mul-next
-    element-set-from-next
+    onward-requires
+    mul-t17
+    element-set-from-v
     outcome-requires-2
     returns-2
-    mul-t12
-    element-set-from-v
+    in-condition-requires
+    mul-t24
+    element-set-from-v-2
     has-bit-requires-2
     outcome-requires-3
     returns-3

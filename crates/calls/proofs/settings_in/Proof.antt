@@ -1,6 +1,6 @@
 use borrow.Author.Needs.{needs}
 use Rattle.rules.specs.Calls.{settingsIn}
-use Rattle.calls.proofs.Outcomes.{tests}
+use Rattle.parts.proofs.Tests.{tests}
 use Rattle.calls.proofs.settings_in.Statement.{statement}
 use Rattle.calls.proofs.settings_in.Tie as tie
 

@@ -1,6 +1,8 @@
 use mathlib.Core.Path.{sym, _∙_}
+use native.Mathlib.Omega.{arith}
 use borrow.Author.Needs.{needs}
 use Rattle.rules.specs.Calls.{setupOf}
+use Rattle.calls.proofs.Ranges.{InRange, settings}
 use Rattle.calls.proofs.Outcomes.{answers}
 use Rattle.calls.proofs.setup.Statement.{statement}
 use Rattle.calls.proofs.setup.Tie as tie
@@ -8,15 +10,31 @@ use Rattle.calls.proofs.setup.Tie as tie
 settings-in-requires : tie.Need-settings-in-requires
 settings-in-requires c κs = search needs
 
+-- settings that pass are in range
+ranged : (c : tie.Then1) → InRange (c .before .before .args .frames) (c .before .before .args .«look-ahead») (c .before .before .args .«fetch-time») (c .before .before .args .sizes)
+ranged c = settings _ _ _ _ (sym (c .before .settings-in .ensures) ∙ c .if1 .taken)
+
+stored-sizes-requires : tie.Need-stored-sizes-requires
+stored-sizes-requires c κs = ranged c .sizes-high
+
+cast-fresh : tie.Need-cast-fresh
+cast-fresh c = omega (arith, ranged (c .before))
+
+cast-fresh-2 : tie.Need-cast-fresh-2
+cast-fresh-2 c = omega (arith, ranged (c .before))
+
+cast-fresh-3 : tie.Need-cast-fresh-3
+cast-fresh-3 c = omega (arith, ranged (c .before))
+
 fresh-requires : tie.Need-fresh-requires
-fresh-requires c κs = sym (c .before .settings-in .ensures) ∙ c .if1 .taken
+fresh-requires c κs = search needs
 
 outcome-requires : tie.Need-outcome-requires
 outcome-requires c κs = search needs
 
 returns : tie.Need-returns
 unfolding setupOf
-returns c = rw (c .outcome .ensures, c .before .fresh .ensures) (search answers depth 12)
+returns c = rw (c .outcome .ensures, c .before .fresh .ensures, c .before .before .stored-sizes .ensures) (search answers depth 12)
 
 idle-requires : tie.Need-idle-requires
 idle-requires c κs = search needs
@@ -33,6 +51,10 @@ setup-spec =
     tie.close
     (tie.spec
     settings-in-requires
+    stored-sizes-requires
+    cast-fresh
+    cast-fresh-2
+    cast-fresh-3
     fresh-requires
     outcome-requires
     returns

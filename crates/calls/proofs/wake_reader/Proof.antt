@@ -13,17 +13,11 @@ enum-told-2 c = search needs
 enum-told-3 : tie.Need-enum-told-3
 enum-told-3 c = search needs
 
-cast-page-key : tie.Need-cast-page-key
-cast-page-key c = search needs
+next-key-requires : tie.Need-next-key-requires
+next-key-requires c κs = search needs
 
-cast-page-key-2 : tie.Need-cast-page-key-2
-cast-page-key-2 c = search needs
-
-add-page-key : tie.Need-add-page-key
-add-page-key c = search needs
-
-page-key-requires : tie.Need-page-key-requires
-page-key-requires c κs = search needs
+in-condition-requires : tie.Need-in-condition-requires
+in-condition-requires c κs = search needs
 
 returns : tie.Need-returns
 unfolding woken
@@ -48,10 +42,8 @@ wake-reader-spec =
     enum-told
     enum-told-2
     enum-told-3
-    cast-page-key
-    cast-page-key-2
-    add-page-key
-    page-key-requires
+    next-key-requires
+    in-condition-requires
     returns
     returns-2
     returns-3

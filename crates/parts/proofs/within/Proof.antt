@@ -1,6 +1,7 @@
-use Rattle.calls.proofs.Outcomes.{tests}
-use Rattle.calls.proofs.within.Statement.{statement}
-use Rattle.calls.proofs.within.Tie as tie
+-- Two tests, of which the first can settle the answer.
+use Rattle.parts.proofs.Tests.{tests}
+use Rattle.parts.proofs.within.Statement.{statement}
+use Rattle.parts.proofs.within.Tie as tie
 
 returns : tie.Need-returns
 returns c = search tests depth 12

@@ -1,7 +1,8 @@
+-- Two tests, of which the first can settle the answer: past it the file is an index of the sizes.
 use borrow.Author.Needs.{needs}
-use Rattle.calls.proofs.Outcomes.{tests}
-use Rattle.calls.proofs.no_file.Statement.{statement}
-use Rattle.calls.proofs.no_file.Tie as tie
+use Rattle.parts.proofs.Tests.{tests}
+use Rattle.parts.proofs.no_file.Statement.{statement}
+use Rattle.parts.proofs.no_file.Tie as tie
 
 mul-result : tie.Need-mul-result
 mul-result c = search needs

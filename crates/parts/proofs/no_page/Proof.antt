@@ -1,8 +1,9 @@
+-- The test of the page from 1 to the size, turned round.
 use mathlib.Core.Path.{ap}
 use mathlib.Core.Bool.{not}
 use borrow.Author.Needs.{needs}
-use Rattle.calls.proofs.no_page.Statement.{statement}
-use Rattle.calls.proofs.no_page.Tie as tie
+use Rattle.parts.proofs.no_page.Statement.{statement}
+use Rattle.parts.proofs.no_page.Tie as tie
 
 mul-within : tie.Need-mul-within
 mul-within c = search needs

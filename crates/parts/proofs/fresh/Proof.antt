@@ -1,0 +1,13 @@
+-- Sixteen empty records: the view's other fields are the arguments.
+use borrow.Author.Needs.{needs}
+use Rattle.parts.proofs.fresh.Statement.{statement}
+use Rattle.parts.proofs.fresh.Tie as tie
+
+no-reader-requires : tie.Need-no-reader-requires
+no-reader-requires c κs = search needs
+
+returns : tie.Need-returns
+returns c = rw (c .no-reader .ensures)
+
+pub fresh-spec : {M : Type 1} → statement M
+fresh-spec = tie.close (tie.spec no-reader-requires returns)

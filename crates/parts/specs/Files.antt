@@ -1,0 +1,23 @@
+-- The rules' tests of files and pages by the sizes alone, and the numbers whose key can be worked out. Assumes nothing: these are definitions.
+use Prim.Native.Nat.{ℕ, _≤_, _<_}
+use mathlib.Core.Bool.{Bool}
+use mathlib.Core.List.{List}
+use Rattle.rules.specs.Calls.{noFile, noPage, fresh}
+use Rattle.rules.specs.declared.State.{State}
+
+-- any state with these sizes: what the rules' tests of files and pages read
+abbrev pub sized : List ℕ → State
+sized sizes = fresh 1 1 0 sizes
+
+-- the rules' 3 and 8 by the sizes
+abbrev pub noFileIn : List ℕ → ℕ → Bool
+noFileIn sizes file = noFile (sized sizes) file
+
+abbrev pub noPageIn : List ℕ → ℕ → ℕ → Bool
+noPageIn sizes file page = noPage (sized sizes) file page
+
+-- numbers of a file and a page whose key can be worked out
+pub record Small (file page : ℕ) : Type 0 where
+  pub file-small : file < 256
+  pub page-low : 1 ≤ page
+  pub page-small : page ≤ 65536

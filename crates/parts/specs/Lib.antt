@@ -1,0 +1,2 @@
+-- What the contracts of this crate speak of besides the rules.
+pub mod Files

@@ -1,0 +1,160 @@
+// What the calls, the orders, the lists and the image all build and ask of readers, files and pages. A reader or a view is made here alone, by one
+// function for each kind of change, and a file's size is asked on behalf of a reader by `last_page` alone.
+
+use rules::Condition;
+use rules::Reader;
+use rules::View;
+ghost use mathlib.Core.Path.{_≡_};
+ghost use Prim.Native.Nat.{_<_};
+ghost use Rattle.rules.specs.Views.{stateOf, noPages};
+ghost use Rattle.rules.specs.Lists.{within};
+ghost use Rattle.rules.specs.Pages.{fileOf, pageOf, keyOf};
+ghost use Rattle.rules.specs.Readers.{noReader, attached, lastPage, nextKey, inCondition, onward};
+ghost use Rattle.rules.specs.Calls.{fresh, idle, docked};
+ghost use Rattle.parts.specs.Files.{noFileIn, noPageIn, Small};
+
+// ---- files and pages
+
+// Is n from low to high, both included?
+pub fn within(low: u64, high: u64, n: u64) -> bool
+    ensures { λ r. ⌜ r ≡ within low high n ⌝ }
+{
+    low <= n && n <= high
+}
+
+// 3: file above 7 or of size 0.
+pub fn no_file(sizes: [u16; 8], file: u64) -> bool
+    ensures { λ r. ⌜ r ≡ noFileIn sizes file ⌝ }
+{
+    7 < file || sizes[file as usize] == 0
+}
+
+// 8: page 0 or above the size. The file is asked for first: 3 is listed before 8.
+pub fn no_page(sizes: [u16; 8], file: u64, page: u64) -> bool
+    requires { ⌜ file < 8 ⌝ }
+    ensures { λ r. ⌜ r ≡ noPageIn sizes file page ⌝ }
+{
+    !within(1, sizes[file as usize] as u64, page)
+}
+
+// The key of a page, whether the file has the page or not.
+pub fn page_key(file: u64, page: u64) -> usize
+    requires { ⌜ Small file page ⌝ }
+    ensures { λ r. ⌜ r ≡ keyOf file page ⌝ }
+{
+    (file * 1024 + page - 1) as usize
+}
+
+// The file of a key. Any key has one: those of the maps are below 8,192.
+pub fn file_of(key: u16) -> u8
+    ensures { λ r. ⌜ r ≡ fileOf key ⌝ }
+{
+    (key / 1024) as u8
+}
+
+// The page of a key, which counts from 1.
+pub fn page_of(key: u16) -> u16
+    ensures { λ r. ⌜ r ≡ pageOf key ⌝ }
+{
+    key % 1024 + 1
+}
+
+// ---- readers
+
+// The record of an empty slot, all 0.
+pub fn no_reader() -> Reader
+    ensures { λ r. ⌜ r ≡ noReader ⌝ }
+{
+    Reader {
+        condition: Condition::Empty,
+        file: 0,
+        pace: 0,
+        position: 0,
+    }
+}
+
+// The record that Attach gives a slot. Attach has tested the file and the pace.
+pub fn docked(file: u8, pace: u16) -> Reader
+    ensures { λ r. ⌜ r ≡ docked file pace ⌝ }
+{
+    Reader {
+        condition: Condition::Running,
+        file,
+        pace,
+        position: 0,
+    }
+}
+
+// The reader after a Read that answers H.
+pub fn onward(r: Reader) -> Reader
+    requires { ⌜ r .position < 65535 ⌝ }
+    ensures { λ t. ⌜ t ≡ onward r ⌝ }
+{
+    let mut next = r;
+    next.position = r.position + 1;
+    next
+}
+
+// The reader that begins to wait, or runs again.
+pub fn in_condition(r: Reader, condition: Condition) -> Reader
+    ensures { λ t. ⌜ t ≡ inCondition condition r ⌝ }
+{
+    Reader {
+        condition,
+        file: r.file,
+        pace: r.pace,
+        position: r.position,
+    }
+}
+
+// Is there a reader in the slot? Running and waiting readers count alike.
+pub fn is_attached(r: Reader) -> bool
+    ensures { λ b. ⌜ b ≡ attached r ⌝ }
+{
+    let condition = r.condition;
+    match condition {
+        Condition::Empty => false,
+        Condition::Running => true,
+        Condition::Waiting => true,
+    }
+}
+
+// The page at which the reader is at its end. Nothing else asks a file's size on behalf of a reader.
+pub fn last_page(sizes: [u16; 8], r: Reader) -> u16
+    requires { ⌜ r .file < 8 ⌝ }
+    ensures { λ n. ⌜ n ≡ lastPage sizes r ⌝ }
+{
+    let file = r.file as usize;
+    sizes[file]
+}
+
+// The key of the page after the reader's position, whether the file has the page or not.
+pub fn next_key(r: Reader) -> usize
+    ensures { λ k. ⌜ k ≡ nextKey r ⌝ }
+{
+    page_key(r.file as u64, r.position as u64 + 1)
+}
+
+// ---- views
+
+// The view of a state without readers, pages or fetches. Its maps are the caller's.
+pub fn fresh(frames: u16, look_ahead: u32, fetch_time: u32, sizes: [u16; 8]) -> View
+    ensures { λ r. ⌜ stateOf r noPages noPages ≡ fresh frames «look_ahead» «fetch_time» sizes ⌝ }
+{
+    let readers = [no_reader(); 16];
+    View {
+        frames,
+        turn: 0,
+        look_ahead,
+        fetch_time,
+        sizes,
+        readers,
+    }
+}
+
+// The view of the idle state, which a refused Setup or Restore gives and with which the program starts.
+pub fn idle() -> View
+    ensures { λ r. ⌜ stateOf r noPages noPages ≡ idle ⌝ }
+{
+    fresh(1, 1, 0, [0u16; 8])
+}
