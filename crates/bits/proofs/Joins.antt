@@ -16,7 +16,7 @@ joined [] ys = ys
 joined (x ∷ xs) [] = x ∷ xs
 joined (x ∷ xs) (y ∷ ys) = bitOr x y ∷ joined xs ys
 
-joined-at : (xs ys : List ℕ) (i : ℕ) → getD (joined xs ys) i 0 ≡ bitOr (getD xs i 0) (getD ys i 0)
+pub joined-at : (xs ys : List ℕ) (i : ℕ) → getD (joined xs ys) i 0 ≡ bitOr (getD xs i 0) (getD ys i 0)
 unfolding joined
 joined-at [] ys i = sym (or-zero-l (getD ys i 0))
 joined-at (x ∷ xs) [] i = sym (or-zero-r (getD (x ∷ xs) i 0))

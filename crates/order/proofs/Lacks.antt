@@ -7,7 +7,7 @@ use lib.Bits.{bitOr, or-lt}
 use lib.Count.{trailingZeros}
 use lib.ListN.{getD}
 use Rattle.bits.specs.Map.{nextBit}
-use Rattle.bits.proofs.Joins.{joined, joined-clear}
+use Rattle.bits.proofs.Joins.{joined, joined-at, joined-clear}
 use Rattle.bits.proofs.Finds.{Next, next-not, next-shr, next-word}
 use Rattle.order.specs.Absent.{nextAbsent}
 
