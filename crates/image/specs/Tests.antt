@@ -40,7 +40,7 @@ SizesLow sizes = (f : ℕ) → getD sizes f 0 ≤ 1024
 abbrev pub settingsFrom : List ℕ → List ℕ → Bool
 settingsFrom image sizes = settingsIn (numberAt 2 image 0) (numberAt 4 image 4) (numberAt 4 image 8) sizes
 
--- the numbers after the turn and before the maps are 0
+-- the number between the turn and L, and the one before the maps, are 0
 abbrev pub gapsHold : List ℕ → Bool
 gapsHold numbers = eqb (getD numbers 2 0) 0 && eqb (getD numbers 93 0) 0
 

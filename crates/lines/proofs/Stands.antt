@@ -21,7 +21,7 @@ use Rattle.text.specs.Streams.{OnePiece, Fed, behind, answered, feed, feedAll, 
 use Rattle.text.proofs.Pieces.{by-test, split-some}
 use Rattle.text.proofs.Keeps.{by-most, clipped-short, clipped-long, clipped-more, clipped-none, kept-length, text-kept, text-none, text-some}
 use Rattle.text.proofs.Feeds.{piece-last, pieces-behind, feed-line, feed-part, feed-none, feed-one, none-one, long-refused, fed-whole}
-use Rattle.lines.specs.Responses.{longest, Roomy, lineEnd}
+use Rattle.lines.specs.Responses.{answerRoom, Roomy, lineEnd}
 use Rattle.lines.specs.Sessions.{Reached, taken, startOf, noText, Taken, saved, goneOf, feedOf, finishOf, StandsIn}
 use Rattle.lines.proofs.Taking.{ready-all, taken-cons, taken-stop, taken-valid, feed-taken}
 
@@ -52,7 +52,7 @@ unfolding taken
 taken-clipped room [] f at = rw (clipped-twice (f .text))
 taken-clipped room (piece ∷ []) f at = rw (clipped-more (f .text) piece)
 taken-clipped room (piece ∷ (more ∷ pieces)) f at =
-    by-most (length (f .output) + longest) room
+    by-most (length (f .output) + answerRoom) room
     (λ h.
     ap clipAll (taken-cons room (clip f) at piece more pieces h)
     ∙ ap (λ r. clipAll (taken room (record { state = r .state; text = []; output = f .output ++ (r .line ++ lineEnd) }) (at + length piece + 1) (more ∷ pieces)))
@@ -87,7 +87,7 @@ fed-on room before chunk (piece ∷ []) f at e one =
     let ended : OnePiece (ascii "\n") (f .text ++ piece) = subst (λ g. OnePiece (ascii "\n") (g .text)) part (feed-one (onward before f) (drop at chunk)) in
     record { rest = part ∙ rw (drop-of-length-le chunk past) (sym (feed-none (onward before (behind f piece)) ended)); one = ended; far = omega arith }
 fed-on room before chunk (piece ∷ (more ∷ pieces)) f at e one =
-    by-most (length (f .output) + longest) room
+    by-most (length (f .output) + answerRoom) room
     (λ h.
     let next = at + length piece + 1 in
     let line = f .text ++ piece in
@@ -103,14 +103,14 @@ fed-on room before chunk (piece ∷ (more ∷ pieces)) f at e one =
 
 -- the first line always has room, so something is taken of what is left
 taken-some : (room : ℕ) (chunk : List ℕ) (pieces : List (List ℕ)) (f : Fed) (at : ℕ) → split (ascii "\n") (drop at chunk) ≡ pieces → OnePiece (ascii "\n") (f .text)
-    → f .output ≡ [] → longest ≤ room → at < length chunk → at < taken room f at pieces .next
+    → f .output ≡ [] → answerRoom ≤ room → at < length chunk → at < taken room f at pieces .next
 unfolding taken
 taken-some room chunk [] f at e one none roomy h =
     let some = split-some (ascii "\n") (drop at chunk) in
     let z : _≡_ {A = ℕ} 0 1 = cc in absurd (omega arith)
 taken-some room chunk (piece ∷ []) f at e one none roomy h = omega (arith, ap length (piece-last chunk at piece e), length-drop at chunk)
 taken-some room chunk (piece ∷ (more ∷ pieces)) f at e one none roomy h =
-    let room-left : length (f .output) + longest ≤ room = rw none roomy in
+    let room-left : length (f .output) + answerRoom ≤ room = rw none roomy in
     let on = fed-on room [] chunk (more ∷ pieces) (answered f (f .text ++ piece)) (at + length piece + 1) (pieces-behind chunk at piece more pieces e) (none-one (ascii "\n")) in
     rw (taken-cons room f at piece more pieces room-left) (omega (arith, on .far))
 
@@ -226,7 +226,7 @@ module _ (image text out : List ℕ) (f : Fed) (at : StandsIn image text f) (roo
   unfolding taken split
   end-output =
       let line : textIn text ++ [] ≡ clipped (f .text) = append-nil (textIn text) ∙ at .text-is in
-      rw (le-leb longest (length out) roomy, line, respond-clipped (f .state) (f .text))
+      rw (le-leb answerRoom (length out) roomy, line, respond-clipped (f .state) (f .text))
 
   pub finish-stands : take (finishOf image text out .len) (finishOf image text out .out) ≡ lastOf f
   unfolding finishOf goneOf

@@ -32,7 +32,7 @@ use Rattle.text.specs.Streams.{Fed, behind, answered}
 use Rattle.text.proofs.Pieces.{split-some}
 use Rattle.text.proofs.Keeps.{by-most, end-line, end-last, text-none, kept-over, kept-fits, kept-front, kept-same, kept-none, copied-whole}
 use Rattle.text.proofs.Feeds.{long-refused}
-use Rattle.lines.specs.Responses.{longest, lineEnd, Answered, Gives}
+use Rattle.lines.specs.Responses.{answerRoom, lineEnd, Answered, Gives}
 use Rattle.lines.specs.Sessions.{taken, startOf, Gone, goneOf, Left, Taken, leftIn, fedIn, ready, saved, feedOf, finishOf}
 use Rattle.lines.proofs.Kept.{respond-kept}
 use Rattle.lines.proofs.Replies.{others, refused-by, carried-by}
@@ -40,23 +40,23 @@ use Rattle.lines.proofs.Replies.{others, refused-by, carried-by}
 -- ---- can lines be taken?
 
 module _ (text chunk : List ℕ) (from : ℕ) (out : List ℕ) where
-  pub ready-short : length out < longest → false ≡ ready text chunk from out
+  pub ready-short : length out < answerRoom → false ≡ ready text chunk from out
   unfolding ready
   ready-short h = rw (lt-leb _ _ h)
 
-  pub ready-other : longest ≤ length out → (length text ≡ 201 → ⊥) → false ≡ ready text chunk from out
+  pub ready-other : answerRoom ≤ length out → (length text ≡ 201 → ⊥) → false ≡ ready text chunk from out
   unfolding ready
   ready-other h n = rw (le-leb _ _ h, ne-eqb _ _ n)
 
-  pub ready-past : longest ≤ length out → length text ≡ 201 → length chunk < from → false ≡ ready text chunk from out
+  pub ready-past : answerRoom ≤ length out → length text ≡ 201 → length chunk < from → false ≡ ready text chunk from out
   unfolding ready
   ready-past h e p = rw (le-leb _ _ h, eq-eqb _ _ e, lt-leb _ _ p)
 
-  pub ready-all : longest ≤ length out → length text ≡ 201 → from ≤ length chunk → true ≡ ready text chunk from out
+  pub ready-all : answerRoom ≤ length out → length text ≡ 201 → from ≤ length chunk → true ≡ ready text chunk from out
   unfolding ready
   ready-all h e p = rw (le-leb _ _ h, eq-eqb _ _ e, le-leb _ _ p)
 
-  pub ready-room : ready text chunk from out ≡ true → (longest ≤ length out) × (length text ≡ 201) × (from ≤ length chunk)
+  pub ready-room : ready text chunk from out ≡ true → (answerRoom ≤ length out) × (length text ≡ 201) × (from ≤ length chunk)
   unfolding ready
   ready-room t =
       let a = and-true _ _ t in
@@ -90,12 +90,12 @@ module _ (s : State) (zeros copy line text piece : List ℕ) (before after : Lis
 
 -- a piece that others follow is a line: there is room for its answer, or none
 module _ (room : ℕ) (f : Fed) (at : ℕ) (piece more : List ℕ) (pieces : List (List ℕ)) where
-  pub taken-cons : length (f .output) + longest ≤ room
+  pub taken-cons : length (f .output) + answerRoom ≤ room
       → taken room f at (piece ∷ (more ∷ pieces)) ≡ taken room (answered f (f .text ++ piece)) (at + length piece + 1) (more ∷ pieces)
   unfolding taken
   taken-cons h = rw (le-leb _ _ h)
 
-  pub taken-stop : room < length (f .output) + longest → taken room f at (piece ∷ (more ∷ pieces)) ≡ record { fed = f; next = at }
+  pub taken-stop : room < length (f .output) + answerRoom → taken room f at (piece ∷ (more ∷ pieces)) ≡ record { fed = f; next = at }
   unfolding taken
   taken-stop h = rw (lt-leb _ _ h)
 
@@ -108,7 +108,7 @@ module _ (room : ℕ) (f : Fed) (chunk : List ℕ) (at : ℕ) where
   parts h = end-line chunk at h ∙ ap (λ ps. take (endOf chunk at - at) (drop at chunk) ∷ ps) (split-some (ascii "\n") (drop (endOf chunk at + 1) chunk))
 
   -- it is answered, if there is room for its answer
-  pub taken-line : endOf chunk at < length chunk → length (f .output) + longest ≤ room
+  pub taken-line : endOf chunk at < length chunk → length (f .output) + answerRoom ≤ room
       → taken room f at (split (ascii "\n") (drop at chunk))
       ≡ taken room (answered f (f .text ++ take (endOf chunk at - at) (drop at chunk))) (endOf chunk at + 1) (split (ascii "\n") (drop (endOf chunk at + 1) chunk))
   taken-line h fits =
@@ -121,7 +121,7 @@ module _ (room : ℕ) (f : Fed) (chunk : List ℕ) (at : ℕ) where
       ∙ ap (λ n. taken room (answered f (f .text ++ p)) n (split (ascii "\n") (drop (endOf chunk at + 1) chunk))) place
 
   -- there is none
-  pub taken-full : endOf chunk at < length chunk → room < length (f .output) + longest
+  pub taken-full : endOf chunk at < length chunk → room < length (f .output) + answerRoom
       → taken room f at (split (ascii "\n") (drop at chunk)) ≡ record { fed = f; next = at }
   taken-full h full = ap (taken room f at) (parts h) ∙ taken-stop room f at _ _ _ full
 
@@ -139,7 +139,7 @@ unfolding taken
 taken-valid room [] f at v = v
 taken-valid room (piece ∷ []) f at v = v
 taken-valid room (piece ∷ (more ∷ pieces)) f at v =
-    by-most (length (f .output) + longest) room
+    by-most (length (f .output) + answerRoom) room
     (λ h.
     rw (taken-cons room f at piece more pieces h)
     (taken-valid room (more ∷ pieces) (answered f (f .text ++ piece)) (at + length piece + 1) (respond-kept (f .state) (f .text ++ piece) v)))
@@ -205,7 +205,7 @@ module _ (start : State) (text₀ chunk : List ℕ) (from : ℕ) (out₀ : List 
   out-is = rw (← k .past) (take-append-drop len out)
 
   -- one line more
-  pub going-more : end < length chunk → longest ≤ length out - len → (part : List ℕ) (a : Answered)
+  pub going-more : end < length chunk → answerRoom ≤ length out - len → (part : List ℕ) (a : Answered)
       → Gives (respondOf s (textIn text ++ take (end - next) (drop next chunk))) (take (length out - len) (drop len out)) part a
       → length (putMid len (length out - len) out part) ≡ length out → (to : ℕ) → to ≡ endOf chunk (end + 1)
       → Going start text₀ chunk from out₀ (a .state) (set text 0 0) (putMid len (length out - len) out part) (end + 1) (len + a .len) to
@@ -220,7 +220,7 @@ module _ (start : State) (text₀ chunk : List ℕ) (from : ℕ) (out₀ : List 
       let first : 0 < length text = omega (arith, k .sized) in
       let none : textIn (set text 0 0) ≡ [] = text-none (set text 0 0) (getD-set-same text 0 0 0 first) in
       let here : endOf chunk next < length chunk = rw (← k .ends) h in
-      let fits : length (take len out) + longest ≤ length out₀ = rw output-is (omega (arith, k .long)) in
+      let fits : length (take len out) + answerRoom ≤ length out₀ = rw output-is (omega (arith, k .long)) in
       let step : taken (length out₀) f next (split (ascii "\n") (drop next chunk)) ≡ taken (length out₀) (answered f line) (end + 1) (split (ascii "\n") (drop (end + 1) chunk))
       = rw (k .ends) (taken-line (length out₀) f chunk next here fits) in
       let fed : answered f line ≡ record { state = a .state; text = textIn (set text 0 0); output = take (len + a .len) after } = rw (g .state, none, front-is) in
@@ -257,13 +257,13 @@ module _ (start : State) (text₀ chunk : List ℕ) (from : ℕ) (out₀ : List 
       rw (t, output-is, text-is, out-is)
 
   -- no room is left
-  pub going-full : end < length chunk → length out - len < longest → longest ≤ length out₀
+  pub going-full : end < length chunk → length out - len < answerRoom → answerRoom ≤ length out₀
       → record { state = s; text = text; out = out; next = next; len = len } ≡ goneOf start text₀ chunk from out₀
   unfolding goneOf
   going-full h full roomy =
       let f : Fed = record { state = s; text = textIn text; output = take len out } in
       let here : endOf chunk next < length chunk = rw (← k .ends) h in
-      let none : length out₀ < length (take len out) + longest = rw output-is (omega (arith, k .long, k .fits)) in
+      let none : length out₀ < length (take len out) + answerRoom = rw output-is (omega (arith, k .long, k .fits)) in
       let t = k .same ∙ taken-full (length out₀) f chunk next here none in
       let zero = k .emptied (omega (arith, k .long)) in
       let text-is : kept text₀ (textIn text) ≡ text = ap (kept text₀) (text-none text zero) ∙ kept-none text₀ text (k .sized) zero (k .bytes) in

@@ -14,13 +14,13 @@ use Rattle.rules.specs.declared.State.{State}
 use Rattle.text.specs.Written.{Put}
 use Rattle.lines.specs.declared.Said.{Said}
 
--- the longest answer, that of 8,192 pairs, has 57,351 bytes with its line end
-abbrev pub longest : ℕ
-longest = 57351
+-- no answer is longer: a letter, a comma and a count of four digits, at most 8,192 pairs of at most seven bytes, and the line end
+abbrev pub answerRoom : ℕ
+answerRoom = 57351
 
--- a buffer has room for it
+-- a buffer has room for any answer
 abbrev pub Roomy : List ℕ → Type 0
-Roomy buffer = longest ≤ length buffer
+Roomy buffer = answerRoom ≤ length buffer
 
 -- behind every answer line
 abbrev pub lineEnd : List ℕ

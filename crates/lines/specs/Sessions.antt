@@ -15,7 +15,7 @@ use Rattle.rules.specs.Lines.{split}
 use Rattle.rules.specs.declared.State.{State}
 use Rattle.text.specs.Cuts.{clipped, textIn, kept}
 use Rattle.text.specs.Streams.{OnePiece, Fed, behind, answered}
-use Rattle.lines.specs.Responses.{longest, lineEnd}
+use Rattle.lines.specs.Responses.{answerRoom, lineEnd}
 use Rattle.lines.specs.declared.Went.{Went}
 use Rattle.lines.specs.declared.Progress.{Progress}
 
@@ -27,12 +27,12 @@ pub record Reached : Type 0 where
   pub next : ℕ
 
 -- the pieces of a chunk from a place on, parted by line ends: the line that a piece completes is answered, as long as a buffer of so many bytes has room for
--- the longest answer behind those before it; the last piece, which no line end follows, goes behind the text
+-- any answer behind those before it; the last piece, which no line end follows, goes behind the text
 unfoldable pub taken : ℕ → Fed → ℕ → List (List ℕ) → Reached
 taken room f at [] = record { fed = f; next = at }
 taken room f at (piece ∷ []) = record { fed = behind f piece; next = at + length piece }
 taken room f at (piece ∷ (more ∷ pieces)) =
-    cond (leb (length (f .output) + longest) room) (taken room (answered f (f .text ++ piece)) (at + length piece + 1) (more ∷ pieces))
+    cond (leb (length (f .output) + answerRoom) room) (taken room (answered f (f .text ++ piece)) (at + length piece + 1) (more ∷ pieces))
     (record { fed = f; next = at })
 
 -- a state and a text in its buffer, before any answer
@@ -91,9 +91,9 @@ leftIn len image text out = record { image = image; text = text; out = out; len 
 abbrev pub fedIn : Progress → List ℕ → List ℕ → List ℕ → Taken
 fedIn r image text out = record { left = leftIn (r .len) image text out; next = r .next }
 
--- room for the longest answer, a buffer for a text, and a place of the chunk
+-- room for any answer, a buffer for a text, and a place of the chunk
 unfoldable pub ready : List ℕ → List ℕ → ℕ → List ℕ → Bool
-ready text chunk from out = leb longest (length out) && (eqb (length text) 201 && leb from (length chunk))
+ready text chunk from out = leb answerRoom (length out) && (eqb (length text) 201 && leb from (length chunk))
 
 -- lines taken, and the image of the state after them
 abbrev pub saved : Gone → Taken
@@ -105,7 +105,7 @@ feedOf image text chunk from out =
     cond (ready text chunk from out && carriedOut (restoreOf image .answer)) (saved (goneOf (restoreOf image .state) text chunk from out))
     (fedIn (record { next = from; len = 0 }) image text out)
 
--- at the end of the input a text that is not empty is one last line, as if its line end followed
+-- at the end of the input a text that is not empty is one last line, fed as if its line end followed
 unfoldable pub finishOf : List ℕ → List ℕ → List ℕ → Left
 finishOf image text out = cond (eqb (getD text 0 0) 0) (leftIn 0 image text out) (feedOf image text lineEnd 0 out .left)
 

@@ -20,7 +20,7 @@ ghost use Rattle.lines.specs.Responses.{Roomy, saidOf, Gives};
 ghost use Rattle.text.specs.Cuts.{textIn};
 ghost use Rattle.lines.specs.Sessions.{noText, ready, goneIn, goneOf, leftIn, fedIn, feedOf, finishOf};
 
-// The bytes of the longest answer, that of 8,192 pairs, with its line end.
+// No answer is longer: a letter, a count, at most 8,192 pairs of at most seven bytes, and a line end.
 const ROOM: usize = 57351;
 
 // ---- a chunk line by line
@@ -130,7 +130,7 @@ fn ready(text: &[u8], chunk: &[u8], from: usize, out: &[u8]) -> bool
 }
 
 // Takes lines of the chunk from `from` on, as long as there is room for one more answer. With an image that Restore refuses, no buffer of 201 bytes for
-// the text, a place past the chunk, or a buffer too short for any answer, none is taken and all is left.
+// the text, a place past the chunk, or a buffer shorter than `ROOM`, none is taken and all is left.
 pub fn feed(
     image: &mut [u8],
     text: &mut [u8],
@@ -168,7 +168,7 @@ pub fn feed(
     }
 }
 
-// The end of the input: a text that is not empty is one last line, as if its line end followed.
+// The end of the input: a text that is not empty is one last line, fed as if its line end followed.
 pub fn finish(image: &mut [u8], text: &mut [u8], out: &mut [u8]) -> usize
     ensures { λ r. ⌜ leftIn r (now (image .exit)) (now (text .exit)) (now (out .exit)) ≡ finishOf (now (image .entry)) (now (text .entry)) (now (out .entry)) ⌝ }
 {

@@ -5,7 +5,7 @@ use mathlib.Core.List.{List}
 use Rattle.rules.specs.Calls.{noFile, noPage, fresh}
 use Rattle.rules.specs.declared.State.{State}
 
--- any state with these sizes: what the rules' tests of files and pages read
+-- a state with these sizes, which are all that the rules' tests of files and pages read
 abbrev pub sized : List ℕ → State
 sized sizes = fresh 1 1 0 sizes
 

@@ -19,7 +19,7 @@ use Rattle.quay.specs.declared.Input.the-variants.{Bytes}
 pub starts : (image text : List ℕ) → image ≡ imageOf idle → text ≡ noText → Stands image text
 starts image text e t = (unfed, subst (λ i. StandsIn i text unfed) (sym e) (subst (λ u. StandsIn (imageOf idle) u unfed) (sym t) stands-first))
 
--- bytes that were read are in the chunk
+-- no more bytes were read than the chunk has
 pub bytes-within : (r : Input) (n : ℕ) (chunk : List ℕ) → r ≡ Bytes n → Within r chunk → n ≤ length chunk
 bytes-within r n chunk e w = subst (λ q. Within q chunk) e w
 

@@ -11,7 +11,7 @@ use Rattle.quay.specs.declared.Input.the-variants.{Bytes, End, Failed}
 abbrev pub Stands : List ℕ → List ℕ → Type 0
 Stands image text = (f : Fed) × StandsIn image text f
 
--- the bytes that were read are in the chunk
+-- no more bytes were read than the chunk has
 abbrev pub Within : Input → List ℕ → Type 0
 Within (Bytes n) chunk = n ≤ length chunk
 Within End chunk = Unit {0}

@@ -25,7 +25,7 @@ reply s a = record { state = s; answer = a }
 abbrev pub refused : State → ℕ → Reply
 refused s number = reply s (Refused number)
 
--- the state with another turn, readers and maps: every call but Setup and Restore makes its state by this
+-- the state with another turn, readers and maps: every call that changes a state, but Setup and Restore, makes the new one by this
 abbrev pub remade : State → ℕ → List Reader → List ℕ → List ℕ → State
 remade s turn readers cached fetching =
     record {

@@ -57,7 +57,7 @@ wellFormed line = leb (length line) 200 && (eqb (length (getD (split (ascii ",")
 
 -- ---- an answer line
 
--- the last of at most so many digits of n
+-- the digits of n, or the last of them if there are more than so many
 unfoldable pub digitsOf : ℕ → ℕ → List ℕ
 digitsOf zero n = []
 digitsOf (suc more) n = cond (ltb n 10) [] (digitsOf more (n / 10)) ++ (ascii "0" + n % 10) ∷ []

@@ -55,6 +55,6 @@ pub record FirstAbsent (s : State) (r : Reader) (k : ℕ) : Type 0 where
 abbrev pub AtLeast : State → ℕ → ℕ → Type 0
 AtLeast s b j = (k : ℕ) → T (sees s (readerAt s j) k) → FirstAbsent s (readerAt s j) k → b ≤ useFor s k j
 
--- no first absent page of the first m slots has a key below b
+-- no first absent page of the first m slots that its slot sees has for the slot a key below b
 abbrev pub NoneBelow : State → ℕ → ℕ → Type 0
 NoneBelow s m b = (j : ℕ) → j < m → AtLeast s b j

@@ -21,7 +21,7 @@ count (suc n) P = num (P n) + count n P
 abbrev pub added : Set → Set → Set
 added B B′ k = B′ k && not (B k)
 
--- one set for each read: "Each set has the page of its read, and at most as many pages as there are frames"; keys are below n
+-- one set for each read: "Each set has the page of its read, and at most as many pages as there are frames"; keys from n on are not counted
 unfoldable pub Serves : ℕ → ℕ → List ℕ → List Set → Type 0
 Serves n frames [] [] = Unit {0}
 Serves n frames [] (B ∷ Bs) = ⊥

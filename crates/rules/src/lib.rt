@@ -58,7 +58,7 @@ pub enum Listing {
     Declined(u8),
 }
 
-// A call's outcome by the rules: the state after it and the answer.
+// What a call gives by the rules: the state after it and the answer. A type of the rules: no function passes it.
 pub struct Reply {
     pub state: State,
     pub answer: Answer,

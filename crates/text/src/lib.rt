@@ -12,8 +12,8 @@ ghost use Rattle.text.specs.Cuts.{endOf, textIn, kept};
 
 // ---- a line taken apart
 
-// What a line asks: its letter, and the values of its `count` fields in front of zeros. Where it is no line of the
-// program's, `ok` is false and the rest 0.
+// What a line asks: its letter, and the values of its `count` fields in front of zeros. Where it is not well formed, or has
+// more fields than any letter takes, `ok` is false and the rest 0.
 pub struct Command {
     pub ok: bool,
     pub letter: u8,
@@ -27,7 +27,7 @@ enum Field {
     Bad,
 }
 
-// A field's value with one more digit, or more than a field may hold.
+// A field's value with one more byte: more digits, or no value of a field.
 enum Value {
     Within(u64),
     Over,

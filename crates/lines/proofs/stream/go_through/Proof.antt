@@ -7,7 +7,7 @@ use native.Mathlib.Omega.{arith}
 use borrow.Author.Needs.{needs}
 use borrow.Author.Tests.{leb-true, leb-false}
 use lib.ListN.{length, drop, length-take, length-drop}
-use Rattle.lines.specs.Responses.{longest}
+use Rattle.lines.specs.Responses.{answerRoom}
 use Rattle.rules.specs.Views.{stateOf}
 use Rattle.lines.proofs.Taking.{Going, going-none, going-more, going-far, going-rest, going-full}
 use Rattle.lines.proofs.stream.go_through.Statement.{statement}
@@ -53,7 +53,7 @@ part-answer-line-end-2 c = search needs
 answer-line-requires : tie.Need-answer-line-requires Inv-loop μ-loop
 answer-line-requires c κs =
     let at-loop = c .before .before .before .before .before .before .before .loop in
-    let room = leb-true longest (length (at-loop .out) - at-loop .len) (c .before .before .before .before .before .if1 .taken) in
+    let room = leb-true answerRoom (length (at-loop .out) - at-loop .len) (c .before .before .before .before .before .if1 .taken) in
     (at-loop .inv .valid, (at-loop .inv .sized, omega (arith, room, length-take (length (at-loop .out) - at-loop .len) (drop (at-loop .len) (at-loop .out)), length-drop (at-loop .len) (at-loop .out))))
 
 slice-write-text : tie.Need-slice-write-text Inv-loop μ-loop
@@ -65,7 +65,7 @@ add-next c = omega (arith, c .before .before .before .before .before .before .be
 add-len : tie.Need-add-len Inv-loop μ-loop
 add-len c =
     let at-loop = c .before .before .before .before .before .before .before .before .before .before .before .before in
-    let went = going-more _ _ _ _ _ _ _ _ _ _ _ (at-loop .loop .inv) (c .before .before .before .before .before .before .before .before .before .before .before .loop-test .taken) (leb-true longest _ (c .before .before .before .before .before .before .before .before .before .before .if1 .taken)) _ _ (c .before .before .before .before .answer-line .ensures) (search needs) _ refl in
+    let went = going-more _ _ _ _ _ _ _ _ _ _ _ (at-loop .loop .inv) (c .before .before .before .before .before .before .before .before .before .before .before .loop-test .taken) (leb-true answerRoom _ (c .before .before .before .before .before .before .before .before .before .before .if1 .taken)) _ _ (c .before .before .before .before .answer-line .ensures) (search needs) _ refl in
     omega (arith, went .fits, went .long, c .before .before .before .before .before .before .before .before .before .before .before .before .before .before .before .before .before .good .1 .1 .1 .1 .1 .1 .0)
 
 line-end-requires-2 : tie.Need-line-end-requires-2 Inv-loop μ-loop
@@ -78,7 +78,7 @@ loop-less c =
 
 loop-again : tie.Need-loop-again Inv-loop μ-loop
 loop-again c =
-    going-more _ _ _ _ _ _ _ _ _ _ _ (c .before .before .before .before .before .before .before .before .before .before .before .before .before .loop .inv) (c .before .before .before .before .before .before .before .before .before .before .before .before .loop-test .taken) (leb-true longest _ (c .before .before .before .before .before .before .before .before .before .before .before .if1 .taken)) _ _ (c .before .before .before .before .before .answer-line .ensures) (search needs) _ (c .line-end2 .ensures)
+    going-more _ _ _ _ _ _ _ _ _ _ _ (c .before .before .before .before .before .before .before .before .before .before .before .before .before .loop .inv) (c .before .before .before .before .before .before .before .before .before .before .before .before .loop-test .taken) (leb-true answerRoom _ (c .before .before .before .before .before .before .before .before .before .before .before .if1 .taken)) _ _ (c .before .before .before .before .before .answer-line .ensures) (search needs) _ (c .line-end2 .ensures)
 
 sub-append : tie.Need-sub-append Inv-loop μ-loop
 sub-append c = search needs
@@ -111,7 +111,7 @@ returns-2 : tie.Need-returns-2 Inv-loop μ-loop
 returns-2 c =
     let at-loop = c .before .before in
     going-full _ _ _ _ _ _ _ _ _ _ _ (at-loop .loop .inv) (c .if2 .left)
-    (⊎-elim (λ w. leb-false longest _ (w .1 .left)) (λ w. absurd (omega (arith, c .if2 .left, w .left))) (c .before .loop-test .came)) (c .before .before .before .before .before .before .before .pre .1 .2)
+    (⊎-elim (λ w. leb-false answerRoom _ (w .1 .left)) (λ w. absurd (omega (arith, c .if2 .left, w .left))) (c .before .loop-test .came)) (c .before .before .before .before .before .before .before .pre .1 .2)
 
 pub go-through-spec : {M : Type 1} → statement M
 go-through-spec =
