@@ -48,31 +48,19 @@ fn reader_in(image: &[u8], slot: usize) -> Reader
 {
     let at = READERS_AT + 8 * slot;
     let condition = condition_of(get_u8(image, at));
-    Reader {
+    parts::reader_of(
         condition,
-        file: get_u8(image, at + 1),
-        pace: get_u16(image, at + 2),
-        position: get_u16(image, at + 4),
-    }
-}
-
-fn no_readers() -> [Reader; 16]
-    ensures { λ r. ⌜ r ≡ replicate 16 noReader ⌝ }
-{
-    let r = Reader {
-        condition: Condition::Empty,
-        file: 0,
-        pace: 0,
-        position: 0,
-    };
-    [r; 16]
+        get_u8(image, at + 1),
+        get_u16(image, at + 2),
+        get_u16(image, at + 4),
+    )
 }
 
 fn readers_in(image: &[u8]) -> [Reader; 16]
     requires { ⌜ length (now image) ≡ imageLength ⌝ }
     ensures { λ r. ⌜ r ≡ map (readerFrom (imageNumbers (now (image .entry)))) (range 0 16) ⌝ }
 {
-    let mut readers = no_readers();
+    let mut readers = [parts::no_reader(); 16];
     let mut j: usize = 0;
     while j < 16 {
         let r = reader_in(image, j);
@@ -109,20 +97,6 @@ fn read_words(words: &mut [u64], image: &[u8], at: usize)
     }
 }
 
-fn idle() -> View
-    ensures { λ r. ⌜ r ≡ viewOf idleState ⌝ }
-{
-    let readers = no_readers();
-    View {
-        frames: 1,
-        turn: 0,
-        look_ahead: 1,
-        fetch_time: 0,
-        sizes: [0u16; 8],
-        readers,
-    }
-}
-
 // All of an image's state but the maps.
 fn view_in(image: &[u8]) -> View
     requires { ⌜ length (now image) ≡ imageLength ⌝ }
@@ -130,14 +104,14 @@ fn view_in(image: &[u8]) -> View
 {
     let sizes = sizes_in(image);
     let readers = readers_in(image);
-    View {
-        frames: get_u16(image, 0),
-        turn: get_u8(image, 2),
-        look_ahead: get_u32(image, 4),
-        fetch_time: get_u32(image, 8),
+    parts::view_of(
+        get_u16(image, 0),
+        get_u8(image, 2),
+        get_u32(image, 4),
+        get_u32(image, 8),
         sizes,
         readers,
-    }
+    )
 }
 
 // ---- its tests
@@ -192,18 +166,14 @@ fn settings_hold(image: &[u8], sizes: &[u16; 8]) -> bool
 fn reader_placed(r: Reader, sizes: &[u16; 8]) -> bool
     ensures { λ t. ⌜ t ≡ readerPlaced (among (now (sizes .entry)) []) r ⌝ }
 {
-    let file = r.file as usize;
-    if 7 < file {
-        return false;
-    }
-    let size = sizes[file];
-    if size == 0 {
+    let all = *sizes;
+    if parts::no_file(all, r.file as u64) {
         return false;
     }
     if !is_within(1, 1000, r.pace as u32) {
         return false;
     }
-    r.position <= size
+    r.position <= parts::last_page(all, r)
 }
 
 // A reader's next page is in fetch.
@@ -211,11 +181,10 @@ fn reader_awaits(r: Reader, sizes: &[u16; 8], fetching: &[u64; 128]) -> bool
     requires { ⌜ (r .file < 8) × SizesLow (now sizes) ⌝ }
     ensures { λ t. ⌜ t ≡ awaits (among (now (sizes .entry)) (now (fetching .entry))) r ⌝ }
 {
-    let file = r.file as usize;
-    if sizes[file] <= r.position {
+    if parts::last_page(*sizes, r) <= r.position {
         return false;
     }
-    bits::has_bit(fetching, file * 1024 + r.position as usize)
+    bits::has_bit(fetching, parts::next_key(r))
 }
 
 fn is_blank(r: Reader) -> bool
@@ -390,7 +359,7 @@ fn refuse(cached: &mut [u64; 128], fetching: &mut [u64; 128]) -> Outcome
 {
     bits::clear_all(cached);
     bits::clear_all(fetching);
-    let view = idle();
+    let view = parts::idle();
     Outcome {
         view,
         answer: Answer::Refused(13),

@@ -61,28 +61,30 @@ pub fn page_of(key: u16) -> u16
 
 // ---- readers
 
+// A record of these parts, as an image has them. All others are made of it.
+pub fn reader_of(condition: Condition, file: u8, pace: u16, position: u16) -> Reader
+    ensures { λ r. ⌜ r ≡ record { condition = condition; file = file; pace = pace; position = position } ⌝ }
+{
+    Reader {
+        condition,
+        file,
+        pace,
+        position,
+    }
+}
+
 // The record of an empty slot, all 0.
 pub fn no_reader() -> Reader
     ensures { λ r. ⌜ r ≡ noReader ⌝ }
 {
-    Reader {
-        condition: Condition::Empty,
-        file: 0,
-        pace: 0,
-        position: 0,
-    }
+    reader_of(Condition::Empty, 0, 0, 0)
 }
 
 // The record that Attach gives a slot. Attach has tested the file and the pace.
 pub fn docked(file: u8, pace: u16) -> Reader
     ensures { λ r. ⌜ r ≡ docked file pace ⌝ }
 {
-    Reader {
-        condition: Condition::Running,
-        file,
-        pace,
-        position: 0,
-    }
+    reader_of(Condition::Running, file, pace, 0)
 }
 
 // The reader after a Read that answers H.
@@ -99,12 +101,7 @@ pub fn onward(r: Reader) -> Reader
 pub fn in_condition(r: Reader, condition: Condition) -> Reader
     ensures { λ t. ⌜ t ≡ inCondition condition r ⌝ }
 {
-    Reader {
-        condition,
-        file: r.file,
-        pace: r.pace,
-        position: r.position,
-    }
+    reader_of(condition, r.file, r.pace, r.position)
 }
 
 // Is there a reader in the slot? Running and waiting readers count alike.
@@ -137,19 +134,33 @@ pub fn next_key(r: Reader) -> usize
 
 // ---- views
 
-// The view of a state without readers, pages or fetches. Its maps are the caller's.
-pub fn fresh(frames: u16, look_ahead: u32, fetch_time: u32, sizes: [u16; 8]) -> View
-    ensures { λ r. ⌜ stateOf r noPages noPages ≡ fresh frames «look_ahead» «fetch_time» sizes ⌝ }
+// A view of these parts, as an image has them. All others are made of it, or are one with a part changed.
+pub fn view_of(
+    frames: u16,
+    turn: u8,
+    look_ahead: u32,
+    fetch_time: u32,
+    sizes: [u16; 8],
+    readers: [Reader; 16],
+) -> View
+    ensures { λ r. ⌜ r ≡ record { frames = frames; turn = turn; «look_ahead» = «look_ahead»; «fetch_time» = «fetch_time»; sizes = sizes; readers = readers } ⌝ }
 {
-    let readers = [no_reader(); 16];
     View {
         frames,
-        turn: 0,
+        turn,
         look_ahead,
         fetch_time,
         sizes,
         readers,
     }
+}
+
+// The view of a state without readers, pages or fetches. Its maps are the caller's.
+pub fn fresh(frames: u16, look_ahead: u32, fetch_time: u32, sizes: [u16; 8]) -> View
+    ensures { λ r. ⌜ stateOf r noPages noPages ≡ fresh frames «look_ahead» «fetch_time» sizes ⌝ }
+{
+    let readers = [no_reader(); 16];
+    view_of(frames, 0, look_ahead, fetch_time, sizes, readers)
 }
 
 // The view of the idle state, which a refused Setup or Restore gives and with which the program starts.

@@ -15,7 +15,7 @@ pub struct Reader {
     pub position: u16,
 }
 
-// The box. A map has one bit a page, at the page's key.
+// The box. A map has one bit a page, at the page's key. A type of the rules: no function passes it.
 pub struct State {
     pub frames: u16,
     pub turn: u8,

@@ -1,6 +1,6 @@
 -- The numbers of a slot, each read in its place, make its record.
-use borrow.Author.Needs.{needs}
 use Rattle.image.proofs.States.{reader-read}
+use borrow.Author.Needs.{needs}
 use Rattle.image.proofs.restoring.reader_in.Statement.{statement}
 use Rattle.image.proofs.restoring.reader_in.Tie as tie
 
@@ -34,8 +34,11 @@ add-get-u16-2 c = search needs
 get-u16-requires-2 : tie.Need-get-u16-requires-2
 get-u16-requires-2 c κs = search needs
 
+reader-of-requires : tie.Need-reader-of-requires
+reader-of-requires c κs = search needs
+
 returns : tie.Need-returns
-returns c = search (reader-read, needs)
+returns c = rw (c .reader-of .ensures) (search (reader-read, needs))
 
 pub reader-in-spec : {M : Type 1} → statement M
 reader-in-spec =
@@ -51,4 +54,5 @@ reader-in-spec =
     get-u16-requires
     add-get-u16-2
     get-u16-requires-2
+    reader-of-requires
     returns)

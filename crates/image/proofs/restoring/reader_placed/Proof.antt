@@ -1,27 +1,22 @@
 -- File, pace and position are tested one after the other, up to the first that fails.
-use borrow.Author.Needs.{needs}
+use mathlib.Core.Path.{sym, _∙_}
+use borrow.Author.Tests.{not-false}
 use Rattle.rules.specs.Image.{readerPlaced}
-use Rattle.rules.proofs.Cases.{call-stop}
-use Rattle.image.proofs.Checks.{and-later, stops, passes}
+use Rattle.rules.proofs.Cases.{call-stop, file-there}
+use Rattle.parts.specs.Files.{sized}
+use borrow.Author.Needs.{needs}
 use Rattle.image.proofs.restoring.reader_placed.Statement.{statement}
 use Rattle.image.proofs.restoring.reader_placed.Tie as tie
 
-cast-file : tie.Need-cast-file
-cast-file c = search needs
+cast-no-file : tie.Need-cast-no-file
+cast-no-file c = search needs
+
+no-file-requires : tie.Need-no-file-requires
+no-file-requires c κs = search needs
 
 returns : tie.Need-returns
 unfolding readerPlaced
-returns c = search (stops, needs) depth 9
-
-mul-size : tie.Need-mul-size
-mul-size c = search needs
-
-element-copy-out-size : tie.Need-element-copy-out-size
-element-copy-out-size c = search needs
-
-returns-2 : tie.Need-returns-2
-unfolding readerPlaced
-returns-2 c = search (stops, needs) depth 9
+returns c = rw (sym (c .before .no-file .ensures) ∙ c .if1 .taken)
 
 cast-is-within : tie.Need-cast-is-within
 cast-is-within c = search needs
@@ -29,24 +24,30 @@ cast-is-within c = search needs
 is-within-requires : tie.Need-is-within-requires
 is-within-requires c κs = search needs
 
+returns-2 : tie.Need-returns-2
+unfolding readerPlaced
+returns-2 c = rw (sym (c .before .before .before .before .no-file .ensures) ∙ c .before .before .before .if1 .left) (call-stop _ _ _ (c .before .is-within .ensures) (c .if2 .taken))
+
+last-page-requires : tie.Need-last-page-requires
+last-page-requires c κs =
+    let a = c .before .before .before .before .before .before .before .args in
+    let there = file-there (sized (a .sizes .now)) (a .r .file) (sym (c .before .before .before .before .no-file .ensures) ∙ c .before .before .before .if1 .left) in
+    there .0
+
 returns-3 : tie.Need-returns-3
 unfolding readerPlaced
-returns-3 c = search (and-later, call-stop, c .before .is-within .ensures, c .if3 .taken)
-
-returns-4 : tie.Need-returns-4
-unfolding readerPlaced
-returns-4 c = search (passes, needs) depth 9
+returns-3 c =
+    rw (sym (c .before .before .before .before .before .before .no-file .ensures) ∙ c .before .before .before .before .before .if1 .left, sym (c .before .before .before .is-within .ensures) ∙ not-false _ (c .before .before .if2 .left), c .before .last-page .ensures)
 
 pub reader-placed-spec : {M : Type 1} → statement M
 reader-placed-spec =
     tie.close
     (tie.spec
-    cast-file
+    cast-no-file
+    no-file-requires
     returns
-    mul-size
-    element-copy-out-size
-    returns-2
     cast-is-within
     is-within-requires
-    returns-3
-    returns-4)
+    returns-2
+    last-page-requires
+    returns-3)

@@ -1,10 +1,10 @@
 -- Invariant: the first j records are those of the image, the others as they were. Measure: the slots that are left.
-use mathlib.Core.Path.{_≡_}
 use Prim.Native.Nat.{_-_, _≤_}
+use mathlib.Core.Path.{_≡_}
 use borrow.Author.Needs.{needs}
 use lib.ListN.{length}
-use Rattle.rules.specs.Readers.{noReader}
 use Rattle.rules.specs.Image.{readerFrom, imageNumbers}
+use Rattle.rules.specs.Readers.{noReader}
 use Rattle.image.proofs.Fills.{filled, filled-more, filled-all}
 use Rattle.image.proofs.restoring.readers_in.Statement.{statement}
 use Rattle.image.proofs.restoring.readers_in.Tie as tie
@@ -15,8 +15,8 @@ Inv-loop image readers₀ j₀ readers j = (j ≤ 16) × (length readers₀ ≡ 
 abbrev μ-loop : tie.MeasureT-loop
 μ-loop image readers₀ j₀ readers j = 16 - j
 
-no-readers-requires : tie.Need-no-readers-requires Inv-loop μ-loop
-no-readers-requires c κs = search needs
+no-reader-requires : tie.Need-no-reader-requires Inv-loop μ-loop
+no-reader-requires c κs = search needs
 
 loop-holds : tie.Need-loop-holds Inv-loop μ-loop
 loop-holds c = search needs
@@ -52,7 +52,7 @@ readers-in-spec =
     (tie.spec
     Inv-loop
     μ-loop
-    no-readers-requires
+    no-reader-requires
     loop-holds
     reader-in-requires
     mul-readers

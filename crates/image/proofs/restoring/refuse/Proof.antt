@@ -13,7 +13,7 @@ idle-requires : tie.Need-idle-requires
 idle-requires c κs = search needs
 
 returns : tie.Need-returns
-returns c = rw (c .idle .ensures, c .before .clear-all2 .ensures, c .before .before .before .clear-all .ensures)
+returns c = rw (c .before .clear-all2 .ensures, c .before .before .before .clear-all .ensures, c .idle .ensures)
 
 pub refuse-spec : {M : Type 1} → statement M
 refuse-spec = tie.close (tie.spec clear-all-requires clear-all-requires-2 idle-requires returns)

@@ -1,6 +1,6 @@
 -- The numbers, each read in its place, make the state but its maps.
-use borrow.Author.Needs.{needs}
 use Rattle.image.proofs.States.{view-read}
+use borrow.Author.Needs.{needs}
 use Rattle.image.proofs.restoring.view_in.Statement.{statement}
 use Rattle.image.proofs.restoring.view_in.Tie as tie
 
@@ -22,8 +22,11 @@ get-u32-requires c κs = search needs
 get-u32-requires-2 : tie.Need-get-u32-requires-2
 get-u32-requires-2 c κs = search needs
 
+view-of-requires : tie.Need-view-of-requires
+view-of-requires c κs = search needs
+
 returns : tie.Need-returns
-returns c = search (view-read, needs)
+returns c = rw (c .view-of .ensures) (search (view-read, needs))
 
 pub view-in-spec : {M : Type 1} → statement M
 view-in-spec =
@@ -35,4 +38,5 @@ view-in-spec =
     get-u8-requires
     get-u32-requires
     get-u32-requires-2
+    view-of-requires
     returns)
