@@ -1,3 +1,4 @@
+-- Laws of the bytes, of the parts of an image, and of the tests that Restore makes; the functions' proofs stand below their modules.
 pub mod Puts
 pub mod Gets
 pub mod Saves

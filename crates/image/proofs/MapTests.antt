@@ -27,7 +27,8 @@ module _ (cached fetching : List ℕ) (f size : ℕ) where
   above-none e = rw e
 
   -- its last key is that before the next file's first
-  pub above-some : (t : Bool) → t ≡ every (clearAt cached fetching) (range (f * 1024 + size) ((f * 16 + 16) * 64 - (f * 1024 + size))) → t ≡ clearAbove cached fetching f size
+  pub above-some : (t : Bool) → t ≡ every (clearAt cached fetching) (range (f * 1024 + size) ((f * 16 + 16) * 64 - (f * 1024 + size)))
+      → t ≡ clearAbove cached fetching f size
   unfolding clearAbove
   above-some t e =
       let n : (f * 16 + 16) * 64 - (f * 1024 + size) ≡ 1024 - size = omega arith in
@@ -69,7 +70,9 @@ module _ (s : State) where
       let A = every apart (range 0 8192) in
       let B = every above (range 0 8) in
       same-test (A && B) (every (keyHolds s) (range 0 8192))
-      (λ h. every-in (keyHolds s) 0 8192 (λ k l m. and-both (apart k) _ (every-at apart 0 8192 (and-first A B h) k l m) (below-there k m (and-second A B h) (decLt (k % 1024) (size s (k / 1024))))))
+      (λ h. every-in (keyHolds s) 0 8192 (λ k l m.
+      and-both (apart k) _ (every-at apart 0 8192 (and-first A B h) k l m) (below-there k m (and-second A B h) (decLt (k % 1024) (size s (k / 1024))))))
       (λ h. let key = every-at (keyHolds s) 0 8192 h in
       and-both A B (every-in apart 0 8192 (λ k l m. and-first (apart k) _ (key k l m)))
-      (every-in above 0 8 (λ f _ low. every-in clear (f * 1024 + size s f) (1024 - size s f) (λ k l m. above-clear f k l m (and-second (apart k) _ (key k (omega arith) (omega arith)))))))
+      (every-in above 0 8 (λ f _ low. every-in clear (f * 1024 + size s f) (1024 - size s f) (λ k l m.
+      above-clear f k l m (and-second (apart k) _ (key k (omega arith) (omega arith)))))))

@@ -21,8 +21,8 @@ unfolding bytesOf
 written-byte l at n h f = rw (mod-eq-of-lt f) (written-one l at n (omega arith))
 
 -- bytes after those that a call wrote
-pub written-next : (l b t : List ℕ) (at n : ℕ) (bs cs : List ℕ) → length bs ≡ n → b ≡ written l at bs → t ≡ written b (at + n) cs → at + n + length cs ≤ length l
-    → t ≡ written l at (bs ++ cs)
+pub written-next : (l b t : List ℕ) (at n : ℕ) (bs cs : List ℕ) → length bs ≡ n → b ≡ written l at bs → t ≡ written b (at + n) cs
+    → at + n + length cs ≤ length l → t ≡ written l at (bs ++ cs)
 written-next l b t at n bs cs long e f fits =
     f
     ∙ ap (λ m. written m (at + n) cs) e

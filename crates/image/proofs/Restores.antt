@@ -46,12 +46,15 @@ count-ones words (suc n) =
     rw (ones-more words 0 n, e, num-bit (bit words n) (bit-le words n), count-ones words n) (omega arith)
 
 -- where no bit stands above its file's size, the cached pages are as many as the map's bits
-pages-ones : (s : State) → length (s .cached) ≡ 128 → ((f : ℕ) → size s f ≤ 1024) → T (every (keyHolds s) (range 0 8192)) → length (cachedPages s) ≡ ones (s .cached) 0 8192
+pages-ones : (s : State) → length (s .cached) ≡ 128 → ((f : ℕ) → size s f ≤ 1024) → T (every (keyHolds s) (range 0 8192))
+    → length (cachedPages s) ≡ ones (s .cached) 0 8192
 unfolding cachedPages
 pages-ones s long small keys = pages-count s small (cached s) (λ k h. by k h (decLt k 8192)) ∙ count-ones (s .cached) 8192
   where
     by : (k : ℕ) → T (cached s k) → Dec (k < 8192) → Page s k
-    by k h (yes l) = record { low = l; there = key-in s k (range-at (λ i. T (keyHolds s i)) 0 8192 k (every-all (keyHolds s) (range 0 8192) keys) (omega arith) (omega arith)) .there (or-left (cached s k) _ h) }
+    by k h (yes l) =
+        let holds = range-at (λ i. T (keyHolds s i)) 0 8192 k (every-all (keyHolds s) (range 0 8192) keys) (omega arith) (omega arith) in
+        record { low = l; there = key-in s k holds .there (or-left (cached s k) _ h) }
     by k h (no n) = absurd (unset (s .cached) k (List·getD-eq-default (s .cached) 0 (omega arith)) h)
 
 -- ---- the verdict
@@ -81,9 +84,11 @@ module _ (image : List ℕ) where
   unfolding stateFrom
   turn-same = sym (setting-at image 1 (omega arith))
 
-  settings-same : (sizes : List ℕ) → settingsFrom image sizes ≡ settingsIn (stateIn image .frames) (stateIn image .«look_ahead») (stateIn image .«fetch_time») sizes
+  settings-same : (sizes : List ℕ)
+      → settingsFrom image sizes ≡ settingsIn (stateIn image .frames) (stateIn image .«look_ahead») (stateIn image .«fetch_time») sizes
   unfolding stateFrom
-  settings-same sizes = λ i. settingsIn (sym (setting-at image 0 (omega arith)) i) (sym (setting-at image 3 (omega arith)) i) (sym (setting-at image 4 (omega arith)) i) sizes
+  settings-same sizes = λ i.
+      settingsIn (sym (setting-at image 0 (omega arith)) i) (sym (setting-at image 3 (omega arith)) i) (sym (setting-at image 4 (omega arith)) i) sizes
 
   verdict-accepts : verdict image (stateIn image .sizes) (stateIn image .cached) (stateIn image .fetching) ≡ accepts (imageNumbers image)
   unfolding accepts
@@ -91,10 +96,13 @@ module _ (image : List ℕ) where
       let s = stateIn image in
       let keys = every (keyHolds s) (range 0 8192) in
       rw (settings-same (s .sizes), turn-same, frames-same)
-      (and-same (settingsIn (s .frames) (s .«look_ahead») (s .«fetch_time») (s .sizes)) _ _ (λ h. ap (λ r. within 0 15 (s .turn) && (every (slotHolds (imageNumbers image)) (range 0 16) && r))
-      (sym (and-assoc (every (apartAt (s .cached) (s .fetching)) (range 0 8192)) (every (sizeHolds (s .sizes) (s .cached) (s .fetching)) (range 0 8)) (leb (ones (s .cached) 0 8192) (s .frames) && gapsHold (imageNumbers image)))
+      (and-same (settingsIn (s .frames) (s .«look_ahead») (s .«fetch_time») (s .sizes)) _ _ (λ h.
+      ap (λ r. within 0 15 (s .turn) && (every (slotHolds (imageNumbers image)) (range 0 16) && r))
+      (sym (and-assoc (every (apartAt (s .cached) (s .fetching)) (range 0 8192)) (every (sizeHolds (s .sizes) (s .cached) (s .fetching)) (range 0 8))
+      (leb (ones (s .cached) 0 8192) (s .frames) && gapsHold (imageNumbers image)))
       ∙ rw (maps-keys s) (and-same keys _ _ (λ k. ap₂ _&&_
-      (ap (λ n. leb n (s .frames)) (sym (pages-ones s (cached-long image) (settings-in (s .frames) (s .«look_ahead») (s .«fetch_time») (s .sizes) h .sizes-in) k)))
+      (ap (λ n. leb n (s .frames)) (sym (pages-ones s (cached-long image)
+      (settings-in (s .frames) (s .«look_ahead») (s .«fetch_time») (s .sizes) h .sizes-in) k)))
       refl)))))
 
   -- the tests are those of the rule
@@ -104,7 +112,9 @@ module _ (image : List ℕ) where
 
 -- the sizes are low where the test of the settings passes
 pub sizes-low : (image sizes : List ℕ) (t : Bool) → t ≡ settingsFrom image sizes → not t ≡ false → SizesLow sizes
-sizes-low image sizes t e n = settings-in (numberAt 2 image 0) (numberAt 4 image 4) (numberAt 4 image 8) sizes (passed (settingsFrom image sizes) (sym e ∙ not-false t n)) .sizes-in
+sizes-low image sizes t e n =
+    let all = passed (settingsFrom image sizes) (sym e ∙ not-false t n) in
+    settings-in (numberAt 2 image 0) (numberAt 4 image 4) (numberAt 4 image 8) sizes all .sizes-in
 
 -- the cached pages are counted: more than the frames
 pub room-stop : (words : List ℕ) (frames number n : ℕ) → n ≡ ones words 0 8192 → number ≡ frames → number < n → leb (ones words 0 8192) frames ≡ false
@@ -128,6 +138,7 @@ module _ (image : List ℕ) where
   restore-stop l t e n = rw (upgraded-same image, l, ← e, not-true t n)
 
   -- they pass
-  pub restore-pass : length image ≡ imageLength → (t : Bool) (s : State) → t ≡ accepts (imageNumbers image) → not t ≡ false → s ≡ stateIn image → reply s Done ≡ restoreOf image
+  pub restore-pass : length image ≡ imageLength → (t : Bool) (s : State) → t ≡ accepts (imageNumbers image) → not t ≡ false → s ≡ stateIn image
+      → reply s Done ≡ restoreOf image
   unfolding restoreOf restored
   restore-pass l t s e n read = rw (upgraded-same image, l, ← e, not-false t n, read)

@@ -20,7 +20,9 @@ use Rattle.rules.specs.declared.Reader.{Reader}
 encoded-readers : (rs : List Reader) → encoded (each readerFields rs) ≡ each readerBytes rs
 unfolding each readerBytes
 encoded-readers [] = refl
-encoded-readers (r ∷ rs) = each-append (λ f. bytesOf (f .width) (f .value)) (readerFields r) (each readerFields rs) ∙ ap (λ l. encoded (readerFields r) ++ l) (encoded-readers rs)
+encoded-readers (r ∷ rs) =
+    each-append (λ f. bytesOf (f .width) (f .value)) (readerFields r) (each readerFields rs)
+    ∙ ap (λ l. encoded (readerFields r) ++ l) (encoded-readers rs)
 
 -- the bytes before the sizes
 abbrev settings : State → List ℕ
@@ -31,7 +33,8 @@ unfolding each bytesOf
 settings-long s = refl
 
 image-parts : (s : State)
-    → settings s ++ (each (bytesOf 2) (s .sizes) ++ (each readerBytes (s .readers) ++ (bytesOf 4 0 ++ (each (bytesOf 8) (s .cached) ++ each (bytesOf 8) (s .fetching))))) ≡ imageOf s
+    → settings s ++ (each (bytesOf 2) (s .sizes) ++ (each readerBytes (s .readers)
+    ++ (bytesOf 4 0 ++ (each (bytesOf 8) (s .cached) ++ each (bytesOf 8) (s .fetching))))) ≡ imageOf s
 unfolding imageOf layout each
 image-parts s =
     let g : Field → List ℕ = λ f. bytesOf (f .width) (f .value) in

@@ -22,7 +22,8 @@ use Rattle.rules.specs.declared.Condition.the-variants.{Empty, Running, Waiting
 
 module _ (sizes fetching : List ℕ) (r : Reader) where
   -- an empty slot
-  pub holds-empty : (t : Bool) → r .condition ≡ Empty → t ≡ (eqb (r .file) 0 && (eqb (r .pace) 0 && eqb (r .position) 0)) → t ≡ readerHolds (among sizes fetching) r
+  pub holds-empty : (t : Bool) → r .condition ≡ Empty → t ≡ (eqb (r .file) 0 && (eqb (r .pace) 0 && eqb (r .position) 0))
+      → t ≡ readerHolds (among sizes fetching) r
   unfolding readerHolds
   holds-empty t e f = rw e f
 
@@ -48,8 +49,8 @@ module _ (sizes fetching : List ℕ) (r : Reader) where
   placed-file t e n =
       let s : State = among sizes [] in
       let all = passed (readerPlaced s r) (sym e ∙ not-false t n) in
-      let there : noFile s (r .file) ≡ false = not-true (noFile s (r .file)) (is-true (not (noFile s (r .file))) (and-first (not (noFile s (r .file))) _ all)) in
-      file-there s (r .file) there .0
+      let none = noFile s (r .file) in
+      file-there s (r .file) (not-true none (is-true (not none) (and-first (not none) _ all))) .0
 
 -- the test of a record looks at the sizes and the fetches alone
 holds-among : (s : State) (r : Reader) → readerHolds (among (s .sizes) (s .fetching)) r ≡ readerHolds s r
@@ -74,9 +75,12 @@ module _ (image sizes fetching : List ℕ) (h : FromImage image sizes fetching) 
   slot-stop n t e f m = call-stop (within 0 2 (readerNumber (imageNumbers image) j 0)) _ t (condition-holds n t e f) m
 
   -- the record does not hold
-  pub slot-out : (r : Reader) (t : Bool) → r ≡ readerFrom (imageNumbers image) j → t ≡ readerHolds (among sizes fetching) r → not t ≡ true → false ≡ slotHolds (imageNumbers image) j
+  pub slot-out : (r : Reader) (t : Bool) → r ≡ readerFrom (imageNumbers image) j → t ≡ readerHolds (among sizes fetching) r → not t ≡ true
+      → false ≡ slotHolds (imageNumbers image) j
   unfolding slotHolds
-  slot-out r t e f m = and-later (within 0 2 (readerNumber (imageNumbers image) j 0)) _ (call-stop (readerHolds (stateIn image) (readerFrom (imageNumbers image) j)) _ t (record-holds r t e f) m)
+  slot-out r t e f m =
+      and-later (within 0 2 (readerNumber (imageNumbers image) j 0)) _
+      (call-stop (readerHolds (stateIn image) (readerFrom (imageNumbers image) j)) _ t (record-holds r t e f) m)
 
   -- the 0 bytes are left
   pub slot-last : (n o : ℕ) (r : Reader) (t u : Bool) → n ≡ numberAt 1 image (readersAt + 8 * j) → t ≡ within 0 2 n → not t ≡ false
@@ -85,4 +89,5 @@ module _ (image sizes fetching : List ℕ) (h : FromImage image sizes fetching) 
   unfolding slotHolds
   slot-last n o r t u e f m g k l z =
       call-pass (within 0 2 (readerNumber (imageNumbers image) j 0)) _ t _ (condition-holds n t e f) m
-      (call-pass (readerHolds (stateIn image) (readerFrom (imageNumbers image) j)) _ u _ (record-holds r u g k) l (ap (λ x. eqb x 0) (z ∙ sym (slot-at image j 4 low (omega arith)))))
+      (call-pass (readerHolds (stateIn image) (readerFrom (imageNumbers image) j)) _ u _ (record-holds r u g k) l
+      (ap (λ x. eqb x 0) (z ∙ sym (slot-at image j 4 low (omega arith)))))

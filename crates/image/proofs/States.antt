@@ -84,7 +84,8 @@ module _ (image : List ℕ) where
       → time ≡ numberAt 4 image 8
       → sizes ≡ stateIn image .sizes
       → readers ≡ map (readerFrom (imageNumbers image)) (range 0 16)
-      → _≡_ {A = View} (record { frames = frames; turn = turn; «look_ahead» = look; «fetch_time» = time; sizes = sizes; readers = readers }) (viewOf (stateIn image))
+      → _≡_ {A = View} (record { frames = frames; turn = turn; «look_ahead» = look; «fetch_time» = time; sizes = sizes; readers = readers })
+      (viewOf (stateIn image))
   unfolding stateFrom
   view-read frames turn look time sizes readers e₀ e₁ e₃ e₄ e₅ r = λ i.
       record {
@@ -97,6 +98,7 @@ module _ (image : List ℕ) where
       }
 
   -- with its maps it is whole
-  pub state-read : (v : View) (cached fetching : List ℕ) → v ≡ viewOf (stateIn image) → cached ≡ numbersAt 8 image cachedAt 128 → fetching ≡ numbersAt 8 image fetchingAt 128
+  pub state-read : (v : View) (cached fetching : List ℕ) → v ≡ viewOf (stateIn image)
+      → cached ≡ numbersAt 8 image cachedAt 128 → fetching ≡ numbersAt 8 image fetchingAt 128
       → stateOf v cached fetching ≡ stateIn image
   state-read v cached fetching e c f = λ i. stateOf (e i) ((c ∙ cached-read) i) ((f ∙ fetching-read) i)

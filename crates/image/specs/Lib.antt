@@ -1,3 +1,3 @@
--- What the contracts of Save and Restore speak of beside the rules.
+-- What the parts of Save and Restore do, for their contracts.
 pub mod Bytes
 pub mod Tests

@@ -50,7 +50,8 @@ returns c =
     let p₂ = p₃ .before .before .before .before in
     let p₁ = p₂ .before .before .before .before in
     let a = p₁ .before .before .before .before .args in
-    written-five (field 1 (conditionNumber (a .r .condition))) (field 1 (a .r .file)) (field 2 (a .r .pace)) (field 2 (a .r .position)) (field 2 0) (a .buffer .now) _ _ _ _ _ (a .at)
+    written-five (field 1 (conditionNumber (a .r .condition))) (field 1 (a .r .file)) (field 2 (a .r .pace)) (field 2 (a .r .position)) (field 2 0)
+    (a .buffer .now) _ _ _ _ _ (a .at)
     (p₁ .put-u8 .ensures ∙ ap (λ n. written (a .buffer .now) (a .at) (bytesOf 1 n)) (p₁ .before .condition-number .ensures))
     (p₂ .put-u82 .ensures) (p₃ .put-u16 .ensures) (p₄ .put-u162 .ensures) (p₅ .put-u163 .ensures) (search needs)
 

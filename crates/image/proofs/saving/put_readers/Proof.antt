@@ -11,7 +11,9 @@ use Rattle.image.proofs.saving.put_readers.Statement.{statement}
 use Rattle.image.proofs.saving.put_readers.Tie as tie
 
 abbrev Inv-loop : tie.InvT-loop
-Inv-loop buffer₀ at readers j₀ buffer j = (j ≤ 16) × (length readers ≡ 16) × (length buffer ≡ length buffer₀) × (buffer ≡ written buffer₀ at (each readerBytes (take j readers)))
+Inv-loop buffer₀ at readers j₀ buffer j =
+    (j ≤ 16) × (length readers ≡ 16) × (length buffer ≡ length buffer₀)
+    × (buffer ≡ written buffer₀ at (each readerBytes (take j readers)))
 
 abbrev μ-loop : tie.MeasureT-loop
 μ-loop buffer₀ at readers j₀ buffer j = 16 - j

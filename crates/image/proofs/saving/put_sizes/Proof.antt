@@ -11,7 +11,9 @@ use Rattle.image.proofs.saving.put_sizes.Statement.{statement}
 use Rattle.image.proofs.saving.put_sizes.Tie as tie
 
 abbrev Inv-loop : tie.InvT-loop
-Inv-loop buffer₀ at sizes f₀ buffer f = (f ≤ 8) × (length sizes ≡ 8) × (length buffer ≡ length buffer₀) × (buffer ≡ written buffer₀ at (each (bytesOf 2) (take f sizes)))
+Inv-loop buffer₀ at sizes f₀ buffer f =
+    (f ≤ 8) × (length sizes ≡ 8) × (length buffer ≡ length buffer₀)
+    × (buffer ≡ written buffer₀ at (each (bytesOf 2) (take f sizes)))
 
 abbrev μ-loop : tie.MeasureT-loop
 μ-loop buffer₀ at sizes f₀ buffer f = 8 - f

@@ -11,7 +11,9 @@ use Rattle.image.proofs.saving.put_words.Statement.{statement}
 use Rattle.image.proofs.saving.put_words.Tie as tie
 
 abbrev Inv-loop : tie.InvT-loop
-Inv-loop buffer₀ at words k₀ buffer k = (k ≤ 128) × (length words ≡ 128) × (length buffer ≡ length buffer₀) × (buffer ≡ written buffer₀ at (each (bytesOf 8) (take k words)))
+Inv-loop buffer₀ at words k₀ buffer k =
+    (k ≤ 128) × (length words ≡ 128) × (length buffer ≡ length buffer₀)
+    × (buffer ≡ written buffer₀ at (each (bytesOf 8) (take k words)))
 
 abbrev μ-loop : tie.MeasureT-loop
 μ-loop buffer₀ at words k₀ buffer k = 128 - k
