@@ -41,7 +41,9 @@ table-total = refl
 
 table-narrow : Always (λ w. w ≤ 8) 0 (widths (layout idle))
 unfolding layout each every
-table-narrow i = leb→le (getD (widths (layout idle)) i 0) 8 (all-always (λ w. T (leb w 8)) 0 tt (widths (layout idle)) (every-all (λ w. leb w 8) (widths (layout idle)) tt) i)
+table-narrow i =
+    let ws = widths (layout idle) in
+    leb→le (getD ws i 0) 8 (all-always (λ w. T (leb w 8)) 0 tt ws (every-all (λ w. leb w 8) ws tt) i)
 
 numbers-long : (image : List ℕ) → length (imageNumbers image) ≡ 350
 numbers-long image = numbers-length (layout idle) image ∙ table-long

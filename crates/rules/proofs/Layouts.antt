@@ -43,8 +43,10 @@ layout-map g s =
     let words = map (field 8) (s .cached) ++ last in
     let ends = map-append g (map (field 8) (s .fetching)) (tail s) ∙ ap (λ r. r ++ map g (tail s)) (map-map g (field 8) (s .fetching)) in
     let maps = map-append g (map (field 8) (s .cached)) last ∙ ap₂ _++_ (map-map g (field 8) (s .cached)) ends in
-    let slots = map-append g (each readerFields (s .readers)) (field 4 0 ∷ words) ∙ ap₂ _++_ (map-each g readerFields (s .readers)) (ap (λ r. g (field 4 0) ∷ r) maps) in
-    let lists = map-append g (map (field 2) (s .sizes)) (each readerFields (s .readers) ++ (field 4 0 ∷ words)) ∙ ap₂ _++_ (map-map g (field 2) (s .sizes)) slots in
+    let slots = map-append g (each readerFields (s .readers)) (field 4 0 ∷ words)
+    ∙ ap₂ _++_ (map-each g readerFields (s .readers)) (ap (λ r. g (field 4 0) ∷ r) maps) in
+    let lists = map-append g (map (field 2) (s .sizes)) (each readerFields (s .readers) ++ (field 4 0 ∷ words))
+    ∙ ap₂ _++_ (map-map g (field 2) (s .sizes)) slots in
     ap (λ r. g (field 2 (s .frames)) ∷ g (field 1 (s .turn)) ∷ g (field 1 0) ∷ g (field 4 (s .«look_ahead»)) ∷ g (field 4 (s .«fetch_time»)) ∷ r) lists
 
 -- the values of a record
@@ -157,7 +159,8 @@ module _ (s : State) (h : Lengths s) where
         sizes = take-at (s .sizes) (slotsOf s ++ mapsOf s) 8 (h .eight) i;
         readers = readers-numbers i;
         cached = (ap (take 128) (drop-maps 1) ∙ take-at (s .cached) (s .fetching ++ tailOf s) 128 (h .cached-all)) i;
-        fetching = (ap (take 128) (drop-maps 129 ∙ drop-past (s .cached) (s .fetching ++ tailOf s) 128 (h .cached-all) 0) ∙ take-at (s .fetching) (tailOf s) 128 (h .fetching-all)) i;
+        fetching = (ap (take 128) (drop-maps 129 ∙ drop-past (s .cached) (s .fetching ++ tailOf s) 128 (h .cached-all) 0)
+            ∙ take-at (s .fetching) (tailOf s) 128 (h .fetching-all)) i;
       }
 
 -- ---- the numbers of a state made of numbers

@@ -45,10 +45,18 @@ Stand index width place n = every (λ k. eqb (wide (index k)) (width k) && eqb (
 pub numbers-at : (index width place : ℕ → ℕ) (n : ℕ) → T (Stand index width place n) → (image : List ℕ) (k : ℕ) → k < n
     → getD (imageNumbers image) (index k) 0 ≡ numberOf (take (width k) (drop (place k) image))
 numbers-at index width place n h image k l =
-    let row = range-at (λ i. T (eqb (wide (index i)) (width i) && eqb (start (index i)) (place i))) 0 n k (every-all _ (range 0 n) h) (omega arith) (omega arith) in
+    let row = range-at (λ i. T (eqb (wide (index i)) (width i) && eqb (start (index i)) (place i))) 0 n k (every-all _ (range 0 n) h)
+    (omega arith) (omega arith) in
     let w = eqb→eq (wide (index k)) (width k) (and-first (eqb (wide (index k)) (width k)) _ row) in
     let o = eqb→eq (start (index k)) (place k) (and-second (eqb (wide (index k)) (width k)) _ row) in
     number-at (layout idle) image (index k) ∙ ap₂ (λ a b. numberOf (take a (drop b image))) w o
+
+-- the widths of a slot's five numbers, and their places in its record
+abbrev slotWidth : ℕ → ℕ
+slotWidth i = getD (1 ∷ 1 ∷ 2 ∷ 2 ∷ 2 ∷ []) i 0
+
+abbrev slotPlace : ℕ → ℕ
+slotPlace i = getD (0 ∷ 1 ∷ 2 ∷ 4 ∷ 6 ∷ []) i 0
 
 module _ (image : List ℕ) where
   -- frames, turn, 0, L, T
@@ -64,15 +72,15 @@ module _ (image : List ℕ) where
 
   -- condition, file, pace, position and 0 of slot j
   pub slot-at : (j i : ℕ) → j < 16 → i < 5
-      → readerNumber (imageNumbers image) j i ≡ numberOf (take (getD (1 ∷ 1 ∷ 2 ∷ 2 ∷ 2 ∷ []) i 0) (drop (readersAt + 8 * j + getD (0 ∷ 1 ∷ 2 ∷ 4 ∷ 6 ∷ []) i 0) image))
+      → readerNumber (imageNumbers image) j i ≡ numberOf (take (slotWidth i) (drop (readersAt + 8 * j + slotPlace i) image))
   unfolding layout each every range total
   slot-at j i l m =
       let at : 13 + 5 * j + i ≡ 13 + (5 * j + i) = omega arith in
       let slot : (5 * j + i) / 5 ≡ j = omega arith in
       let number : (5 * j + i) % 5 ≡ i = omega arith in
       ap (λ n. getD (imageNumbers image) n 0) at
-      ∙ numbers-at (λ m. 13 + m) (λ m. getD (1 ∷ 1 ∷ 2 ∷ 2 ∷ 2 ∷ []) (m % 5) 0) (λ m. readersAt + 8 * (m / 5) + getD (0 ∷ 1 ∷ 2 ∷ 4 ∷ 6 ∷ []) (m % 5) 0) 80 tt image (5 * j + i) (omega arith)
-      ∙ ap₂ (λ a b. numberOf (take (getD (1 ∷ 1 ∷ 2 ∷ 2 ∷ 2 ∷ []) b 0) (drop (readersAt + 8 * a + getD (0 ∷ 1 ∷ 2 ∷ 4 ∷ 6 ∷ []) b 0) image))) slot number
+      ∙ numbers-at (λ m. 13 + m) (λ m. slotWidth (m % 5)) (λ m. readersAt + 8 * (m / 5) + slotPlace (m % 5)) 80 tt image (5 * j + i) (omega arith)
+      ∙ ap₂ (λ a b. numberOf (take (slotWidth b) (drop (readersAt + 8 * a + slotPlace b) image))) slot number
 
   -- the 4 bytes of 0
   pub gap-at : getD (imageNumbers image) 93 0 ≡ numberOf (take 4 (drop gapAt image))

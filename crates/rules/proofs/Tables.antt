@@ -82,7 +82,8 @@ numbers-length [] image = refl
 numbers-length (f ∷ fs) image = ap suc (numbers-length fs (drop (f .width) image))
 
 -- number i stands at the sum of the widths before it, in as many bytes as its width
-pub number-at : (fs : List Field) (image : List ℕ) (i : ℕ) → getD (numbersIn fs image) i 0 ≡ numberOf (take (getD (widths fs) i 0) (drop (total (take i (widths fs))) image))
+pub number-at : (fs : List Field) (image : List ℕ) (i : ℕ)
+    → getD (numbersIn fs image) i 0 ≡ numberOf (take (getD (widths fs) i 0) (drop (total (take i (widths fs))) image))
 unfolding numbersIn numberOf total
 number-at [] image i = refl
 number-at (f ∷ fs) image zero = refl
