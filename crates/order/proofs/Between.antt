@@ -7,7 +7,7 @@ use lib.Dec.{eqb}
 use Rattle.bits.specs.Map.{bit, ones}
 use Rattle.bits.proofs.Bits.{bit-le}
 use Rattle.bits.proofs.Counts.{ones-none, ones-more}
-use Rattle.rules.specs.UseTimes.{missing}
+use Rattle.rules.specs.UseTimes.{present, missing}
 use Rattle.rules.specs.declared.State.{State}
 
 one-bit : (b : ℕ) → b ≤ 1 → cond (eqb b 1) 0 1 + b ≡ 1
@@ -17,7 +17,7 @@ one-bit (suc (suc b)) h = absurd (omega arith)
 
 -- those not cached and the set bits are all
 missing-and-ones : (s : State) (f c n : ℕ) → missing s f c n + ones (s .cached) (f * 1024 + c) n ≡ n
-unfolding missing
+unfolding missing present
 missing-and-ones s f c zero = omega (arith, ones-none (s .cached) (f * 1024 + c))
 missing-and-ones s f c (suc n) =
     let e : f * 1024 + (c + suc n) - 1 ≡ f * 1024 + c + n = omega arith in

@@ -10,7 +10,7 @@ use Rattle.rules.specs.Lists.{range, each, only, falling, least, some-of
 use Rattle.rules.specs.Pages.{size, fileOf, keyOf, cached, pages, cachedPages}
 use Rattle.rules.specs.Readers.{readerAt, attached}
 use Rattle.rules.specs.Valid.{Valid}
-use Rattle.rules.specs.UseTimes.{before, steps, missing, between, cut, sees, timeFor, never, useFor, useKey, ahead, seen}
+use Rattle.rules.specs.UseTimes.{before, steps, present, missing, between, cut, sees, timeFor, never, useFor, useKey, ahead, seen}
 use Rattle.rules.specs.Orders.{stealOrder}
 use Rattle.rules.proofs.Tests.{both, is-false, and-second}
 use Rattle.rules.specs.Ranks.{rank}
@@ -56,12 +56,17 @@ record SameSlot (s t : State) (k j : ℕ) : Type 0 where
   sees-alike : sees s (readerAt s j) k ≡ sees t (readerAt t j) k
   use-alike : useFor s k j ≡ useFor t k j
 
+-- what q takes for cached goes by the cached map alone: the one place that knows it
+present-same : (s t : State) (k : ℕ) → bit (s .cached) k ≡ bit (t .cached) k → present s k ≡ present t k
+unfolding present
+present-same s t k e = ap (λ b. eqb b 1) e
+
 module _ (s t : State) (k : ℕ) (a : SameFile (fileOf k) s t) where
   missing-same : (c n : ℕ) → n ≤ 1023 - c → missing s (fileOf k) c n ≡ missing t (fileOf k) c n
   unfolding missing
   missing-same c zero l = refl
   missing-same c (suc n) l =
-      ap₂ (λ b m. cond (eqb b 1) 0 1 + m) (a .bits-same (keyOf (fileOf k) (c + suc n)) (omega arith)) (missing-same c n (omega arith))
+      ap₂ (λ b m. cond b 0 1 + m) (present-same s t _ (a .bits-same (keyOf (fileOf k) (c + suc n)) (omega arith))) (missing-same c n (omega arith))
 
   module _ (r q : Reader) (e : AlikeReader r q) (f : q .file ≡ fileOf k) where
     between-same : between s r k ≡ between t q k

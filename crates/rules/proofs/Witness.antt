@@ -10,7 +10,7 @@ use Rattle.rules.specs.Lists.{range, each, only, every, put, sorted, lea
 use Rattle.rules.specs.Pages.{pages, cached, cachedPages, fetchingPages}
 use Rattle.rules.specs.Readers.{noReader, readerAt, attached}
 use Rattle.rules.specs.Valid.{Valid, Placed, ReaderIn}
-use Rattle.rules.specs.UseTimes.{before, missing, cut, sees, timeFor, useFor, useKey, ahead, seen}
+use Rattle.rules.specs.UseTimes.{before, present, missing, cut, sees, timeFor, useFor, useKey, ahead, seen}
 use Rattle.rules.specs.Orders.{behindLast, notSeen, useTime, stealOrder, victim}
 use Rattle.rules.specs.Calls.{withReader, fresh, settingsIn, setupOf, readRunning, readOf, full, dropped, woken, landed, forFetch, arriveOf}
 use Rattle.rules.specs.Run.{fetchOpen, readTurn, turnOf, turnsOf, runOf}
@@ -61,7 +61,7 @@ lead-premises = record {
 
 -- 16,384 turns, the most that are permitted, fetch seven times for two frames and six pages: pages are given up, and one is fetched twice
 pub lead-answer : runOf lead 16384 .answer ≡ Ran 7 9
-unfolding bit putBit range each only put sorted least some-of pages cachedPages fetchingPages before missing cut sees timeFor useFor useKey ahead seen behindLast notSeen useTime stealOrder victim readRunning readOf full dropped woken landed forFetch arriveOf fetchOpen readTurn turnOf turnsOf runOf
+unfolding bit putBit range each only put sorted least some-of pages cachedPages fetchingPages before present missing cut sees timeFor useFor useKey ahead seen behindLast notSeen useTime stealOrder victim readRunning readOf full dropped woken landed forFetch arriveOf fetchOpen readTurn turnOf turnsOf runOf
 lead-answer = refl
 
 -- the first reader's six pages, and the second's three between them

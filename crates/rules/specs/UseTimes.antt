@@ -17,7 +17,7 @@ abbrev pub steps : Reader → ℕ → ℕ
 steps r k = pageOf k - r .position
 
 -- what q takes for cached: "A page in fetch is not cached"
-abbrev pub present : State → ℕ → Bool
+unfoldable pub present : State → ℕ → Bool
 present s k = cached s k
 
 -- how many of the pages c + 1 to c + n of file f are not cached
