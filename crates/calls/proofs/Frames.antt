@@ -20,9 +20,9 @@ use Rattle.rules.specs.Views.{stateOf}
 use Rattle.rules.specs.declared.State.{State}
 use Rattle.rules.specs.declared.View.{View}
 use Rattle.order.specs.Choices.{Housed}
-use Rattle.rules.proofs.Tests.{key}
-use Rattle.rules.proofs.Cases.{cond-yes, cond-no, outcomes}
-use Rattle.rules.proofs.Counts.{pages-count}
+use Rattle.rules.proofs.laws.Tests.{key}
+use Rattle.rules.proofs.laws.Cases.{cond-yes, cond-no, outcomes}
+use Rattle.rules.proofs.laws.Counts.{pages-count}
 
 -- a bit counts as much as it is
 bit-num : (b : ℕ) → b ≤ 1 → num (eqb b 1) ≡ b

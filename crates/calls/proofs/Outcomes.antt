@@ -13,7 +13,7 @@ use Rattle.rules.specs.Readers.{byCondition}
 use Rattle.rules.specs.declared.Condition.{Condition}
 use Rattle.rules.specs.declared.Condition.the-variants.{Empty, Running, Waiting}
 use Rattle.rules.proofs.Condition.{the-type}
-use Rattle.rules.proofs.Cases.{cond-yes, cond-no, condition-empty, condition-running, condition-waiting, outcomes}
+use Rattle.rules.proofs.laws.Cases.{cond-yes, cond-no, condition-empty, condition-running, condition-waiting, outcomes}
 
 module _ {A : Type 0} where
   -- the test passes

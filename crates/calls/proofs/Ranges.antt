@@ -10,7 +10,7 @@ use mir.Syntax.{Width}
 use mir.Val.{Fits, bits}
 use Rattle.rules.specs.Lists.{within, every}
 use Rattle.rules.specs.Calls.{settingsIn}
-use Rattle.rules.proofs.Cases.{and-true, within-true}
+use Rattle.rules.proofs.laws.Cases.{and-true, within-true}
 
 -- a number that is not refused fits a width that holds the highest
 pub within-fits : (w : Width) (q : Bool) (low high n : ℕ) → q ≡ within low high n → not q ≡ false → T (ltb high (2 ^ bits w)) → Fits w n

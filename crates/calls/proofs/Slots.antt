@@ -18,7 +18,7 @@ use Rattle.rules.specs.declared.Outcome.{Outcome}
 use Rattle.rules.specs.Views.{stateOf, replyOf}
 use Rattle.rules.specs.declared.Answer.the-variants.{Done, Fetch}
 use Rattle.rules.specs.declared.Condition.the-variants.{Waiting}
-use Rattle.rules.proofs.OneRecord.{SlotCall, attaching, detaching, reading, callAt, one-record}
+use Rattle.rules.proofs.calls.OneRecord.{SlotCall, attaching, detaching, reading, callAt, one-record}
 use Rattle.parts.specs.Files.{noFileIn}
 use Rattle.calls.specs.Parts.{OthersStay}
 use Rattle.calls.proofs.Outcomes.{answers, keyed}

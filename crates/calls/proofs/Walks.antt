@@ -9,7 +9,7 @@ use borrow.Author.Tests.{not-true, not-false}
 use lib.ListN.{getD, set, length, take, drop}
 use lib.Seq.{take-all, drop-cons, take-suc, take-suc-set}
 use Rattle.rules.specs.Lists.{within, every}
-use Rattle.rules.proofs.Cases.{and-true, within-true}
+use Rattle.rules.proofs.laws.Cases.{and-true, within-true}
 
 -- ---- each is tested
 

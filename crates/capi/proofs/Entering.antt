@@ -11,9 +11,9 @@ use mir.Val.{Fits}
 use Rattle.rules.specs.Valid.{Valid}
 use Rattle.rules.specs.Image.{imageLength, imageOf, restoreOf}
 use Rattle.rules.specs.Entries.{code, carriedOut, Call, callOf, Entered, entered, enter}
-use Rattle.rules.proofs.Images.{done-length, done-or-not, restore-refused, lent-valid}
-use Rattle.rules.proofs.Enters.{enter-unrestored, enter-restored}
-use Rattle.rules.proofs.Kept.{kept}
+use Rattle.rules.proofs.images.Images.{done-length, done-or-not, restore-refused, lent-valid}
+use Rattle.rules.proofs.images.Enters.{enter-unrestored, enter-restored}
+use Rattle.rules.proofs.calls.Kept.{kept}
 use Rattle.rules.specs.declared.Reply.{Reply}
 use Rattle.rules.specs.declared.Answer.the-variants.{Done}
 

@@ -9,10 +9,10 @@ use borrow.Author.Tests.{not-true, not-false}
 use lib.ListN.{length, getD, List·getD-eq-default}
 use lib.Dec.{T}
 use Rattle.rules.specs.Lists.{range, every}
-use Rattle.rules.proofs.Cases.{and-stop, and-pass, call-stop, call-pass, outcomes, passed, failed}
-use Rattle.rules.proofs.Tests.{is-true}
-use Rattle.rules.proofs.Members.{range-in, range-at}
-use Rattle.rules.proofs.Parts.{all-always, always-all, every-all, all-every}
+use Rattle.rules.proofs.laws.Cases.{and-stop, and-pass, call-stop, call-pass, outcomes, passed, failed}
+use Rattle.rules.proofs.laws.Tests.{is-true}
+use Rattle.rules.proofs.laws.Members.{range-in, range-at}
+use Rattle.rules.proofs.laws.Parts.{all-always, always-all, every-all, all-every}
 
 -- two tests that pass together
 pub same-test : (a b : Bool) → (T a → T b) → (T b → T a) → a ≡ b

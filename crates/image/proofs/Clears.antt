@@ -14,7 +14,7 @@ use Rattle.bits.specs.Map.{digit}
 use Rattle.bits.proofs.Words.{digit-step, digit-shr, digit-high}
 use Rattle.bits.proofs.Bits.{bit-at}
 use Rattle.rules.specs.Lists.{range, every}
-use Rattle.rules.proofs.Tests.{key}
+use Rattle.rules.proofs.laws.Tests.{key}
 use Rattle.image.specs.Tests.{apartAt, clearAt}
 use Rattle.image.proofs.Checks.{same-test, every-in, every-at}
 

@@ -9,7 +9,7 @@ use lib.Dec.{T, leb, leb→le, le→leb}
 use Rattle.rules.specs.Lists.{range, every}
 use Rattle.rules.specs.Pages.{size, fileOf, pageOf}
 use Rattle.rules.specs.Image.{keyHolds}
-use Rattle.rules.proofs.Tests.{and-both, and-first, and-second, or-left, or-right}
+use Rattle.rules.proofs.laws.Tests.{and-both, and-first, and-second, or-left, or-right}
 use Rattle.image.specs.Tests.{apartAt, clearAt, clearAbove, sizeHolds}
 use Rattle.image.proofs.Checks.{same-test, every-in, every-at}
 use Rattle.rules.specs.declared.State.{State}

@@ -9,11 +9,11 @@ use lib.ListN.{length, getD, take, set, length-append, take-append-drop}
 use lib.Seq.{length-take-le, take-all, take-suc}
 use Rattle.rules.specs.Lists.{each, written}
 use Rattle.rules.specs.Image.{Field, bytesOf, encoded}
-use Rattle.rules.proofs.Parts.{length-each}
-use Rattle.rules.proofs.Numbers.{bytes-length}
+use Rattle.rules.proofs.laws.Parts.{length-each}
+use Rattle.rules.proofs.laws.Numbers.{bytes-length}
 use Rattle.image.specs.Bytes.{readerBytes}
 use Rattle.rules.specs.declared.Reader.{Reader}
-use Rattle.rules.proofs.Lists.{each-append, written-one, written-more}
+use Rattle.rules.proofs.laws.Lists.{each-append, written-one, written-more}
 
 -- one byte
 pub written-byte : (l : List ℕ) (at n : ℕ) → at + 1 ≤ length l → n < 256 → set l at n ≡ written l at (bytesOf 1 n)

@@ -16,14 +16,14 @@ use Rattle.rules.specs.Pages.{size, cached, Page, cachedPages}
 use Rattle.rules.specs.Schedules.{num, count}
 use Rattle.rules.specs.Calls.{reply, refused, settingsIn, idle}
 use Rattle.rules.specs.Image.{stateFrom, slotHolds, keyHolds, accepts, restoreOf, imageNumbers, imageLength, restored}
-use Rattle.rules.proofs.Cases.{passed}
-use Rattle.rules.proofs.Tests.{or-left}
-use Rattle.rules.proofs.Members.{range-at}
-use Rattle.rules.proofs.Parts.{every-all}
-use Rattle.rules.proofs.Counts.{pages-count}
-use Rattle.rules.proofs.Accepts.{settings-in, key-in, unset}
-use Rattle.rules.proofs.Images.{upgraded-same}
-use Rattle.rules.proofs.Offsets.{setting-at}
+use Rattle.rules.proofs.laws.Cases.{passed}
+use Rattle.rules.proofs.laws.Tests.{or-left}
+use Rattle.rules.proofs.laws.Members.{range-at}
+use Rattle.rules.proofs.laws.Parts.{every-all}
+use Rattle.rules.proofs.laws.Counts.{pages-count}
+use Rattle.rules.proofs.images.Accepts.{settings-in, key-in, unset}
+use Rattle.rules.proofs.images.Images.{upgraded-same}
+use Rattle.rules.proofs.images.Offsets.{setting-at}
 use Rattle.image.specs.Bytes.{numberAt, stateIn}
 use Rattle.image.specs.Tests.{SizesLow, settingsFrom, gapsHold, apartAt, sizeHolds}
 use Rattle.image.proofs.States.{cached-long}

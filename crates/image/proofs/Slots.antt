@@ -10,9 +10,9 @@ use Rattle.rules.specs.Lists.{within}
 use Rattle.rules.specs.Calls.{noFile}
 use Rattle.rules.specs.Readers.{awaits}
 use Rattle.rules.specs.Image.{readerNumber, readerFrom, readerPlaced, readerHolds, slotHolds, imageNumbers}
-use Rattle.rules.proofs.Cases.{passed, file-there, call-stop, call-pass}
-use Rattle.rules.proofs.Tests.{is-true, and-first}
-use Rattle.rules.proofs.Offsets.{readersAt, slot-at}
+use Rattle.rules.proofs.laws.Cases.{passed, file-there, call-stop, call-pass}
+use Rattle.rules.proofs.laws.Tests.{is-true, and-first}
+use Rattle.rules.proofs.images.Offsets.{readersAt, slot-at}
 use Rattle.image.specs.Bytes.{numberAt, stateIn}
 use Rattle.image.specs.Tests.{among, FromImage}
 use Rattle.image.proofs.Checks.{and-later}

@@ -9,9 +9,9 @@ use Rattle.rules.specs.Lists.{range, each}
 use Rattle.rules.specs.Calls.{idle}
 use Rattle.rules.specs.Views.{stateOf, viewOf}
 use Rattle.rules.specs.Image.{layout, conditionOf, readerFrom, stateFrom, imageNumbers}
-use Rattle.rules.proofs.Parts.{part-listed, length-listed, getD-listed}
-use Rattle.rules.proofs.Tables.{numbers-length}
-use Rattle.rules.proofs.Offsets.{sizesAt, readersAt, cachedAt, fetchingAt, setting-at, size-at, slot-at, cached-at, fetching-at}
+use Rattle.rules.proofs.laws.Parts.{part-listed, length-listed, getD-listed}
+use Rattle.rules.proofs.images.Tables.{numbers-length}
+use Rattle.rules.proofs.images.Offsets.{sizesAt, readersAt, cachedAt, fetchingAt, setting-at, size-at, slot-at, cached-at, fetching-at}
 use Rattle.image.specs.Bytes.{numberAt, numberFrom, numbersAt, stateIn}
 use Rattle.rules.specs.declared.View.{View}
 use Rattle.rules.specs.declared.Reader.{Reader}

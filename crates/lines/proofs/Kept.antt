@@ -13,8 +13,8 @@ use Rattle.rules.specs.Calls.{setupOf}
 use Rattle.rules.specs.Entries.{carriedOut}
 use Rattle.rules.specs.Lines.{Response, asks, toldSetup, obeyed, respondOf}
 use Rattle.rules.specs.declared.State.{State}
-use Rattle.rules.proofs.Cases.{cond-all, and-true}
-use Rattle.rules.proofs.Kept.{attach-kept, detach-kept, read-kept, steal-kept, arrive-kept, lost-kept, prefetch-kept, run-kept, setup-valid}
+use Rattle.rules.proofs.laws.Cases.{cond-all, and-true}
+use Rattle.rules.proofs.calls.Kept.{attach-kept, detach-kept, read-kept, steal-kept, arrive-kept, lost-kept, prefetch-kept, run-kept, setup-valid}
 
 -- the response's state is valid
 abbrev Keeps : Response → Type 0

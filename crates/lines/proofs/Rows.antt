@@ -9,7 +9,7 @@ use lib.Seq.{length-take-le, take-suc, take-take}
 use Rattle.rules.specs.Lists.{each}
 use Rattle.rules.specs.Lines.{lineOf, orderLine, clustersLine}
 use Rattle.text.specs.Written.{fieldOf, Put}
-use Rattle.rules.proofs.Lists.{written-none, each-append}
+use Rattle.rules.proofs.laws.Lists.{written-none, each-append}
 use Rattle.text.proofs.Puts.{digits-length, put-more}
 use Rattle.lines.specs.Responses.{pairOf}
 

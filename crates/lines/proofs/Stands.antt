@@ -14,8 +14,8 @@ use Rattle.rules.specs.Entries.{carriedOut}
 use Rattle.rules.specs.Image.{imageOf, restoreOf}
 use Rattle.rules.specs.Lines.{split, respondOf, linesOf, answers, programOf}
 use Rattle.rules.specs.declared.State.{State}
-use Rattle.rules.proofs.Images.{restore-save}
-use Rattle.rules.proofs.Kept.{idle-valid}
+use Rattle.rules.proofs.images.Images.{restore-save}
+use Rattle.rules.proofs.calls.Kept.{idle-valid}
 use Rattle.text.specs.Cuts.{clipped, textIn, kept}
 use Rattle.text.specs.Streams.{OnePiece, Fed, behind, answered, feed, feedAll, unfed, outputOf}
 use Rattle.text.proofs.Pieces.{by-test, split-some}

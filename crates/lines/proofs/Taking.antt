@@ -22,8 +22,8 @@ use Rattle.rules.specs.declared.State.{State}
 use Rattle.rules.specs.declared.Reply.{Reply}
 use Rattle.rules.specs.declared.Answer.the-variants.{Done}
 use Rattle.rules.proofs.Answer.{the-type}
-use Rattle.rules.proofs.Images.{done-or-not, restore-refused}
-use Rattle.rules.proofs.Cases.{and-true, cond-all}
+use Rattle.rules.proofs.images.Images.{done-or-not, restore-refused}
+use Rattle.rules.proofs.laws.Cases.{and-true, cond-all}
 use Rattle.rules.specs.Lists.{written}
 use Rattle.text.specs.Written.{Put}
 use Rattle.text.specs.Commands.{firstPiece}

@@ -7,9 +7,9 @@ use native.Mathlib.Omega.{arith}
 use lib.Dec.{T}
 use Rattle.rules.specs.Lists.{range, each, only}
 use Rattle.rules.specs.Pages.{size, fileOf, pageOf, Page, pages}
-use Rattle.rules.proofs.Tests.{both}
+use Rattle.rules.proofs.laws.Tests.{both}
 use Rattle.rules.specs.declared.State.{State}
-use Rattle.rules.proofs.Lists.{range-add, only-append}
+use Rattle.rules.proofs.laws.Lists.{range-add, only-append}
 
 -- nothing is picked from a range that has nothing to pick
 pub only-none : (P : ℕ → Bool) (a n : ℕ) → ((k : ℕ) → a ≤ k → k < a + n → T (P k) → ⊥) → only P (range a n) ≡ []

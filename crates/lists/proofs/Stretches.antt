@@ -13,9 +13,9 @@ use Rattle.bits.proofs.Bits.{bit-le}
 use Rattle.bits.proofs.Finds.{Next}
 use Rattle.rules.specs.Lists.{range, each}
 use Rattle.rules.specs.Pages.{size, pageOf, held, ends, clusters}
-use Rattle.rules.proofs.Members.{All, range-in, each-in}
+use Rattle.rules.proofs.laws.Members.{All, range-in, each-in}
 use Rattle.rules.specs.declared.State.{State}
-use Rattle.rules.proofs.Lists.{range-add, each-append}
+use Rattle.rules.proofs.laws.Lists.{range-add, each-append}
 
 module _ (s : State) (f : ℕ) where
   -- the ends among n pages from page p on

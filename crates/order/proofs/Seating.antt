@@ -12,9 +12,9 @@ use lib.Dec.{T, eqb}
 use lib.ListN.{length, getD, set, replicate, length-set}
 use lib.Seq.{getD-set-same, getD-set-other}
 use Rattle.rules.specs.Readers.{attached}
-use Rattle.rules.proofs.Below.{one-more}
-use Rattle.rules.proofs.Cases.{failed}
-use Rattle.rules.proofs.Kept.{same-at}
+use Rattle.rules.proofs.laws.Below.{one-more}
+use Rattle.rules.proofs.laws.Cases.{failed}
+use Rattle.rules.proofs.calls.Kept.{same-at}
 use Rattle.rules.specs.declared.Reader.{Reader}
 use Rattle.order.specs.Seats.{readerIn, reads, lastSeat, Seated}
 

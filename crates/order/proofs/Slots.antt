@@ -9,9 +9,9 @@ use borrow.Author.Tests.{le-leb, lt-leb, lt-ltb}
 use lib.Dec.{leb}
 use Rattle.rules.specs.Readers.{readerAt}
 use Rattle.rules.specs.UseTimes.{before, steps, between, cut, sees, timeFor, seat, never, useFor}
-use Rattle.rules.proofs.Tests.{is-true}
+use Rattle.rules.proofs.laws.Tests.{is-true}
 use Rattle.rules.specs.Ranks.{Before}
-use Rattle.rules.proofs.LookAheads.{is-before}
+use Rattle.rules.proofs.orders.LookAheads.{is-before}
 use Rattle.rules.specs.declared.State.{State}
 use Rattle.rules.specs.declared.Reader.{Reader}
 use Rattle.rules.specs.Views.{stateOf}

@@ -11,12 +11,12 @@ use Rattle.rules.specs.Pages.{fileOf}
 use Rattle.rules.specs.Readers.{readerAt, attached}
 use Rattle.rules.specs.UseTimes.{before, sees, never, useFor, useKey, ahead, seen}
 use Rattle.rules.specs.Orders.{place}
-use Rattle.rules.proofs.Tests.{less, side, is-true, is-false, and-both}
-use Rattle.rules.proofs.Cases.{passed}
-use Rattle.rules.proofs.Leasts.{some-at, some-in, least-far, least-met}
-use Rattle.rules.proofs.LookAheads.{before-is, sees-before, seen-by, use-sees, use-least}
+use Rattle.rules.proofs.laws.Tests.{less, side, is-true, is-false, and-both}
+use Rattle.rules.proofs.laws.Cases.{passed}
+use Rattle.rules.proofs.laws.Leasts.{some-at, some-in, least-far, least-met}
+use Rattle.rules.proofs.orders.LookAheads.{before-is, sees-before, seen-by, use-sees, use-least}
 use Rattle.rules.specs.Ranks.{rank}
-use Rattle.rules.proofs.Ranks.{seen-ahead, seen-small}
+use Rattle.rules.proofs.orders.Ranks.{seen-ahead, seen-small}
 use Rattle.rules.specs.declared.State.{State}
 use Rattle.rules.specs.declared.Reader.{Reader}
 use Rattle.order.specs.Seats.{lastSeat}

@@ -23,9 +23,9 @@ slotOf v slot = getD (v .readers) slot noReader
 
 -- the ranges that the searches rest on; every valid state has them
 pub record Ranged (v : View) : Type 0 where
-  pub turn-low : v .turn < 16
+  pub turn-high : v .turn < 16
   pub look-high : v .«look_ahead» ≤ 2000000
-  pub file-low : (slot : ℕ) → T (attached (slotOf v slot)) → slotOf v slot .file < 8
+  pub file-high : (slot : ℕ) → T (attached (slotOf v slot)) → slotOf v slot .file < 8
   pub pace-low : (slot : ℕ) → T (attached (slotOf v slot)) → 1 ≤ slotOf v slot .pace
   pub position-high : (slot : ℕ) → T (attached (slotOf v slot)) → slotOf v slot .position ≤ 1024
 

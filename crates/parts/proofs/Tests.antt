@@ -2,7 +2,7 @@
 use mathlib.Core.Path.{_≡_}
 use mathlib.Core.Bool.{Bool, true, false, _&&_, _||_}
 use borrow.Author.Needs.{needs}
-use Rattle.rules.proofs.Cases.{and-pass, call-stop, call-pass, outcomes}
+use Rattle.rules.proofs.laws.Cases.{and-pass, call-stop, call-pass, outcomes}
 
 -- the first does not hold, and is the result
 pub not-both : (a b : Bool) → a ≡ false → a ≡ (a && b)

@@ -14,7 +14,7 @@ use Rattle.rules.specs.declared.Condition.the-variants.{Empty, Running, 
 
 -- an attached reader: a file that is there, a pace of 1 to 1,000, a position in the file
 pub record Placed (s : State) (r : Reader) : Type 0 where
-  pub file-low : r .file < 8
+  pub file-high : r .file < 8
   pub file-there : 1 ≤ size s (r .file)
   pub pace-low : 1 ≤ r .pace
   pub pace-high : r .pace ≤ 1000
@@ -41,7 +41,7 @@ pub record Valid (s : State) : Type 0 where
   pub time-high : s .«fetch_time» ≤ 2000000
   pub sixteen : length (s .readers) ≡ 16
   pub readers-in : (j : ℕ) → ReaderIn (readerAt s j .condition) s (readerAt s j)
-  pub turn-low : s .turn < 16
+  pub turn-high : s .turn < 16
   pub cached-map : PageMap (s .cached)
   pub fetching-map : PageMap (s .fetching)
   pub cached-in : (k : ℕ) → T (cached s k) → Page s k

@@ -19,9 +19,9 @@ use Rattle.rules.specs.declared.Reply.{Reply}
 use Rattle.rules.specs.declared.Answer.the-variants.{Fetch, Ran}
 use Rattle.rules.specs.declared.Condition.{Condition}
 use Rattle.rules.specs.declared.Condition.the-variants.{Empty, Running, Waiting}
-use Rattle.rules.proofs.Cases.{cond-all, cond-yes, cond-no, fetch-all, outcomes}
-use Rattle.rules.proofs.Kept.{read-kept, arrive-kept, turn-kept}
-use Rattle.rules.proofs.Optimal.{third-of}
+use Rattle.rules.proofs.laws.Cases.{cond-all, cond-yes, cond-no, fetch-all, outcomes}
+use Rattle.rules.proofs.calls.Kept.{read-kept, arrive-kept, turn-kept}
+use Rattle.rules.proofs.third.Optimal.{third-of}
 use Rattle.calls.proofs.Frames.{pages-ones}
 use Rattle.run.specs.Told.{Told, told, turned, Single}
 use Rattle.run.specs.declared.Turned.{Turned}
@@ -55,7 +55,7 @@ module _ (s : State) (v : Valid s) (r : Reply) (e : r ≡ readOf s (s .turn)) wh
   unfolding readTurn
   turn-else q k h =
       let t : ended 0 r ≡ readTurn s = rw (← e) (not-fetch (r .answer) _ _ k) in
-      h ∙ ap told (t ∙ turn-reads s (v .turn-low))
+      h ∙ ap told (t ∙ turn-reads s (v .turn-high))
 
   -- it is F: Arrive of that page and Read again
   pub turn-fetch : (file page : ℕ) (m again : Reply) (q : Told) → r .answer ≡ Fetch file page → m ≡ arriveOf (r .state) file page → again ≡ readOf (m .state) (s .turn)
@@ -63,7 +63,7 @@ module _ (s : State) (v : Valid s) (r : Reply) (e : r ≡ readOf s (s .turn)) wh
   unfolding readTurn
   turn-fetch file page m again q k a b h =
       let t : ended 1 again ≡ readTurn s = rw (b, a, ← e) (is-fetch (r .answer) file page _ _ _ k refl) in
-      h ∙ ap told (t ∙ turn-reads s (v .turn-low))
+      h ∙ ap told (t ∙ turn-reads s (v .turn-high))
 
 -- ---- the states of a turn are valid
 

@@ -14,12 +14,12 @@ use Rattle.rules.specs.Lists.{every}
 use Rattle.rules.specs.Calls.{refused}
 use Rattle.rules.specs.Lines.{split, isField, decimalValue, fieldsOf, wellFormed, told, obeyed, respondOf}
 use Rattle.rules.specs.declared.State.{State}
-use Rattle.rules.proofs.Cases.{and-true}
+use Rattle.rules.proofs.laws.Cases.{and-true}
 use Rattle.text.specs.Commands.{firstPiece, fieldFrom, fieldAt, startsWell, valuesOf, isCommand, noCommand, commandOf}
 use Rattle.text.specs.declared.Command.{Command}
 use Rattle.text.specs.declared.Field.the-variants.{Number, Bad}
 use Rattle.text.proofs.Pieces.{by-test, split-some, split-at, first-on, after-first}
-use Rattle.rules.proofs.Lists.{every-append}
+use Rattle.rules.proofs.laws.Lists.{every-append}
 
 -- ---- the letter
 

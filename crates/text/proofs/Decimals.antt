@@ -11,8 +11,8 @@ use lib.Seq.{slice, slice-empty, slice-cons}
 use lib.Dec.{leb, eqb}
 use Rattle.rules.specs.Lists.{every}
 use Rattle.rules.specs.Lines.{isDigit, isDecimal, decimalValue, isField}
-use Rattle.rules.proofs.Cases.{and-true}
-use Rattle.rules.proofs.Lists.{every-append}
+use Rattle.rules.proofs.laws.Cases.{and-true}
+use Rattle.rules.proofs.laws.Lists.{every-append}
 use Rattle.text.specs.Commands.{firstPiece, grownBy, Digits, fieldFrom, fieldAt}
 use Rattle.text.specs.declared.Field.the-variants.{Number, Bad}
 use Rattle.text.specs.declared.Value.the-variants.{Within, Over}

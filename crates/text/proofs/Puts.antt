@@ -11,7 +11,7 @@ use lib.ListN.{length, set, length-append, length-set}
 use lib.Dec.{ltb}
 use Rattle.rules.specs.Lines.{digitsOf}
 use Rattle.rules.specs.Lists.{written}
-use Rattle.rules.proofs.Lists.{written-none, written-front, written-more}
+use Rattle.rules.proofs.laws.Lists.{written-none, written-front, written-more}
 use Rattle.text.specs.Written.{Put}
 
 -- ---- a buffer

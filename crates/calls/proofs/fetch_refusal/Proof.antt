@@ -1,7 +1,7 @@
 use borrow.Author.Needs.{needs}
 use Rattle.calls.specs.Parts.{fetchRefusal}
 use Rattle.calls.proofs.Outcomes.{keyed}
-use Rattle.parts.proofs.Files.{file-low, there-small, there-low}
+use Rattle.parts.proofs.Files.{file-high, there-small, there-low}
 use Rattle.calls.proofs.fetch_refusal.Statement.{statement}
 use Rattle.calls.proofs.fetch_refusal.Tie as tie
 
@@ -13,7 +13,7 @@ unfolding fetchRefusal
 returns c = search keyed depth 12
 
 no-page-requires : tie.Need-no-page-requires
-no-page-requires c κs = search (file-low, needs)
+no-page-requires c κs = search (file-high, needs)
 
 returns-2 : tie.Need-returns-2
 unfolding fetchRefusal

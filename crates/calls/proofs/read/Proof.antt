@@ -1,6 +1,6 @@
 use borrow.Author.Needs.{needs}
 use Rattle.rules.specs.Calls.{readOf}
-use Rattle.rules.proofs.Kept.{running-placed}
+use Rattle.rules.proofs.calls.Kept.{running-placed}
 use Rattle.calls.proofs.Slots.{read-stays}
 use Rattle.calls.proofs.Outcomes.{answers}
 use Rattle.calls.proofs.read.Statement.{statement}

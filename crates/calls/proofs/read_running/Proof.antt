@@ -16,7 +16,7 @@ abbrev missed : tie.After-in-condition → tie.After-has-bit
 missed c = c .before .before
 
 last-page-requires : tie.Need-last-page-requires
-last-page-requires c κs = c .before .pre .0 .file-low
+last-page-requires c κs = c .before .pre .0 .file-high
 
 outcome-requires : tie.Need-outcome-requires
 outcome-requires c κs = search needs

@@ -6,7 +6,7 @@ use borrow.Author.Needs.{needs}
 use lib.Dec.{T}
 use Rattle.bits.proofs.Finds.{last-is}
 use Rattle.rules.specs.Pages.{cached}
-use Rattle.rules.proofs.Candidates.{candidate-cached}
+use Rattle.rules.proofs.orders.Candidates.{candidate-cached}
 use Rattle.rules.specs.declared.State.{State}
 use Rattle.rules.specs.Views.{stateOf}
 use Rattle.order.proofs.Searching.{raised-none, raised-take, raised-keep}

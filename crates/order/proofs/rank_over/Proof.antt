@@ -8,9 +8,9 @@ use lib.Dec.{T, eqb→eq}
 use lib.ListN.{getD}
 use Rattle.rules.specs.Readers.{readerAt, attached}
 use Rattle.rules.specs.UseTimes.{before, never}
-use Rattle.rules.proofs.Tests.{and-first, and-second}
+use Rattle.rules.proofs.laws.Tests.{and-first, and-second}
 use Rattle.rules.specs.Ranks.{Before}
-use Rattle.rules.proofs.LookAheads.{before-is, is-before}
+use Rattle.rules.proofs.orders.LookAheads.{before-is, is-before}
 use Rattle.rules.specs.declared.Reader.{Reader}
 use Rattle.rules.specs.Views.{stateOf}
 use Rattle.order.specs.Choices.{slotOf}

@@ -8,11 +8,11 @@ use borrow.Author.Tests.{not-true, not-false}
 use lib.Dec.{T}
 use Rattle.rules.specs.Readers.{attached, lastPage}
 use Rattle.rules.specs.Valid.{Placed}
-use Rattle.rules.proofs.Cases.{passed, failed}
-use Rattle.rules.proofs.Valids.{placed-at}
-use Rattle.rules.proofs.LookAheads.{before-is}
+use Rattle.rules.proofs.laws.Cases.{passed, failed}
+use Rattle.rules.proofs.calls.Valids.{placed-at}
+use Rattle.rules.proofs.orders.LookAheads.{before-is}
 use Rattle.rules.specs.Ranks.{FirstAbsent, Before}
-use Rattle.rules.proofs.Candidates.{absent-least}
+use Rattle.rules.proofs.orders.Candidates.{absent-least}
 use Rattle.rules.specs.declared.State.{State}
 use Rattle.rules.specs.declared.Reader.{Reader}
 use Rattle.rules.specs.Views.{stateOf}
@@ -88,7 +88,7 @@ cast-position : tie.Need-cast-position
 cast-position c = search needs
 
 last-page-requires : tie.Need-last-page-requires
-last-page-requires c κs = placed (c .before .before .before) .file-low
+last-page-requires c κs = placed (c .before .before .before) .file-high
 
 cast-last : tie.Need-cast-last
 cast-last c = search needs

@@ -7,7 +7,7 @@ use native.Mathlib.Omega.{arith}
 use borrow.Author.Needs.{needs}
 use lib.Dec.{T}
 use Rattle.rules.specs.Readers.{attached}
-use Rattle.rules.proofs.Tests.{is-true}
+use Rattle.rules.proofs.laws.Tests.{is-true}
 use Rattle.rules.specs.declared.State.{State}
 use Rattle.rules.specs.Views.{stateOf}
 use Rattle.order.specs.Choices.{slotOf}
@@ -70,7 +70,7 @@ all c =
     rw e at (l .inv .2 (c .before .before .before .before .args .fetching .now))
 
 seats-of-requires : tie.Need-seats-of-requires Inv-loop μ-loop
-seats-of-requires c κs = valid-ranged (at (c .before)) (c .before .pre) .file-low
+seats-of-requires c κs = valid-ranged (at (c .before)) (c .before .pre) .file-high
 
 loop-holds : tie.Need-loop-holds Inv-loop μ-loop
 loop-holds c =

@@ -13,7 +13,7 @@ enum-known-answer : tie.Need-enum-known-answer
 enum-known-answer c = search needs
 
 end-turn-requires : tie.Need-end-turn-requires
-end-turn-requires c κs = read-valid _ (c .before .before .before .before .before .pre) _ _ (c .before .read .ensures .0) .turn-low
+end-turn-requires c κs = read-valid _ (c .before .before .before .before .before .pre) _ _ (c .before .read .ensures .0) .turn-high
 
 returns : tie.Need-returns
 returns c = and-single _ _ _ _ (turn-else _ (c .before .before .before .before .before .before .pre) _ (c .before .before .read .ensures .0) _ (search needs) (c .end-turn .ensures _ _))
@@ -31,7 +31,7 @@ read-requires-2 : tie.Need-read-requires-2
 read-requires-2 c κs = arrive-valid _ (read-valid _ (c .before .before .before .before .before .before .before .before .before .before .before .before .pre) _ _ (c .before .before .before .before .before .before .before .before .read .ensures .0)) _ _ _ (c .before .before .arrive .ensures)
 
 end-turn-requires-2 : tie.Need-end-turn-requires-2
-end-turn-requires-2 c κs = read-valid _ (arrive-valid _ (read-valid _ (c .before .before .before .before .before .before .before .before .before .before .before .before .before .pre) _ _ (c .before .before .before .before .before .before .before .before .before .read .ensures .0)) _ _ _ (c .before .before .before .arrive .ensures)) _ _ (c .read2 .ensures .0) .turn-low
+end-turn-requires-2 c κs = read-valid _ (arrive-valid _ (read-valid _ (c .before .before .before .before .before .before .before .before .before .before .before .before .before .pre) _ _ (c .before .before .before .before .before .before .before .before .before .read .ensures .0)) _ _ _ (c .before .before .before .arrive .ensures)) _ _ (c .read2 .ensures .0) .turn-high
 
 returns-2 : tie.Need-returns-2
 returns-2 c = and-single _ _ _ _ (turn-fetch _ (c .before .before .before .before .before .before .before .before .before .before .before .before .before .before .pre) _ (c .before .before .before .before .before .before .before .before .before .before .read .ensures .0) _ _ _ _ _ (search needs) (c .before .before .before .before .arrive .ensures) (c .before .read2 .ensures .0) (c .end-turn2 .ensures _ _))

@@ -2,7 +2,7 @@
 use mathlib.Core.Path.{_∙_, ap}
 use borrow.Author.Needs.{needs}
 use Rattle.rules.specs.Lists.{within}
-use Rattle.rules.proofs.Cases.{and-stop, and-pass, call-stop, call-pass}
+use Rattle.rules.proofs.laws.Cases.{and-stop, and-pass, call-stop, call-pass}
 use Rattle.image.proofs.Checks.{and-later}
 use Rattle.image.proofs.Restores.{verdict-is, sizes-low, room-stop, room-pass}
 use Rattle.image.proofs.restoring.accepted.Statement.{statement}

@@ -1,7 +1,7 @@
 -- The two numbers, each read in its place, are tested one after the other.
 use native.Mathlib.Omega.{arith}
 use borrow.Author.Needs.{needs}
-use Rattle.rules.proofs.Offsets.{setting-at, gap-at}
+use Rattle.rules.proofs.images.Offsets.{setting-at, gap-at}
 use Rattle.image.proofs.Checks.{stops, passes}
 use Rattle.image.proofs.restoring.gaps_hold.Statement.{statement}
 use Rattle.image.proofs.restoring.gaps_hold.Tie as tie

@@ -5,7 +5,7 @@ use borrow.Author.Tests.{lt-ltb, le-ltb}
 use lib.Dec.{eqb}
 use Rattle.bits.specs.Map.{bit}
 use Rattle.rules.specs.Readers.{awaits}
-use Rattle.rules.proofs.Cases.{and-stop, and-pass}
+use Rattle.rules.proofs.laws.Cases.{and-stop, and-pass}
 use borrow.Author.Needs.{needs}
 use Rattle.image.proofs.restoring.reader_awaits.Statement.{statement}
 use Rattle.image.proofs.restoring.reader_awaits.Tie as tie

@@ -2,7 +2,7 @@
 use mathlib.Core.Path.{sym, _∙_}
 use borrow.Author.Tests.{not-false}
 use Rattle.rules.specs.Image.{readerPlaced}
-use Rattle.rules.proofs.Cases.{call-stop, file-there}
+use Rattle.rules.proofs.laws.Cases.{call-stop, file-there}
 use Rattle.parts.specs.Files.{sized}
 use borrow.Author.Needs.{needs}
 use Rattle.image.proofs.restoring.reader_placed.Statement.{statement}

@@ -3,7 +3,7 @@ use mathlib.Core.Path.{ap, _∙_}
 use borrow.Author.Needs.{needs}
 use Rattle.rules.specs.Lists.{within}
 use Rattle.rules.specs.Calls.{settingsIn}
-use Rattle.rules.proofs.Cases.{call-stop, call-pass}
+use Rattle.rules.proofs.laws.Cases.{call-stop, call-pass}
 use Rattle.image.proofs.Checks.{and-later}
 use Rattle.image.proofs.restoring.settings_hold.Statement.{statement}
 use Rattle.image.proofs.restoring.settings_hold.Tie as tie

@@ -3,7 +3,7 @@ use mathlib.Core.Path.{_≡_}
 use Prim.Native.Nat.{_-_, _≤_}
 use borrow.Author.Needs.{needs}
 use lib.ListN.{length}
-use Rattle.rules.proofs.Offsets.{sizesAt}
+use Rattle.rules.proofs.images.Offsets.{sizesAt}
 use Rattle.image.specs.Bytes.{numberFrom}
 use Rattle.image.proofs.States.{sizes-read}
 use Rattle.image.proofs.Fills.{filled, filled-more, filled-all}

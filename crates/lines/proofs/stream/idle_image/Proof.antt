@@ -1,6 +1,6 @@
 use mathlib.Core.Path.{sym, subst, ap, _∙_}
 use borrow.Author.Needs.{needs}
-use Rattle.rules.proofs.Kept.{idle-valid}
+use Rattle.rules.proofs.calls.Kept.{idle-valid}
 use Rattle.rules.specs.Image.{imageOf}
 use Rattle.rules.specs.Valid.{Valid}
 use Rattle.lines.proofs.stream.idle_image.Statement.{statement}

@@ -1,0 +1,8 @@
+-- The calls: what each keeps, changes and refuses.
+pub mod Valids
+pub mod Marks
+pub mod Changes
+pub mod Landings
+pub mod Kept
+pub mod Refusals
+pub mod OneRecord

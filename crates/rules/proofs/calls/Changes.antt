@@ -1,0 +1,223 @@
+-- The changes that calls make, one at a time, keep a state valid. Assumes nothing.
+use Prim.Native.Nat.{ℕ, zero, suc, _+_, _≤_, _<_}
+use mathlib.Core.Path.{_≡_, refl, sym, ap, _∙_, subst}
+use mathlib.Core.Bool.{Bool, not, _&&_, _||_}
+use mathlib.Core.List.{List, [], _∷_}
+use mathlib.Core.Logic.{_≢_}
+use native.Mathlib.Omega.{arith}
+use lib.ListN.{getD, set, length, length-set}
+use lib.Dec.{T, ltb, eqb, not-T}
+use Rattle.bits.specs.Map.{putBit, on}
+use Rattle.rules.specs.Pages.{size, cached, inFetch, Page, cachedPages}
+use Rattle.rules.specs.Readers.{noReader, readerAt, lastPage, nextKey, awaits}
+use Rattle.rules.specs.Valid.{Valid, Placed, ReaderIn, PageMap}
+use Rattle.rules.specs.Calls.{remade, withReader, withFetch, without}
+use Rattle.rules.specs.Schedules.{num, count}
+use Rattle.rules.specs.declared.State.{State}
+use Rattle.rules.specs.declared.Reader.{Reader}
+use Rattle.rules.specs.declared.Condition.{Condition}
+use Rattle.rules.specs.declared.Condition.the-variants.{Empty, Running, Waiting}
+use Rattle.rules.proofs.laws.Tests.{key, and-both, and-first, and-second, or-right}
+use Rattle.rules.proofs.laws.Counting.{empty, count-empty, plus, plus-count, same-count, num-in, num-out}
+use Rattle.rules.proofs.laws.Counts.{pages-count}
+use Rattle.rules.proofs.calls.Marks.{map-put, on-put, off-put, put-off}
+
+-- the cached pages, counted by their keys
+pub cached-count : (s : State) → ((f : ℕ) → size s f ≤ 1024) → ((k : ℕ) → T (cached s k) → Page s k) → length (cachedPages s) ≡ count 8192 (cached s)
+unfolding cachedPages
+cached-count s small inside = pages-count s small (cached s) inside
+
+-- no page cached
+pub none-cached : (s : State) → ((f : ℕ) → size s f ≤ 1024) → ((k : ℕ) → T (cached s k) → ⊥) → length (cachedPages s) ≡ 0
+none-cached s small none =
+    cached-count s small (λ k h. absurd (none k h)) ∙ same-count 8192 (cached s) empty (λ k. num-out (cached s k) (not-T (cached s k) (none k))) ∙ count-empty 8192
+
+-- a map of pages of the files
+record MapIn (s : State) (words : List ℕ) : Type 0 where
+  fits : PageMap words
+  inside : (k : ℕ) → T (on words k) → Page s k
+
+-- the turn and the readers, by the state's own files and fetches
+record Seats (s : State) (turn : ℕ) (readers : List Reader) : Type 0 where
+  low : turn < 16
+  all : length readers ≡ 16
+  each-in : (j : ℕ) → ReaderIn (getD readers j noReader .condition) s (getD readers j noReader)
+
+-- the two maps, by the state's own files and frames
+record Maps (s : State) (held fetching : List ℕ) : Type 0 where
+  held-in : MapIn s held
+  fetching-in : MapIn s fetching
+  apart : (k : ℕ) → T (on held k) → T (on fetching k) → ⊥
+  room : count 8192 (on held) ≤ s .frames
+
+-- the readers that wait for a page in fetch find it in this map
+abbrev Waits : State → List Reader → List ℕ → Type 0
+Waits s readers fetching = (j : ℕ) → getD readers j noReader .condition ≡ Waiting → T (inFetch s (nextKey (getD readers j noReader))) → T (on fetching (nextKey (getD readers j noReader)))
+
+module _ (s : State) (turn : ℕ) (readers : List Reader) (held fetching : List ℕ) where
+  page-in : (k : ℕ) → Page s k → Page (remade s turn readers held fetching) k
+  page-in k p = record { low = p .low; there = p .there }
+
+  -- a placed reader stays placed
+  pub placed-in : (r : Reader) → Placed s r → Placed (remade s turn readers held fetching) r
+  placed-in r p = record { file-high = p .file-high; file-there = p .file-there; pace-low = p .pace-low; pace-high = p .pace-high; position-in = p .position-in }
+
+  reader-in : (c : Condition) (r : Reader) → (c ≡ Waiting → T (inFetch s (nextKey r)) → T (on fetching (nextKey r))) → ReaderIn c s r → ReaderIn c (remade s turn readers held fetching) r
+  unfolding awaits
+  reader-in Empty r w h = h
+  reader-in Running r w h = placed-in r h
+  reader-in Waiting r w h =
+      let short : Bool = ltb (r .position) (lastPage (s .sizes) r) in
+      (placed-in r (h .0), and-both short _ (and-first short _ (h .1)) (w refl (and-second short _ (h .1))))
+
+  -- turn, readers and maps that fit make a valid state
+  remade-valid : Valid s → Seats s turn readers → Maps s held fetching → Waits s readers fetching → Valid (remade s turn readers held fetching)
+  remade-valid v a m w =
+      let inside : (k : ℕ) → T (on held k) → Page (remade s turn readers held fetching) k = λ k h. page-in k (m .held-in .inside k h) in
+      record {
+        eight = v .eight;
+        sizes-high = v .sizes-high;
+        frames-low = v .frames-low;
+        frames-high = v .frames-high;
+        look-low = v .look-low;
+        look-high = v .look-high;
+        time-high = v .time-high;
+        sixteen = a .all;
+        readers-in = λ j. reader-in (getD readers j noReader .condition) (getD readers j noReader) (w j) (a .each-in j);
+        turn-high = a .low;
+        cached-map = m .held-in .fits;
+        fetching-map = m .fetching-in .fits;
+        cached-in = inside;
+        fetching-in = λ k h. page-in k (m .fetching-in .inside k h);
+        apart = m .apart;
+        room = rw (cached-count (remade s turn readers held fetching) (v .sizes-high) inside) (m .room);
+      }
+
+module _ (s : State) (v : Valid s) where
+  cached-map-in : MapIn s (s .cached)
+  cached-map-in = record { fits = v .cached-map; inside = v .cached-in }
+
+  fetching-map-in : MapIn s (s .fetching)
+  fetching-map-in = record { fits = v .fetching-map; inside = v .fetching-in }
+
+  -- the frames hold the cached pages' keys
+  pub counted : count 8192 (cached s) ≤ s .frames
+  counted = rw (cached-count s (v .sizes-high) (v .cached-in)) at (v .room)
+
+  same-maps : Maps s (s .cached) (s .fetching)
+  same-maps = record { held-in = cached-map-in; fetching-in = fetching-map-in; apart = v .apart; room = counted }
+
+  -- a page put in a map of pages
+  put-in : (words : List ℕ) (k : ℕ) → Page s k → MapIn s words → MapIn s (putBit words k 1)
+  put-in words k p m = record {
+    fits = map-put words k 1 (omega arith) (m .fits);
+    inside = λ j h. key k j (λ b. T (b || on words j) → Page s j) (λ e _. subst (Page s) e p) (λ _ q. m .inside j q) (subst T (on-put words (m .fits) k (p .low) j) h);
+  }
+
+  -- what a map without k has, it had
+  left-on : (words : List ℕ) (k : ℕ) → Page s k → MapIn s words → (j : ℕ) → T (on (without words k) j) → T (on words j)
+  left-on words k p m j h = and-second (not (eqb k j)) (on words j) (subst T (off-put words (m .fits) k (p .low) j) h)
+
+  -- a page taken out of one
+  left-in : (words : List ℕ) (k : ℕ) → Page s k → MapIn s words → MapIn s (without words k)
+  left-in words k p m = record {
+    fits = map-put words k 0 (omega arith) (m .fits);
+    inside = λ j h. m .inside j (left-on words k p m j h);
+  }
+
+  -- a page put into a map that the other has not leaves them apart
+  put-apart : (words others : List ℕ) (k : ℕ) → Page s k → MapIn s words → (T (on others k) → ⊥) → ((j : ℕ) → T (on words j) → T (on others j) → ⊥) → (j : ℕ) → T (on (putBit words k 1) j) → T (on others j) → ⊥
+  put-apart words others k p m absent apart j h o =
+      key k j (λ b. T (b || on words j) → ⊥) (λ e _. absent (subst (λ i. T (on others i)) (sym e) o)) (λ _ q. apart j q o) (subst T (on-put words (m .fits) k (p .low) j) h)
+
+  -- other maps
+  maps-changed : (held fetching : List ℕ) → Maps s held fetching → Waits s (s .readers) fetching → Valid (remade s (s .turn) (s .readers) held fetching)
+  maps-changed held fetching = remade-valid s (s .turn) (s .readers) held fetching v (record { low = v .turn-high; all = v .sixteen; each-in = v .readers-in })
+
+  -- the turn moves on
+  pub turn-moved : (turn : ℕ) → turn < 16 → Valid (remade s turn (s .readers) (s .cached) (s .fetching))
+  turn-moved turn h = remade-valid s turn (s .readers) (s .cached) (s .fetching) v (record { low = h; all = v .sixteen; each-in = v .readers-in }) same-maps (λ j _ q. q)
+
+  -- other readers
+  pub readers-changed : (readers : List Reader) → length readers ≡ 16 → ((j : ℕ) → ReaderIn (getD readers j noReader .condition) s (getD readers j noReader))
+      → Valid (remade s (s .turn) readers (s .cached) (s .fetching))
+  readers-changed readers n h = remade-valid s (s .turn) readers (s .cached) (s .fetching) v (record { low = v .turn-high; all = n; each-in = h }) same-maps (λ j _ q. q)
+
+  -- a page put in fetch
+  pub fetch-opened : (k : ℕ) → Page s k → (T (cached s k) → ⊥) → Valid (withFetch s k)
+  fetch-opened k p absent = maps-changed (s .cached) (putBit (s .fetching) k 1) maps (λ j _ q. rw (on-put (s .fetching) (v .fetching-map) k (p .low)) (or-right (eqb k _) _ q))
+    where
+      maps : Maps s (s .cached) (putBit (s .fetching) k 1)
+      maps = record {
+        held-in = cached-map-in;
+        fetching-in = put-in (s .fetching) k p fetching-map-in;
+        apart = λ j c f. put-apart (s .fetching) (s .cached) k p fetching-map-in absent (λ i q o. v .apart i o q) j f c;
+        room = counted;
+      }
+
+  -- a fetch closed for which no reader waits
+  pub fetch-closed : (k : ℕ) → Page s k → ((j : ℕ) → readerAt s j .condition ≡ Waiting → nextKey (readerAt s j) ≢ k) → Valid (remade s (s .turn) (s .readers) (s .cached) (without (s .fetching) k))
+  fetch-closed k p none = maps-changed (s .cached) (without (s .fetching) k) maps waits
+    where
+      maps : Maps s (s .cached) (without (s .fetching) k)
+      maps = record {
+        held-in = cached-map-in;
+        fetching-in = left-in (s .fetching) k p fetching-map-in;
+        apart = λ j c f. v .apart j c (left-on (s .fetching) k p fetching-map-in j f);
+        room = counted;
+      }
+
+      waits : Waits s (s .readers) (without (s .fetching) k)
+      waits j w q = rw (off-put (s .fetching) (v .fetching-map) k (p .low))
+          (key k (nextKey (readerAt s j)) (λ b. T (not b && inFetch s (nextKey (readerAt s j)))) (λ e. absurd (none j w (sym e))) (λ _. q))
+
+  -- a cached page dropped is one less
+  pub less-count : (k : ℕ) → T (cached s k) → count 8192 (on (without (s .cached) k)) + 1 ≡ count 8192 (cached s)
+  less-count k c =
+      let p = v .cached-in k c in
+      let off : num (on (without (s .cached) k) k) ≡ 0 = num-out (on (without (s .cached) k) k) (not-T (on (without (s .cached) k) k) (put-off (s .cached) (v .cached-map) k (p .low))) in
+      sym (plus-count 8192 k (on (without (s .cached) k)) (p .low) off) ∙ same-count 8192 (plus (on (without (s .cached) k)) k) (cached s)
+      (λ j. rw (off-put (s .cached) (v .cached-map) k (p .low)) (key k j (λ b. num (b || (not b && cached s j)) ≡ num (cached s j)) (λ e. sym (num-in (cached s j) (subst (λ i. T (cached s i)) e c))) (λ _. refl)))
+
+  -- a page dropped
+  pub page-dropped : (k : ℕ) → T (cached s k) → Valid (remade s (s .turn) (s .readers) (without (s .cached) k) (s .fetching))
+  page-dropped k c = maps-changed (without (s .cached) k) (s .fetching) maps (λ j _ q. q)
+    where
+      p : Page s k
+      p = v .cached-in k c
+
+      maps : Maps s (without (s .cached) k) (s .fetching)
+      maps = record {
+        held-in = left-in (s .cached) k p cached-map-in;
+        fetching-in = fetching-map-in;
+        apart = λ j h f. v .apart j (left-on (s .cached) k p cached-map-in j h) f;
+        room = omega (arith, less-count k c, counted);
+      }
+
+  -- a page cached where a frame is free
+  pub page-cached : (k : ℕ) → Page s k → T (not (cached s k)) → (T (inFetch s k) → ⊥) → count 8192 (cached s) < s .frames
+      → Valid (remade s (s .turn) (s .readers) (putBit (s .cached) k 1) (s .fetching))
+  page-cached k p absent closed free = maps-changed (putBit (s .cached) k 1) (s .fetching) maps (λ j _ q. q)
+    where
+      more : count 8192 (on (putBit (s .cached) k 1)) ≡ count 8192 (cached s) + 1
+      more = same-count 8192 (on (putBit (s .cached) k 1)) (plus (cached s) k) (λ j. ap num (on-put (s .cached) (v .cached-map) k (p .low) j)) ∙ plus-count 8192 k (cached s) (p .low) (num-out (cached s k) absent)
+
+      maps : Maps s (putBit (s .cached) k 1) (s .fetching)
+      maps = record {
+        held-in = put-in (s .cached) k p cached-map-in;
+        fetching-in = fetching-map-in;
+        apart = put-apart (s .cached) (s .fetching) k p cached-map-in closed (v .apart);
+        room = omega (arith, more);
+      }
+
+-- what holds of each record, and of one more, holds of each after that one is stored
+all-set : (P : Reader → Type 0) (l : List Reader) (i : ℕ) (r d : Reader) → P r → ((j : ℕ) → P (getD l j d)) → (j : ℕ) → P (getD (set l i r) j d)
+all-set P [] i r d p h j = h j
+all-set P (x ∷ l) zero r d p h zero = p
+all-set P (x ∷ l) zero r d p h (suc j) = h (suc j)
+all-set P (x ∷ l) (suc i) r d p h zero = h zero
+all-set P (x ∷ l) (suc i) r d p h (suc j) = all-set P l i r d p (λ k. h (suc k)) j
+
+-- one record changed
+pub reader-changed : (s : State) → Valid s → (slot : ℕ) (r : Reader) → ReaderIn (r .condition) s r → Valid (withReader s slot r)
+reader-changed s v slot r h = readers-changed s v (set (s .readers) slot r) (length-set (s .readers) slot r ∙ v .sixteen) (all-set (λ q. ReaderIn (q .condition) s q) (s .readers) slot r noReader h (v .readers-in))

@@ -1,0 +1,75 @@
+-- The C entries: Restore, call, Save, and a refusal leaves the buffer byte for byte. Assumes nothing.
+use mathlib.Core.Path.{_≡_, refl, sym, ap, _∙_}
+use mathlib.Core.Bool.{cond}
+use mathlib.Core.List.{List}
+use mathlib.Core.Logic.{⊎-elim}
+use Prim.Native.Nat.{ℕ, _≤_}
+use native.Mathlib.Omega.{arith}
+use Rattle.rules.specs.Calls.{reply}
+use Rattle.rules.specs.Image.{imageOf, restoreOf}
+use Rattle.rules.specs.Entries.{code, carriedOut, Call, callOf, entered, enter}
+use Rattle.rules.proofs.laws.Numbers.{Bytes}
+use Rattle.rules.proofs.images.Images.{done-or-not, restore-refused, restore-save, upgraded-same, save-restore, restored-valid}
+use Rattle.rules.proofs.calls.Kept.{kept}
+use Rattle.rules.proofs.calls.Refusals.{refused-same}
+use Rattle.rules.specs.declared.Reply.{Reply}
+use Rattle.rules.specs.declared.Answer.{Answer}
+use Rattle.rules.specs.declared.Answer.the-variants.{Refused, Done, Hit, Wait, Fetch, End, Nothing, Stolen, Arrived, Replaced, Ran}
+
+-- by whether an answer is a refusal
+answer-all : {A : Type 0} (P : A → Type 0) (a : Answer) (x y : A) → P x → ((n : ℕ) → a ≡ Refused n → P y) → P (cond (carriedOut a) x y)
+answer-all P (Refused n) x y p q = q n refl
+answer-all P Done x y p q = p
+answer-all P (Hit file page) x y p q = p
+answer-all P (Wait file page) x y p q = p
+answer-all P (Fetch file page) x y p q = p
+answer-all P End x y p q = p
+answer-all P Nothing x y p q = p
+answer-all P (Stolen file page) x y p q = p
+answer-all P Arrived x y p q = p
+answer-all P (Replaced file page) x y p q = p
+answer-all P (Ran fetches reads) x y p q = p
+
+-- a number up to 13 is a refusal's, and leaves the buffer
+low-left : (a : Answer) (saved image : List ℕ) → code a ≤ 13 → cond (carriedOut a) saved image ≡ image
+unfolding code
+low-left (Refused n) saved image h = refl
+low-left Done saved image h = absurd (omega arith)
+low-left (Hit file page) saved image h = absurd (omega arith)
+low-left (Wait file page) saved image h = absurd (omega arith)
+low-left (Fetch file page) saved image h = absurd (omega arith)
+low-left End saved image h = absurd (omega arith)
+low-left Nothing saved image h = absurd (omega arith)
+low-left (Stolen file page) saved image h = absurd (omega arith)
+low-left Arrived saved image h = absurd (omega arith)
+low-left (Replaced file page) saved image h = absurd (omega arith)
+low-left (Ran fetches reads) saved image h = absurd (omega arith)
+
+module _ (c : Call) (image : List ℕ) where
+  -- where Restore refuses the image, 13, and the buffer is as it was
+  pub enter-unrestored : (restoreOf image .answer ≡ Done → ⊥) → enter c image ≡ record { number = 13; image = image }
+  unfolding enter code
+  enter-unrestored n = rw (ap (λ (r : Reply). r .answer) (restore-refused image n))
+
+  -- where it does not, what the call answers and leaves
+  pub enter-restored : restoreOf image .answer ≡ Done → enter c image ≡ entered image (callOf c (restoreOf image .state))
+  unfolding enter
+  enter-restored e = rw e
+
+  -- a number up to 13 is a refusal's, and the buffer is as it was
+  pub enter-refused : enter c image .number ≤ 13 → enter c image .image ≡ image
+  enter-refused l =
+      ⊎-elim
+      (λ d. ap (λ r. r .image) (enter-restored d) ∙ low-left (callOf c (restoreOf image .state) .answer) (imageOf (callOf c (restoreOf image .state) .state)) image (rw (enter-restored d) at l))
+      (λ d. ap (λ r. r .image) (enter-unrestored d)) (done-or-not image)
+
+  -- "each as Restore, call, Save": the buffer is the image of the call's state, refused or not
+  pub enter-saves : Bytes image → restoreOf image .answer ≡ Done → enter c image .image ≡ imageOf (callOf c (restoreOf image .state) .state)
+  enter-saves bytes d =
+      ap (λ r. r .image) (enter-restored d)
+      ∙ answer-all (λ l. l ≡ imageOf (callOf c (restoreOf image .state) .state)) (callOf c (restoreOf image .state) .answer) _ image refl
+      (λ n e. sym (save-restore image bytes d ∙ upgraded-same image) ∙ ap imageOf (sym (refused-same c (restoreOf image .state) n e)))
+
+  -- so the next entry finds an image that it takes
+  pub enter-again : Bytes image → restoreOf image .answer ≡ Done → restoreOf (enter c image .image) ≡ reply (callOf c (restoreOf image .state) .state) Done
+  enter-again bytes d = ap restoreOf (enter-saves bytes d) ∙ restore-save (callOf c (restoreOf image .state) .state) (kept c (restoreOf image .state) (restored-valid image bytes))

@@ -1,0 +1,77 @@
+-- A set of pages of the files, counted by its keys below 8,192. Assumes nothing.
+use mathlib.Core.Path.{_≡_, refl, ap, _∙_, subst}
+use mathlib.Core.Bool.{Bool, true, false, not, cond}
+use mathlib.Core.List.{List, _∷_, _++_}
+use mathlib.Core.Logic.{_⊎_, inl, inr}
+use Prim.Native.Nat.{ℕ, zero, suc, _+_, _-_, _*_, _≤_, _<_}
+use native.Mathlib.Omega.{arith}
+use lib.ListN.{length, length-append}
+use lib.Dec.{T}
+use Rattle.rules.specs.Lists.{range, each, only}
+use Rattle.rules.specs.Pages.{size, fileOf, pageOf, pages, Page}
+use Rattle.rules.specs.Schedules.{Set, num, count}
+use Rattle.rules.proofs.laws.Tests.{side}
+use Rattle.rules.proofs.laws.Counting.{num-out}
+use Rattle.rules.specs.declared.State.{State}
+use Rattle.rules.proofs.laws.Lists.{only-append}
+
+count-suc : (P : Set) (a : ℕ) → count (suc a) P ≡ num (P a) + count a P
+unfolding count
+count-suc P a = refl
+
+count-one : (P : Set) (a : ℕ) → count (a + 1) P ≡ num (P a) + count a P
+count-one P a = ap (λ m. count m P) (omega arith) ∙ count-suc P a
+
+-- past a size nothing counts
+count-past : (P : Set) (a n : ℕ) → ((k : ℕ) → a ≤ k → k < a + n → T (not (P k))) → count (a + n) P ≡ count a P
+count-past P a zero h = ap (λ m. count m P) (omega arith)
+count-past P a (suc n) h =
+    let ih = count-past P a n (λ k l m. h k l (omega arith)) in
+    let e : count (a + suc n) P ≡ count (suc (a + n)) P = ap (λ m. count m P) (omega arith) in
+    omega (arith, count-suc P (a + n), num-out (P (a + n)) (h (a + n) (omega arith) (omega arith)))
+
+count-range : (P : Set) (a n : ℕ) → count (a + n) P ≡ count a P + length (only P (range a n))
+unfolding range only
+count-range P a zero = let e : count (a + 0) P ≡ count a P = ap (λ m. count m P) (omega arith) in omega arith
+count-range P a (suc n) =
+    let e : count (a + suc n) P ≡ count (a + 1 + n) P = ap (λ m. count m P) (omega arith) in
+    e ∙ count-range P (a + 1) n ∙ go (P a) refl
+  where
+    go : (t : Bool) → P a ≡ t → count (a + 1) P + length (only P (range (a + 1) n)) ≡ count a P + length (cond t (a ∷ only P (range (a + 1) n)) (only P (range (a + 1) n)))
+    go true e = omega (arith, count-one P a, ap num e)
+    go false e = omega (arith, count-one P a, ap num e)
+
+-- a set of pages of the files has as many keys as the pages in it, file by file
+module _ (s : State) (small : (f : ℕ) → size s f ≤ 1024) (P : Set) (inside : (k : ℕ) → T (P k) → Page s k) where
+  absent : (k : ℕ) → (Page s k → ⊥) → T (not (P k))
+  absent k not-page = go (side (P k))
+    where
+      go : T (P k) ⊎ T (not (P k)) → T (not (P k))
+      go (inl h) = absurd (not-page (inside k h))
+      go (inr h) = h
+
+  file-count : (f : ℕ) → count (f * 1024 + 1024) P ≡ count (f * 1024) P + length (only P (range (f * 1024) (size s f)))
+  file-count f =
+      let m = small f in
+      let p = count-past P (f * 1024 + size s f) (1024 - size s f) (λ k l h. absent k (λ g. let e : fileOf k ≡ f = omega arith in let q : pageOf k ≤ size s f = subst (λ i. pageOf k ≤ size s i) e (g .there) in omega arith)) in
+      let e : count (f * 1024 + 1024) P ≡ count (f * 1024 + size s f + (1024 - size s f)) P = ap (λ m. count m P) (omega arith) in
+      omega (arith, count-range P (f * 1024) (size s f))
+
+  files-count : (a n : ℕ) → count ((a + n) * 1024) P ≡ count (a * 1024) P + length (only P (each (λ f. range (f * 1024) (size s f)) (range a n)))
+  unfolding each range only
+  files-count a zero = let e : count ((a + 0) * 1024) P ≡ count (a * 1024) P = ap (λ m. count m P) (omega arith) in omega arith
+  files-count a (suc n) =
+      let here : List ℕ = range (a * 1024) (size s a) in
+      let more : List ℕ = each (λ f. range (f * 1024) (size s f)) (range (a + 1) n) in
+      let e : count ((a + suc n) * 1024) P ≡ count ((a + 1 + n) * 1024) P = ap (λ m. count m P) (omega arith) in
+      let e′ : count ((a + 1) * 1024) P ≡ count (a * 1024 + 1024) P = ap (λ m. count m P) (omega arith) in
+      let l : length (only P (here ++ more)) ≡ length (only P here) + length (only P more) = ap length (only-append P here more) ∙ length-append (only P here) (only P more) in
+      omega (arith, files-count (a + 1) n, file-count a)
+
+  none : count 0 P ≡ 0
+  unfolding count
+  none = refl
+
+  pub pages-count : length (only P (pages s)) ≡ count 8192 P
+  unfolding pages
+  pages-count = omega (arith, files-count 0 8, none)

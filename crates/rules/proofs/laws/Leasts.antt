@@ -1,0 +1,64 @@
+-- Laws of `some-of` and `least`. Assumes nothing.
+use mathlib.Core.Path.{_≡_, refl, sym, ap, _∙_, subst}
+use mathlib.Core.Bool.{Bool, true, false, _||_}
+use mathlib.Core.Logic.{_≢_}
+use Prim.Native.Nat.{ℕ, zero, suc, min, _≤_, _<_}
+use native.Mathlib.Omega.{arith}
+use lib.Dec.{T, eqb, eqb→eq, eqb-refl}
+use Rattle.rules.specs.Lists.{least, some-of}
+use Rattle.rules.proofs.laws.Tests.{leq, both, or-left, or-right}
+
+pub some-mono : (m : ℕ) (P R : ℕ → Bool) → ((j : ℕ) → T (P j) → T (R j)) → T (some-of m P) → T (some-of m R)
+unfolding some-of
+some-mono zero P R h a = absurd a
+some-mono (suc m) P R h a₀ =
+    both (P m) (λ t. (T t → T (R m)) → T (t || some-of m P) → T (R m || some-of m R)) (λ _ r _. or-left (R m) _ (r tt)) (λ _ r a. or-right (R m) _ (some-mono m P R h a)) (h m) a₀
+
+pub some-at : (m : ℕ) (P : ℕ → Bool) → T (some-of m P) → (j : ℕ) × (j < m) × T (P j)
+unfolding some-of
+some-at zero P a = absurd a
+some-at (suc m) P a = go (some-at m P) (P m) refl a
+  where
+    go : (T (some-of m P) → (j : ℕ) × (j < m) × T (P j)) → (t : Bool) → P m ≡ t → T (t || some-of m P) → (j : ℕ) × (j < suc m) × T (P j)
+    go ih true e a = (m, omega arith, subst T (sym e) tt)
+    go ih false e a = let r = ih a in (r .0, omega (arith, r .1), r .2)
+
+pub some-in : (m j : ℕ) (P : ℕ → Bool) → j < m → T (P j) → T (some-of m P)
+unfolding some-of
+some-in zero j P l h = absurd (omega arith)
+some-in (suc m) j P l h = go (λ k. some-in m j P k h) (P m) refl
+  where
+    other : P m ≡ false → m ≢ j
+    other e q = subst T (ap P (sym q) ∙ e) h
+
+    go : (j < m → T (some-of m P)) → (t : Bool) → P m ≡ t → T (t || some-of m P)
+    go ih true e = tt
+    go ih false e = ih (omega (arith, other e))
+
+pub least-far : (m : ℕ) (g : ℕ → ℕ) (far : ℕ) → least m g far ≤ far
+unfolding least
+least-far zero g far = omega arith
+least-far (suc m) g far = let ih = least-far m g far in omega arith
+
+pub least-le : (m : ℕ) (g : ℕ → ℕ) (far j : ℕ) → j < m → least m g far ≤ g j
+unfolding least
+least-le zero g far j l = absurd (omega arith)
+least-le (suc m) g far j l = go (least-le m g far j) (eqb j m) (eqb→eq j m) (λ e. subst (λ i. T (eqb j i)) e (eqb-refl j))
+  where
+    go : (j < m → least m g far ≤ g j) → (t : Bool) → (T t → j ≡ m) → (j ≡ m → T t) → min (g m) (least m g far) ≤ g j
+    go ih true e f = omega (arith, ap g (e tt))
+    go ih false e f = let ne : j ≢ m = f in omega (arith, ih (omega arith))
+
+pub le-least : (m : ℕ) (g : ℕ → ℕ) (far x : ℕ) → x ≤ far → ((j : ℕ) → j < m → x ≤ g j) → x ≤ least m g far
+unfolding least
+le-least zero g far x l h = l
+le-least (suc m) g far x l h = let ih = le-least m g far x l (λ j k. h j (omega arith)) in omega (arith, h m (omega arith))
+
+-- it is far, or met by one of them
+pub least-met : (m : ℕ) (g : ℕ → ℕ) (far : ℕ) → least m g far < far → (j : ℕ) × (j < m) × (least m g far ≡ g j)
+unfolding least
+least-met zero g far l = absurd (omega arith)
+least-met (suc m) g far l =
+    leq (g m) (least m g far) (λ _. (j : ℕ) × (j < suc m) × (min (g m) (least m g far) ≡ g j))
+    (λ h. (m, omega arith, omega arith))
+    (λ h. let r = least-met m g far (omega arith) in (r .0, omega (arith, r .1), omega (arith, r .2)))

@@ -1,0 +1,73 @@
+-- What holds of every member of a list, and of its parts. Assumes nothing.
+use mathlib.Core.Path.{_≡_, refl, ap, subst}
+use mathlib.Core.Bool.{Bool, true, false, cond, _&&_}
+use mathlib.Core.List.{List, [], _∷_, _++_}
+use mathlib.Core.Logic.{_≢_}
+use Prim.Native.Nat.{ℕ, zero, suc, _+_, _≤_, _<_}
+use native.Mathlib.Omega.{arith}
+use lib.Dec.{T, eqb, eqb→eq, eqb-refl}
+use Rattle.rules.specs.Lists.{range, each, only}
+use Rattle.rules.proofs.laws.Tests.{both}
+
+abbrev pub All : (ℕ → Type 0) → List ℕ → Type 0
+All Q [] = Unit {0}
+All Q (x ∷ xs) = Q x × All Q xs
+
+pub all-map : (Q R : ℕ → Type 0) (l : List ℕ) → ((x : ℕ) → Q x → R x) → All Q l → All R l
+all-map Q R [] f h = tt
+all-map Q R (x ∷ l) f h = (f x (h .0), all-map Q R l f (h .1))
+
+pub all-append : (Q : ℕ → Type 0) (a b : List ℕ) → All Q a → All Q b → All Q (a ++ b)
+all-append Q [] b h k = k
+all-append Q (x ∷ a) b h k = (h .0, all-append Q a b (h .1) k)
+
+pub all-left : (Q : ℕ → Type 0) (a b : List ℕ) → All Q (a ++ b) → All Q a
+all-left Q [] b h = tt
+all-left Q (x ∷ a) b h = (h .0, all-left Q a b (h .1))
+
+pub all-right : (Q : ℕ → Type 0) (a b : List ℕ) → All Q (a ++ b) → All Q b
+all-right Q [] b h = h
+all-right Q (x ∷ a) b h = all-right Q a b (h .1)
+
+module _ (P : ℕ → Bool) (Q : ℕ → Type 0) where
+  pub all-only : (l : List ℕ) → All Q l → All (λ k. T (P k) × Q k) (only P l)
+  unfolding only
+  all-only [] h = tt
+  all-only (x ∷ l) h = both (P x) (λ t. All (λ k. T (P k) × Q k) (cond t (x ∷ only P l) (only P l))) (λ p. ((p, h .0), all-only l (h .1))) (λ _. all-only l (h .1))
+
+  pub only-all : (l : List ℕ) → All Q (only P l) → All (λ k. T (P k) → Q k) l
+  unfolding only
+  only-all [] h = tt
+  only-all (x ∷ l) h₀ = both (P x) (λ t. All Q (cond t (x ∷ only P l) (only P l)) → (T t → Q x) × All (λ k. T (P k) → Q k) l)
+      (λ _ h. (λ _. h .0, only-all l (h .1))) (λ _ h. (λ a. absurd a, only-all l h)) h₀
+
+pub only-only : (P R : ℕ → Bool) (l : List ℕ) → only R (only P l) ≡ only (λ k. P k && R k) l
+unfolding only
+only-only P R [] = refl
+only-only P R (x ∷ l) =
+    both (P x) (λ t. only R (cond t (x ∷ only P l) (only P l)) ≡ cond (t && R x) (x ∷ only (λ k. P k && R k) l) (only (λ k. P k && R k) l))
+    (λ _. ap (λ m. cond (R x) (x ∷ m) m) (only-only P R l)) (λ _. only-only P R l)
+
+pub range-in : (Q : ℕ → Type 0) (a n : ℕ) → ((i : ℕ) → a ≤ i → i < a + n → Q i) → All Q (range a n)
+unfolding range
+range-in Q a zero h = tt
+range-in Q a (suc n) h = (h a (omega arith) (omega arith), range-in Q (a + 1) n (λ i l m. h i (omega arith) (omega arith)))
+
+pub range-at : (Q : ℕ → Type 0) (a n i : ℕ) → All Q (range a n) → a ≤ i → i < a + n → Q i
+unfolding range
+range-at Q a zero i h l m = absurd (omega arith)
+range-at Q a (suc n) i h l m = go (range-at Q (a + 1) n i (h .1)) (eqb a i) (eqb→eq a i) (λ e. subst (λ j. T (eqb a j)) e (eqb-refl a))
+  where
+    go : (a + 1 ≤ i → i < a + 1 + n → Q i) → (t : Bool) → (T t → a ≡ i) → (a ≡ i → T t) → Q i
+    go ih true e f = subst Q (e tt) (h .0)
+    go ih false e f = let ne : a ≢ i = f in ih (omega arith) (omega arith)
+
+pub each-in : (Q : ℕ → Type 0) (g : ℕ → List ℕ) (l : List ℕ) → All (λ x. All Q (g x)) l → All Q (each g l)
+unfolding each
+each-in Q g [] h = tt
+each-in Q g (x ∷ l) h = all-append Q (g x) (each g l) (h .0) (each-in Q g l (h .1))
+
+pub each-at : (Q : ℕ → Type 0) (g : ℕ → List ℕ) (l : List ℕ) → All Q (each g l) → All (λ x. All Q (g x)) l
+unfolding each
+each-at Q g [] h = tt
+each-at Q g (x ∷ l) h = (all-left Q (g x) (each g l) h, each-at Q g l (all-right Q (g x) (each g l) h))

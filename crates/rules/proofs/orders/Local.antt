@@ -1,0 +1,127 @@
+-- A page's rank hangs on its own file alone, and on turn, look-ahead and fetch time; two states alike in every file have one steal order. Assumes nothing.
+use mathlib.Core.Path.{_≡_, refl, sym, ap, ap₂, _∙_, fun-ext}
+use mathlib.Core.Bool.{false, cond, _&&_, and-assoc}
+use mathlib.Core.Logic.{_⊎_, inl, inr}
+use Prim.Native.Nat.{ℕ, zero, suc, _+_, _-_, _*_, _≤_}
+use native.Mathlib.Omega.{arith}
+use lib.Dec.{eqb, eqb→eq}
+use Rattle.bits.specs.Map.{bit}
+use Rattle.rules.specs.Lists.{range, each, only, falling, least, some-of}
+use Rattle.rules.specs.Pages.{size, fileOf, keyOf, cached, pages, cachedPages}
+use Rattle.rules.specs.Readers.{readerAt, attached}
+use Rattle.rules.specs.Valid.{Valid}
+use Rattle.rules.specs.UseTimes.{before, steps, present, missing, between, cut, sees, timeFor, never, useFor, useKey, ahead, seen}
+use Rattle.rules.specs.Orders.{stealOrder}
+use Rattle.rules.proofs.laws.Tests.{both, is-false, and-second}
+use Rattle.rules.specs.Ranks.{rank}
+use Rattle.rules.proofs.orders.Ranks.{steal-ranked}
+use Rattle.rules.specs.declared.State.{State}
+use Rattle.rules.specs.declared.Reader.{Reader}
+
+-- the record is of no reader of the file
+abbrev pub NotOf : ℕ → Reader → Type 0
+NotOf f r = (attached r && eqb (r .file) f) ≡ false
+
+-- two records alike in what the orders read
+pub record AlikeReader (r q : Reader) : Type 0 where
+  pub attached-same : attached r ≡ attached q
+  pub file-same : r .file ≡ q .file
+  pub pace-same : r .pace ≡ q .pace
+  pub position-same : r .position ≡ q .position
+
+-- equal records are alike
+pub alike-same : {r q : Reader} → r ≡ q → AlikeReader r q
+alike-same e = rw e (record { attached-same = refl; file-same = refl; pace-same = refl; position-same = refl })
+
+-- two states alike in what the ranks of file f read
+pub record SameFile (f : ℕ) (s t : State) : Type 0 where
+  pub turn-same : s .turn ≡ t .turn
+  pub look-same : s .«look_ahead» ≡ t .«look_ahead»
+  pub time-same : s .«fetch_time» ≡ t .«fetch_time»
+  pub size-same : size s f ≡ size t f
+  pub readers-same : (j : ℕ) → AlikeReader (readerAt s j) (readerAt t j) ⊎ (NotOf f (readerAt s j) × NotOf f (readerAt t j))
+  pub bits-same : (k : ℕ) → fileOf k ≡ f → bit (s .cached) k ≡ bit (t .cached) k
+
+not-before : (s : State) (r : Reader) (k : ℕ) → NotOf (fileOf k) r → before s r k ≡ false
+unfolding before
+not-before s r k h = rw (← and-assoc (attached r) (eqb (r .file) (fileOf k)), h)
+
+not-sees : (s : State) (r : Reader) (k : ℕ) → NotOf (fileOf k) r → sees s r k ≡ false
+unfolding sees
+not-sees s r k h = rw (not-before s r k h)
+
+-- what a slot says of page k in two states
+record SameSlot (s t : State) (k j : ℕ) : Type 0 where
+  before-alike : before s (readerAt s j) k ≡ before t (readerAt t j) k
+  sees-alike : sees s (readerAt s j) k ≡ sees t (readerAt t j) k
+  use-alike : useFor s k j ≡ useFor t k j
+
+-- what q takes for cached goes by the cached map alone: the one place that knows it
+present-same : (s t : State) (k : ℕ) → bit (s .cached) k ≡ bit (t .cached) k → present s k ≡ present t k
+unfolding present
+present-same s t k e = ap (λ b. eqb b 1) e
+
+module _ (s t : State) (k : ℕ) (a : SameFile (fileOf k) s t) where
+  missing-same : (c n : ℕ) → n ≤ 1023 - c → missing s (fileOf k) c n ≡ missing t (fileOf k) c n
+  unfolding missing
+  missing-same c zero l = refl
+  missing-same c (suc n) l =
+      ap₂ (λ b m. cond b 0 1 + m) (present-same s t _ (a .bits-same (keyOf (fileOf k) (c + suc n)) (omega arith))) (missing-same c n (omega arith))
+
+  module _ (r q : Reader) (e : AlikeReader r q) (f : q .file ≡ fileOf k) where
+    between-same : between s r k ≡ between t q k
+    between-same = rw (e .file-same, e .position-same, f) (missing-same (q .position) (steps q k - 1) (omega arith))
+
+    before-same : before s r k ≡ before t q k
+    unfolding before
+    before-same = rw (e .attached-same, e .file-same, e .position-same, f, a .size-same)
+
+    sees-same : sees s r k ≡ sees t q k
+    unfolding sees cut
+    sees-same = rw (before-same, between-same, e .position-same, e .pace-same, a .look-same, a .time-same)
+
+    time-alike : timeFor s r k ≡ timeFor t q k
+    unfolding timeFor
+    time-alike = rw (between-same, e .position-same, e .pace-same, a .time-same)
+
+  slot-same : (j : ℕ) → SameSlot s t k j
+  unfolding useFor
+  slot-same j = go (a .readers-same j)
+    where
+      neither : NotOf (fileOf k) (readerAt s j) → NotOf (fileOf k) (readerAt t j) → SameSlot s t k j
+      neither m n = record {
+        before-alike = rw (not-before s (readerAt s j) k m, not-before t (readerAt t j) k n);
+        sees-alike = rw (not-sees s (readerAt s j) k m, not-sees t (readerAt t j) k n);
+        use-alike = rw (not-sees s (readerAt s j) k m, not-sees t (readerAt t j) k n);
+      }
+
+      alike : AlikeReader (readerAt s j) (readerAt t j) → readerAt t j .file ≡ fileOf k → SameSlot s t k j
+      alike e f = record {
+        before-alike = before-same (readerAt s j) (readerAt t j) e f;
+        sees-alike = sees-same (readerAt s j) (readerAt t j) e f;
+        use-alike = rw (sees-same (readerAt s j) (readerAt t j) e f, time-alike (readerAt s j) (readerAt t j) e f, a .turn-same);
+      }
+
+      go : AlikeReader (readerAt s j) (readerAt t j) ⊎ (NotOf (fileOf k) (readerAt s j) × NotOf (fileOf k) (readerAt t j)) → SameSlot s t k j
+      go (inl e) = both (attached (readerAt t j) && eqb (readerAt t j .file) (fileOf k)) (λ _. SameSlot s t k j)
+          (λ h. alike e (eqb→eq (readerAt t j .file) (fileOf k) (and-second (attached (readerAt t j)) _ h)))
+          (λ h. let n = is-false _ h in neither (rw (e .attached-same, e .file-same) n) n)
+      go (inr n) = neither (n .0) (n .1)
+
+  -- the rank of a page is the same in two states alike in its file
+  pub rank-local : rank s k ≡ rank t k
+  unfolding rank ahead seen useKey
+  rank-local =
+      let x : ahead s k ≡ ahead t k = ap (some-of 16) (fun-ext (λ j. slot-same j .before-alike)) in
+      let y : seen s k ≡ seen t k = ap (some-of 16) (fun-ext (λ j. slot-same j .sees-alike)) in
+      let z : useKey s k ≡ useKey t k = ap (λ g. least 16 g never) (fun-ext (λ j. slot-same j .use-alike)) in
+      rw (x, y, z)
+
+-- two states alike in every file have one steal order
+pub steal-local : (s t : State) → Valid s → Valid t → ((f : ℕ) → SameFile f s t) → stealOrder s ≡ stealOrder t
+unfolding cachedPages pages
+steal-local s t v w a =
+    let r : rank s ≡ rank t = fun-ext (λ k. rank-local s t k (a (fileOf k))) in
+    let c : cached s ≡ cached t = fun-ext (λ k. ap (λ b. eqb b 1) (a (fileOf k) .bits-same k refl)) in
+    let p : pages s ≡ pages t = ap (λ g. each (λ f. range (f * 1024) (g f)) (range 0 8)) (fun-ext (λ f. a f .size-same)) in
+    steal-ranked s v ∙ ap₂ falling r (ap₂ only c p) ∙ sym (steal-ranked t w)

@@ -1,0 +1,278 @@
+-- A second table beside the soundings: 01's sentences at their edges, above all where no other theorem and no test has them. No door of the program leads to
+-- Save, nor to the lists' 12. Each row is computed from the rules. Assumes nothing.
+use Prim.Native.Nat.{ℕ, _+_}
+use mathlib.Core.Path.{_≡_, refl}
+use mathlib.Core.Bool.{cond}
+use mathlib.Core.List.{List, [], _∷_, _++_, map}
+use lib.ListN.{length, take, replicate}
+use lib.Dec.{eqb}
+use Rattle.bits.specs.Map.{bit, putBit}
+use Rattle.rules.specs.Lists.{range, each, only, every, put, sorted, least, some-of}
+use Rattle.rules.specs.Pages.{keyOf, pages, cachedPages, fetchingPages, held, ends, clusters}
+use Rattle.rules.specs.Readers.{noReader}
+use Rattle.rules.specs.UseTimes.{before, present, missing, cut, sees, timeFor, useFor, useKey, ahead, seen}
+use Rattle.rules.specs.Orders.{behindLast, notSeen, useTime, stealOrder, fetchOrder, victim}
+use Rattle.rules.specs.Calls.{idle, attachOf, readRunning, readOf, stealOf, full, dropped, woken, landed, forFetch, arriveOf, detachOf, lostOf, prefetchOf}
+use Rattle.rules.specs.Run.{fetchOpen, readTurn, turnOf, turnsOf, runOf}
+use Rattle.rules.specs.Listings.{countIn, refusalIn, Written, listed, stealListOf, fetchListOf, clustersOf}
+use Rattle.rules.specs.Image.{conditionNumber, layout, bytesOf, imageOf, Saved, saveOf}
+use Rattle.rules.specs.Entries.{code, Call, attach, detach, read, arrive, lost, run, callOf}
+use Rattle.rules.specs.Lines.{split, isDecimal, decimalValue, isField, wellFormed, digitsOf, lineOf, numbersOf, obeyed, respondOf, linesOf, answers, programOf}
+use Rattle.rules.specs.Schedules.{num}
+use Rattle.rules.proofs.tables.Soundings.{stateWith, reader, at, f0}
+use Rattle.rules.proofs.tables.Sample.{bytes}
+use Rattle.rules.specs.declared.State.{State}
+use Rattle.rules.specs.declared.Reply.{Reply}
+use Rattle.rules.specs.declared.Answer.{Answer}
+use Rattle.rules.specs.declared.Answer.the-variants.{Refused, Done, Hit, Wait, Fetch, End, Nothing, Stolen, Arrived, Replaced, Ran}
+use Rattle.rules.specs.declared.Condition.the-variants.{Running, Waiting}
+
+-- what the rules give, and what 01 says
+pub record Row : Type 0 where
+  pub found : List ℕ
+  pub due : List ℕ
+
+abbrev row : List ℕ → List ℕ → Row
+row found due = record { found = found; due = due }
+
+abbrev pub Hold : List Row → Type 0
+Hold rows = map (λ r. r .found) rows ≡ map (λ r. r .due) rows
+
+-- ---- Save: "writes 2,208 bytes, little-endian"
+
+-- the bytes that are not 0, each behind its place
+unfoldable pub marks : ℕ → List ℕ → List ℕ
+marks i [] = []
+marks i (b ∷ bs) = cond (eqb b 0) [] (i ∷ b ∷ []) ++ marks (i + 1) bs
+
+-- numbers of several bytes, a reader that runs, one that waits, one in the last slot, the first and the last page cached, a page in fetch
+abbrev laden : State
+laden =
+    stateWith 770 11 1967877 657672 (1024 ∷ 300 ∷ 0 ∷ 0 ∷ 0 ∷ 0 ∷ 0 ∷ 1024 ∷ [])
+    (reader Running 0 1000 513 ∷ reader Waiting 1 258 299 ∷ (replicate 13 noReader ++ reader Running 7 1 2 ∷ []))
+    (0 ∷ 9 ∷ 1024 ∷ 8191 ∷ []) (1323 ∷ [])
+
+-- its image, as 01 lays it out
+abbrev image : List ℕ
+image =
+    -- frames, turn, L and T, the sizes
+    0 ∷ 2 ∷ 1 ∷ 3 ∷ 2 ∷ 11 ∷ 4 ∷ 5 ∷ 5 ∷ 7 ∷ 6 ∷ 30 ∷ 8 ∷ 8 ∷ 9 ∷ 9 ∷ 10 ∷ 10 ∷ 13 ∷ 4 ∷ 14 ∷ 44 ∷ 15 ∷ 1 ∷ 27 ∷ 4
+    -- the readers in slots 0, 1 and 15
+    ∷ 28 ∷ 1 ∷ 30 ∷ 232 ∷ 31 ∷ 3 ∷ 32 ∷ 1 ∷ 33 ∷ 2 ∷ 36 ∷ 2 ∷ 37 ∷ 1 ∷ 38 ∷ 2 ∷ 39 ∷ 1 ∷ 40 ∷ 43 ∷ 41 ∷ 1 ∷ 148 ∷ 1 ∷ 149 ∷ 7 ∷ 150 ∷ 1 ∷ 152 ∷ 2
+    -- the cached map and the fetch map
+    ∷ 160 ∷ 1 ∷ 161 ∷ 2 ∷ 288 ∷ 1 ∷ 1183 ∷ 128 ∷ 1349 ∷ 8 ∷ []
+
+-- the number, and the buffer after the call: its length and its marks
+unfoldable pub saved : Saved → List ℕ
+saved r = code (r .answer) ∷ length (r .buffer) ∷ marks 0 (r .buffer)
+
+-- "12: buffer shorter; bytes after 2,208 keep"
+unfoldable pub saves : List Row
+saves =
+    row (saved (saveOf laden (7 ∷ replicate 2206 0))) (12 ∷ 2207 ∷ 0 ∷ 7 ∷ [])
+    ∷ row (saved (saveOf laden (replicate 2208 9))) (5177344 ∷ 2208 ∷ image)
+    ∷ row (saved (saveOf laden (replicate 2209 9))) (5177344 ∷ 2209 ∷ (image ++ 2208 ∷ 9 ∷ []))
+    ∷ []
+
+pub saves-hold : Hold saves
+unfolding saves saved marks bit putBit each layout bytesOf imageOf saveOf code
+saves-hold = refl
+
+-- ---- Steal list, Fetch list, Clusters: "All: 12, list too short. Past what is written the list is unchanged"
+
+-- as in the first sounding: five pages cached, two to fetch, three clusters
+abbrev sounded : State
+sounded = stateWith 16 0 40 20 (8 ∷ []) (at 3 10 ∷ []) (f0 (1 ∷ 2 ∷ 3 ∷ 5 ∷ 7 ∷ [])) []
+
+-- the refusal's number, the count, and the lent list after the call
+unfoldable pub written : Written → List ℕ
+written w = refusalIn (w .answer) ∷ countIn (w .answer) ∷ w .list
+
+-- a list too short by one, one with exactly enough room, and one with more
+unfoldable pub lists : List Row
+lists =
+    row (written (stealListOf sounded (replicate 4 9))) (12 ∷ 0 ∷ 9 ∷ 9 ∷ 9 ∷ 9 ∷ [])
+    ∷ row (written (stealListOf sounded (replicate 5 9))) (0 ∷ 5 ∷ 2 ∷ 1 ∷ 0 ∷ 6 ∷ 4 ∷ [])
+    ∷ row (written (stealListOf sounded (replicate 6 9))) (0 ∷ 5 ∷ 2 ∷ 1 ∷ 0 ∷ 6 ∷ 4 ∷ 9 ∷ [])
+    ∷ row (written (fetchListOf sounded (replicate 1 9))) (12 ∷ 0 ∷ 9 ∷ [])
+    ∷ row (written (fetchListOf sounded (replicate 2 9))) (0 ∷ 2 ∷ 3 ∷ 5 ∷ [])
+    ∷ row (written (fetchListOf sounded (replicate 3 9))) (0 ∷ 2 ∷ 3 ∷ 5 ∷ 9 ∷ [])
+    ∷ row (written (clustersOf sounded 0 (replicate 5 9))) (12 ∷ 0 ∷ 9 ∷ 9 ∷ 9 ∷ 9 ∷ 9 ∷ [])
+    ∷ row (written (clustersOf sounded 0 (replicate 6 9))) (0 ∷ 3 ∷ 1 ∷ 3 ∷ 5 ∷ 5 ∷ 7 ∷ 7 ∷ [])
+    ∷ row (written (clustersOf sounded 0 (replicate 7 9))) (0 ∷ 3 ∷ 1 ∷ 3 ∷ 5 ∷ 5 ∷ 7 ∷ 7 ∷ 9 ∷ [])
+    -- "Clusters first: 3", where there is nothing to write
+    ∷ row (written (clustersOf sounded 1 [])) (3 ∷ 0 ∷ [])
+    ∷ row (written (clustersOf sounded 8 (9 ∷ []))) (3 ∷ 0 ∷ 9 ∷ [])
+    -- a list of no room for an order of no page
+    ∷ row (written (stealListOf idle [])) (0 ∷ 0 ∷ [])
+    ∷ []
+
+pub lists-hold : Hold lists
+unfolding lists written bit putBit range each only put sorted least some-of pages held ends clusters before present missing cut sees timeFor useFor useKey ahead seen behindLast notSeen useTime stealOrder fetchOrder listed stealListOf fetchListOf clustersOf
+lists-hold = refl
+
+-- ---- "The number returned is the refusal's, or the answer letter's ASCII code × 65,536 + (key + 1, or 0 without a page)"
+
+-- an answer and its number
+abbrev is : Answer → ℕ → Row
+is answer n = row (code answer ∷ []) (n ∷ [])
+
+unfoldable pub numbers : List Row
+numbers =
+    is (Refused 13) 13
+    ∷ is Done 5177344
+    ∷ is (Hit 7 1024) 4726784
+    ∷ is (Wait 0 1) 5701633
+    ∷ is (Fetch 1 1) 4588545
+    ∷ is End 5898240
+    ∷ is Nothing 5570560
+    ∷ is (Stolen 0 1024) 5440512
+    ∷ is Arrived 4784128
+    ∷ is (Replaced 7 1) 4791297
+    -- "for Run 4,294,967,296 + fetches × 65,536 + reads"
+    ∷ is (Ran 300 16384) 4314644480
+    ∷ []
+
+pub numbers-hold : Hold numbers
+unfolding numbers code
+numbers-hold = refl
+
+-- ---- "Where several refusals apply, the one listed first for the call is given"
+
+-- a file of six pages, a reader in slot 0 that waits for its first page
+abbrev waiting : State
+waiting = stateWith 16 0 40 0 (6 ∷ []) (reader Waiting 0 10 0 ∷ []) [] (f0 (1 ∷ []))
+
+-- a call and its number
+abbrev gives : Call → ℕ → Row
+gives call n = is (callOf call waiting .answer) n
+
+-- by call: two neighbours in its list at once, and the limits of the slot, the file, the page and the turns
+unfoldable pub refusals : List Row
+refusals =
+    gives (attach 16 8 10) 2
+    ∷ gives (attach 15 8 0) 3
+    ∷ gives (attach 15 7 1001) 3
+    ∷ gives (attach 0 0 0) 4
+    ∷ gives (attach 0 0 1001) 4
+    ∷ gives (attach 0 0 1000) 5
+    ∷ gives (read 16) 2
+    ∷ gives (read 15) 6
+    ∷ gives (read 0) 7
+    ∷ gives (detach 16) 2
+    ∷ gives (detach 15) 6
+    ∷ gives (arrive 8 0) 3
+    ∷ gives (arrive 7 1) 3
+    ∷ gives (arrive 0 0) 8
+    ∷ gives (arrive 0 7) 8
+    ∷ gives (arrive 0 6) 9
+    ∷ gives (lost 8 0) 3
+    ∷ gives (lost 7 1) 3
+    ∷ gives (lost 0 0) 8
+    ∷ gives (lost 0 7) 8
+    ∷ gives (lost 0 6) 9
+    ∷ gives (run 16385) 11
+    ∷ gives (run 16384) 10
+    ∷ []
+
+pub refusals-hold : Hold refusals
+unfolding refusals bit putBit range each only pages fetchingPages attachOf readOf readRunning detachOf forFetch arriveOf lostOf fetchOpen runOf code
+refusals-hold = refl
+
+-- ---- the orders and the clusters
+
+-- three readers in slots 0, 1 and 2, each ten ticks before a page of its own, at turn 1
+abbrev abreast : List ℕ → State
+abreast cached = stateWith 16 1 10 0 (16 ∷ []) (at 0 10 ∷ at 4 10 ∷ at 8 10 ∷ []) cached []
+
+-- a reader at 0 with its first page cached and its second in fetch
+abbrev awaited : ℕ → State
+awaited time = stateWith 16 0 40 time (16 ∷ []) (at 0 10 ∷ []) (f0 (1 ∷ [])) (f0 (2 ∷ []))
+
+-- the last two pages of file 0 and the first of file 1
+abbrev adjoining : State
+adjoining = stateWith 16 0 40 0 (1024 ∷ 6 ∷ []) [] (1022 ∷ 1023 ∷ 1024 ∷ []) []
+
+unfoldable pub orders : List Row
+orders =
+    -- "(slot − turn) modulo 16": seat distances 15, 0 and 1
+    row (stealOrder (abreast (f0 (1 ∷ 5 ∷ 9 ∷ [])))) (f0 (1 ∷ 9 ∷ 5 ∷ []))
+    ∷ row (fetchOrder (abreast [])) (f0 (5 ∷ 9 ∷ 1 ∷ []))
+    -- "neither cached nor in fetch"
+    ∷ row (fetchOrder (awaited 0)) (f0 (3 ∷ 4 ∷ []))
+    -- "A page in fetch is not cached": page 3 has q 1, and page 4, with q 2, is in no look-ahead
+    ∷ row (map (useKey (awaited 20)) (f0 (3 ∷ []))) (800 ∷ [])
+    ∷ row (fetchOrder (awaited 20)) (f0 (3 ∷ []))
+    -- "of one file"
+    ∷ row (clusters adjoining 0) (1023 ∷ 1024 ∷ [])
+    ∷ row (clusters adjoining 1) (1 ∷ 1 ∷ [])
+    ∷ []
+
+pub orders-hold : Hold orders
+unfolding orders bit putBit range each only put sorted least some-of pages held ends clusters before present missing cut sees timeFor useFor useKey ahead seen behindLast notSeen useTime stealOrder fetchOrder
+orders-hold = refl
+
+-- ---- what Arrive, Lost, Detach and Steal leave
+
+-- two files of six pages; the readers in slots 0 and 3 wait for page 1 of file 0, slot 1 for page 2 of it, slot 2 for page 1 of file 1
+abbrev held-up : State
+held-up =
+    stateWith 16 0 40 0 (6 ∷ 6 ∷ []) (reader Waiting 0 10 0 ∷ reader Waiting 0 10 1 ∷ reader Waiting 1 10 0 ∷ reader Waiting 0 10 0 ∷ []) []
+    (keyOf 0 1 ∷ keyOf 0 2 ∷ keyOf 1 1 ∷ [])
+
+-- what stands in the answer, then the conditions of the first four slots, the pages in fetch, and those cached
+unfoldable pub leaves : Reply → List ℕ
+leaves r =
+    numbersOf (r .answer)
+    ++ (map (λ q. conditionNumber (q .condition)) (take 4 (r .state .readers)) ++ (fetchingPages (r .state) ++ cachedPages (r .state)))
+
+-- all frames taken, a page in fetch that is further off than the one that is cached
+abbrev crowded : State
+crowded = stateWith 1 0 10 0 (6 ∷ []) (at 0 10 ∷ []) (f0 (1 ∷ [])) (f0 (6 ∷ []))
+
+-- slot 0 waits for page 1, which lowers the time of page 3 from 70 to 50 when it comes; slot 1 has page 5 at 60
+abbrev stale : State
+stale = stateWith 3 0 100 20 (6 ∷ []) (reader Waiting 0 10 0 ∷ at 4 60 ∷ []) (f0 (3 ∷ 5 ∷ 6 ∷ [])) (f0 (1 ∷ []))
+
+-- the page that the call dropped, and the page that Steal then drops
+unfoldable pub thenStolen : Reply → List ℕ
+thenStolen r = numbersOf (r .answer) ++ numbersOf (stealOf (r .state) .answer)
+
+unfoldable pub effects : List Row
+effects =
+    -- "every reader waiting for it runs", and no other
+    row (leaves (arriveOf held-up 0 1)) (1 ∷ 2 ∷ 2 ∷ 1 ∷ 1 ∷ 1024 ∷ 0 ∷ [])
+    -- "the fetch is closed and its waiters run"
+    ∷ row (leaves (lostOf held-up 0 1)) (1 ∷ 2 ∷ 2 ∷ 1 ∷ 1 ∷ 1024 ∷ [])
+    -- "an open fetch stays open"
+    ∷ row (leaves (detachOf held-up 1)) (2 ∷ 0 ∷ 2 ∷ 2 ∷ 0 ∷ 1 ∷ 1024 ∷ [])
+    -- "the head of the steal order is dropped first. Then the page .. is cached"
+    ∷ row (leaves (arriveOf crowded 0 6)) (0 ∷ 1 ∷ 1 ∷ 0 ∷ 0 ∷ 0 ∷ 5 ∷ [])
+    -- "The order is worked out afresh for each steal": before page 1 came it was 6, 3, 5
+    ∷ row (thenStolen (arriveOf stale 0 1)) (0 ∷ 6 ∷ 0 ∷ 5 ∷ [])
+    ∷ []
+
+pub effects-hold : Hold effects
+unfolding effects leaves thenStolen bit putBit range each only put sorted least some-of pages cachedPages fetchingPages before present missing cut sees timeFor useFor useKey ahead seen behindLast notSeen useTime stealOrder victim full dropped woken landed forFetch arriveOf lostOf detachOf stealOf
+effects-hold = refl
+
+-- ---- the program's lines
+
+-- a letter and 99 fields, of which the first is longer
+abbrev long : List ℕ → List ℕ
+long first = bytes "N," ++ (first ++ each (λ _. bytes ",1") (range 0 98))
+
+unfoldable pub texts : List Row
+texts =
+    -- "lines of at most 200 bytes"
+    row (length (long (bytes "10")) ∷ num (wellFormed (long (bytes "10"))) ∷ []) (200 ∷ 1 ∷ [])
+    ∷ row (length (long (bytes "100")) ∷ num (wellFormed (long (bytes "100"))) ∷ []) (201 ∷ 0 ∷ [])
+    -- "A last line may lack its line end"; an empty line is a line
+    ∷ row (programOf (bytes "A,0,0,10\nR,0")) (bytes "E,3\nE,6\n")
+    ∷ row (programOf (bytes "R,0\n\n")) (bytes "E,6\nE,14\n")
+    ∷ row (programOf []) []
+    ∷ []
+
+pub texts-hold : Hold texts
+unfolding texts bytes bit putBit range each only every put sorted least some-of pages cachedPages fetchingPages held ends clusters before present missing cut sees timeFor useFor useKey ahead seen behindLast notSeen useTime stealOrder fetchOrder victim attachOf readRunning readOf stealOf full dropped woken landed forFetch arriveOf detachOf lostOf prefetchOf fetchOpen readTurn turnOf turnsOf runOf split isDecimal decimalValue isField wellFormed digitsOf lineOf obeyed respondOf linesOf answers programOf
+texts-hold = refl

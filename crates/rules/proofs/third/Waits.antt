@@ -1,0 +1,34 @@
+-- A reader that begins to wait leaves the steal order as it was. Assumes nothing.
+use mathlib.Core.Path.{_≡_, refl, sym}
+use mathlib.Core.List.{List}
+use mathlib.Core.Logic.{inl}
+use Prim.Native.Nat.{ℕ, _<_}
+use native.Mathlib.Omega.{arith}
+use lib.ListN.{getD, set}
+use lib.Seq.{getD-set-same, getD-set-other}
+use lib.Dec.{T}
+use Rattle.rules.specs.Readers.{noReader, readerAt, attached, inCondition}
+use Rattle.rules.specs.Valid.{Valid}
+use Rattle.rules.specs.Orders.{stealOrder}
+use Rattle.rules.specs.Calls.{remade}
+use Rattle.rules.proofs.laws.Tests.{key, is-true}
+use Rattle.rules.proofs.orders.Local.{AlikeReader, alike-same, steal-local}
+use Rattle.rules.specs.declared.State.{State}
+use Rattle.rules.specs.declared.Reader.{Reader}
+use Rattle.rules.specs.declared.Condition.the-variants.{Waiting}
+
+-- the records with one reader waiting
+abbrev pub paused : State → ℕ → List Reader
+paused s u = set (s .readers) u (inCondition Waiting (readerAt s u))
+
+module _ (s : State) (v : Valid s) (u : ℕ) (l : u < 16) (here : T (attached (readerAt s u))) where
+  paused-alike : (j : ℕ) → AlikeReader (getD (paused s u) j noReader) (readerAt s j)
+  paused-alike j = key u j (λ _. AlikeReader (getD (paused s u) j noReader) (readerAt s j))
+      (λ e. rw (← e, getD-set-same (s .readers) u _ noReader (omega arith)) (record { attached-same = sym (is-true _ here); file-same = refl; pace-same = refl; position-same = refl }))
+      (λ ne. alike-same (getD-set-other (s .readers) u j _ noReader (λ e. ne (sym e))))
+
+  -- the steal order once reader u waits, whatever is in fetch and whatever T: q does not look at the fetch map (present-same, in Local.antt). Where it does, this
+  -- needs T = 0, which the third statement has.
+  pub steal-same : (fetching : List ℕ) → Valid (remade s (s .turn) (paused s u) (s .cached) fetching) → stealOrder (remade s (s .turn) (paused s u) (s .cached) fetching) ≡ stealOrder s
+  steal-same fetching w = steal-local (remade s (s .turn) (paused s u) (s .cached) fetching) s w v
+      (λ f. record { turn-same = refl; look-same = refl; time-same = refl; size-same = refl; readers-same = λ j. inl (paused-alike j); bits-same = λ k _. refl })
