@@ -1,5 +1,5 @@
--- The two orders by numbers, and what a search for their heads keeps: the words in which the code's contracts speak of 01's orders. proofs/orders/Ranks.antt and
--- proofs/orders/Candidates.antt show that these are the orders. Assumes nothing: these are definitions.
+-- The two orders by numbers, and what a search for their heads keeps: the words in which the code's contracts speak of 01's orders.
+-- proofs/orders/Ranks.antt and Candidates.antt show that these are the orders. Assumes nothing: these are definitions.
 use Prim.Native.Nat.{ℕ, _+_, _*_, _≤_, _<_}
 use mathlib.Core.Path.{_≡_}
 use mathlib.Core.Bool.{Bool, not, cond, _&&_}
