@@ -8,7 +8,7 @@ use Rattle.rules.specs.Lists.{head, onOption}
 use Rattle.rules.specs.Pages.{fileOf, pageOf, keyOf}
 use Rattle.rules.specs.Valid.{Valid}
 use Rattle.rules.specs.Orders.{fetchOrder, victim}
-use Rattle.rules.specs.Calls.{reply, remade, without, stealOf, dropped, landed, arriveOf, prefetchOf}
+use Rattle.rules.specs.Calls.{reply, withCached, withFetching, without, stealOf, dropped, landed, arriveOf, prefetchOf}
 use Rattle.rules.specs.declared.State.{State}
 use Rattle.rules.specs.declared.Answer.{Answer}
 use Rattle.rules.specs.declared.Answer.the-variants.{Stolen, Fetch}
@@ -68,13 +68,13 @@ module _ (s : State) (v : Valid s) (g : Choice) where
 module _ (s : State) (g : Choice) (k file page : ℕ) (f : file ≡ fileOf k) (p : page ≡ pageOf k) where
   -- Steal with a page to give up
   pub stole : chosen g ≡ victim s → (left : List ℕ) → left ≡ without (s .cached) k → g ≡ Key k
-      → reply (remade s (s .turn) (s .readers) left (s .fetching)) (Stolen file page) ≡ stealOf s
+      → reply (withCached s left) (Stolen file page) ≡ stealOf s
   unfolding stealOf
   stole b left c e = by-key victim s g b k _ _ _ e (rw (c, f, p))
 
   -- Prefetch with a page to fetch
   pub opened : chosen g ≡ head (fetchOrder s) → (still : List ℕ) → still ≡ putBit (s .fetching) k 1 → g ≡ Key k
-      → reply (remade s (s .turn) (s .readers) (s .cached) still) (Fetch file page) ≡ prefetchOf s
+      → reply (withFetching s still) (Fetch file page) ≡ prefetchOf s
   unfolding prefetchOf
   opened b still c e = by-key (λ t. head (fetchOrder t)) s g b k _ _ _ e (rw (c, f, p))
 

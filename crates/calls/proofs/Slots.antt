@@ -3,12 +3,11 @@ use Prim.Native.Nat.{ℕ, _+_, _≤_, _<_}
 use mathlib.Core.Path.{_≡_, ap, _∙_}
 use mathlib.Core.Bool.{Bool, true, false, not}
 use mathlib.Core.List.{List, []}
-use lib.ListN.{set}
 use lib.Dec.{eqb}
 use Rattle.bits.specs.Map.{bit, putBit}
 use Rattle.rules.specs.Lists.{within}
 use Rattle.rules.specs.Readers.{readerAt, byCondition, lastPage, nextKey, inCondition}
-use Rattle.rules.specs.Calls.{reply, refused, remade, withReader, docked, attachOf, readRunning, readOf, detachOf}
+use Rattle.rules.specs.Calls.{reply, refused, withFetching, withReader, docked, attachOf, readRunning, readOf, detachOf}
 use Rattle.rules.specs.Entries.{callOf}
 use Rattle.rules.specs.declared.State.{State}
 use Rattle.rules.specs.declared.Reader.{Reader}
@@ -75,6 +74,6 @@ pub read-fetch : (s : State) (slot : ℕ) (r w : Reader) (last k : ℕ) (hit wai
     → last ≡ lastPage (s .sizes) r → (r .position ≡ last → ⊥) → k ≡ nextKey r
     → hit ≡ eqb (bit (s .cached) k) 1 → hit ≡ false → wait ≡ eqb (bit (s .fetching) k) 1 → wait ≡ false
     → w ≡ inCondition Waiting r → still ≡ putBit (s .fetching) k 1
-    → reply (remade s (s .turn) (set (s .readers) slot w) (s .cached) still) (Fetch (r .file) (r .position + 1)) ≡ readRunning s slot r
+    → reply (withFetching (withReader s slot w) still) (Fetch (r .file) (r .position + 1)) ≡ readRunning s slot r
 unfolding readRunning
 read-fetch s slot r w last k hit wait still l n e a b c d f g = rw (f, g, e, ← l) (search keyed depth 12)

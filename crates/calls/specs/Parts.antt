@@ -2,7 +2,7 @@
 use Prim.Native.Nat.{ℕ, _<_}
 use mathlib.Core.Path.{_≡_}
 use mathlib.Core.Bool.{cond}
-use mathlib.Core.List.{List, map}
+use mathlib.Core.List.{List}
 use mathlib.Core.Logic.{_≢_}
 use mathlib.Core.Option.{Option, some}
 use lib.ListN.{getD}
@@ -11,7 +11,7 @@ use Rattle.bits.specs.Map.{bit, putBit}
 use Rattle.rules.specs.Lists.{onOption}
 use Rattle.rules.specs.Pages.{fileOf, pageOf, keyOf}
 use Rattle.rules.specs.Readers.{noReader}
-use Rattle.rules.specs.Calls.{remade, without, woken}
+use Rattle.rules.specs.Calls.{withCached, without, closed}
 use Rattle.parts.specs.Files.{noFileIn, noPageIn}
 use Rattle.rules.specs.declared.State.{State}
 use Rattle.rules.specs.declared.Answer.{Answer}
@@ -36,10 +36,6 @@ fetchRefusal sizes fetching file page =
 abbrev pub OthersStay : View → ℕ → View → Type 0
 OthersStay v slot w = (j : ℕ) → j ≢ slot → getD (w .readers) j noReader ≡ getD (v .readers) j noReader
 
--- the page leaves fetch, and every reader waiting for it runs
-abbrev pub closed : State → ℕ → State
-closed s k = remade s (s .turn) (map (woken k) (s .readers)) (s .cached) (without (s .fetching) k)
-
 -- the key of the page chosen, if any, is one of a map's
 abbrev pub InMap : Option ℕ → Type 0
 InMap gone = (k : ℕ) → gone ≡ some k → k < 8192
@@ -50,8 +46,7 @@ eased words gone = onOption gone (without words) words
 
 -- the state with page k landed, where that page made room for it
 abbrev pub landedWith : State → Option ℕ → ℕ → State
-landedWith s gone k =
-    remade s (s .turn) (map (woken k) (s .readers)) (putBit (eased (s .cached) gone) k 1) (without (s .fetching) k)
+landedWith s gone k = withCached (closed s k) (putBit (eased (s .cached) gone) k 1)
 
 -- Arrive's answer, which names that page
 abbrev pub arrivalOf : Option ℕ → Answer

@@ -25,13 +25,14 @@ ghost use Rattle.rules.specs.Calls.{
   stealOf,
   dropped,
   woken,
+  closed,
   arriveOf,
   detachOf,
   lostOf,
   prefetchOf,
 };
 ghost use Rattle.order.specs.Choices.{chosen, Housed};
-ghost use Rattle.calls.specs.Parts.{outcomeOf, refusal, fetchRefusal, OthersStay, closed, InMap, eased, landedWith, arrivalOf};
+ghost use Rattle.calls.specs.Parts.{outcomeOf, refusal, fetchRefusal, OthersStay, InMap, eased, landedWith, arrivalOf};
 
 // ---- outcomes and refusals
 
@@ -125,6 +126,7 @@ pub fn setup(frames: u64, look_ahead: u64, fetch_time: u64, sizes: [u64; 8]) -> 
 
 // ---- the calls of a slot: one record changes, and the others stay
 
+// The slot's record is looked at last: 5 is the last of the refusals.
 pub fn attach(mut v: View, slot: u64, file: u64, pace: u64) -> Outcome
     ensures { λ r. ⌜ ((c f : List ℕ) → replyOf r c f ≡ attachOf (stateOf v c f) slot file pace) ⌝ }
     ensures one_record { λ r. ⌜ OthersStay v slot (r .view) ⌝ }
@@ -183,6 +185,7 @@ fn read_running(
     outcome(v, Answer::Fetch { file, page })
 }
 
+// The maps are looked at only for a running reader; the one that waits is not moved by Read but by the end of its fetch.
 pub fn read(v: View, cached: &[u64; 128], fetching: &mut [u64; 128], slot: u64) -> Outcome
     requires { ⌜ Valid (stateOf v (now cached) (now fetching)) ⌝ }
     ensures { λ r. ⌜ replyOf r (now (cached .entry)) (now (fetching .exit)) ≡ readOf (stateOf v (now (cached .entry)) (now (fetching .entry))) slot ⌝ }
@@ -201,6 +204,7 @@ pub fn read(v: View, cached: &[u64; 128], fetching: &mut [u64; 128], slot: u64) 
     }
 }
 
+// No map is lent: a fetch that the reader waited for stays open.
 pub fn detach(mut v: View, slot: u64) -> Outcome
     ensures { λ r. ⌜ ((c f : List ℕ) → replyOf r c f ≡ detachOf (stateOf v c f) slot) ⌝ }
     ensures one_record { λ r. ⌜ OthersStay v slot (r .view) ⌝ }
@@ -264,6 +268,7 @@ fn close_fetch(mut v: View, fetching: &mut [u64; 128], key: usize) -> View
     v
 }
 
+// The cached map is not lent: a page in fetch has no frame.
 pub fn lost(v: View, fetching: &mut [u64; 128], file: u64, page: u64) -> Outcome
     requires { ⌜ getD (v .sizes) file 0 ≤ 1024 ⌝ }
     ensures { λ r. ⌜ ((c : List ℕ) → replyOf r c (now (fetching .exit)) ≡ lostOf (stateOf v c (now (fetching .entry))) file page) ⌝ }
@@ -346,6 +351,7 @@ fn give_up<'a>(v: View, cached: &'a [u64; 128], fetching: &'a [u64; 128]) -> Cho
     order::victim(v, cached, fetching)
 }
 
+// The page to give up is chosen before the one that arrives is cached, which is thus never the one to go.
 pub fn arrive(
     v: View,
     cached: &mut [u64; 128],
@@ -368,6 +374,7 @@ pub fn arrive(
 
 // ---- Steal and Prefetch: the heads of the two orders. The view stays.
 
+// The order is worked out afresh, by the maps as they are lent.
 pub fn steal(v: View, cached: &mut [u64; 128], fetching: &[u64; 128]) -> Answer
     requires { ⌜ Valid (stateOf v (now cached) (now fetching)) ⌝ }
     ensures { λ r. ⌜ reply (stateOf v (now (cached .exit)) (now (fetching .entry))) r ≡ stealOf (stateOf v (now (cached .entry)) (now (fetching .entry))) ⌝ }
@@ -385,6 +392,7 @@ pub fn steal(v: View, cached: &mut [u64; 128], fetching: &[u64; 128]) -> Answer
     }
 }
 
+// No reader waits for the page: one that comes to it before it arrives begins to wait by Read.
 pub fn prefetch(v: View, cached: &[u64; 128], fetching: &mut [u64; 128]) -> Answer
     requires { ⌜ Valid (stateOf v (now cached) (now fetching)) ⌝ }
     ensures { λ r. ⌜ reply (stateOf v (now (cached .entry)) (now (fetching .exit))) r ≡ prefetchOf (stateOf v (now (cached .entry)) (now (fetching .entry))) ⌝ }

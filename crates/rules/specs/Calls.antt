@@ -25,8 +25,9 @@ reply s a = record { state = s; answer = a }
 abbrev pub refused : State → ℕ → Reply
 refused s number = reply s (Refused number)
 
--- the state with another turn, readers and maps: every call that changes a state, but Setup and Restore, makes the new one by this
-abbrev pub remade : State → ℕ → List Reader → List ℕ → List ℕ → State
+-- a state with some parts changed: every call that changes a state, but Setup and Restore, makes the new one by the names below, one for each part, and they
+-- by this record
+abbrev remade : State → ℕ → List Reader → List ℕ → List ℕ → State
 remade s turn readers cached fetching =
     record {
       frames = s .frames;
@@ -39,13 +40,25 @@ remade s turn readers cached fetching =
       fetching = fetching;
     }
 
+abbrev pub withTurn : State → ℕ → State
+withTurn s turn = remade s turn (s .readers) (s .cached) (s .fetching)
+
+abbrev pub withReaders : State → List Reader → State
+withReaders s readers = remade s (s .turn) readers (s .cached) (s .fetching)
+
+abbrev pub withCached : State → List ℕ → State
+withCached s words = remade s (s .turn) (s .readers) words (s .fetching)
+
+abbrev pub withFetching : State → List ℕ → State
+withFetching s words = remade s (s .turn) (s .readers) (s .cached) words
+
 -- one record changed
 abbrev pub withReader : State → ℕ → Reader → State
-withReader s slot r = remade s (s .turn) (set (s .readers) slot r) (s .cached) (s .fetching)
+withReader s slot r = withReaders s (set (s .readers) slot r)
 
 -- a page put in fetch
 abbrev pub withFetch : State → ℕ → State
-withFetch s k = remade s (s .turn) (s .readers) (s .cached) (putBit (s .fetching) k 1)
+withFetch s k = withFetching s (putBit (s .fetching) k 1)
 
 -- 2: slot above 15
 abbrev pub noSlot : ℕ → Bool
@@ -128,7 +141,7 @@ without words k = putBit words k 0
 unfoldable pub stealOf : State → Reply
 stealOf s =
     onOption (victim s)
-    (λ k. reply (remade s (s .turn) (s .readers) (without (s .cached) k) (s .fetching)) (Stolen (fileOf k) (pageOf k)))
+    (λ k. reply (withCached s (without (s .cached) k)) (Stolen (fileOf k) (pageOf k)))
     (reply s Nothing)
 
 -- ---- Arrive
@@ -145,12 +158,15 @@ dropped s = cond (full s) (victim s) none
 unfoldable pub woken : ℕ → Reader → Reader
 woken k r = byCondition (r .condition) r r (cond (eqb (nextKey r) k) (inCondition Running r) r)
 
+-- the page leaves fetch, and every reader waiting for it runs
+abbrev pub closed : State → ℕ → State
+closed s k = withFetching (withReaders s (map (woken k) (s .readers))) (without (s .fetching) k)
+
 -- "Then the page leaves fetch, is cached, and every reader waiting for it runs"
 unfoldable pub landed : State → ℕ → State
 landed s k =
-    remade s (s .turn) (map (woken k) (s .readers))
+    withCached (closed s k)
     (putBit (onOption (dropped s) (without (s .cached)) (s .cached)) k 1)
-    (without (s .fetching) k)
 
 -- Arrive and Lost: 3; 8; 9: page not in fetch
 unfoldable pub forFetch : State → ℕ → ℕ → Reply → Reply
@@ -174,9 +190,7 @@ detachOf s slot =
 
 -- "the fetch is closed and its waiters run"
 unfoldable pub lostOf : State → ℕ → ℕ → Reply
-lostOf s file page =
-    forFetch s file page
-    (reply (remade s (s .turn) (map (woken (keyOf file page)) (s .readers)) (s .cached) (without (s .fetching) (keyOf file page))) Done)
+lostOf s file page = forFetch s file page (reply (closed s (keyOf file page)) Done)
 
 -- "puts the head of the fetch order in fetch, F; U if that order is empty"
 unfoldable pub prefetchOf : State → Reply

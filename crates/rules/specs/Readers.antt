@@ -40,10 +40,14 @@ nextKey r = keyOf (r .file) (r .position + 1)
 unfoldable pub awaits : State → Reader → Bool
 awaits s r = ltb (r .position) (lastPage (s .sizes) r) && inFetch s (nextKey r)
 
+-- a reader with some parts changed: Read, Arrive and Lost make their readers by the two names below, and they by this record
+abbrev rewritten : Reader → Condition → ℕ → Reader
+rewritten r condition position = record { condition = condition; file = r .file; pace = r .pace; position = position }
+
 -- the record in another condition
 abbrev pub inCondition : Condition → Reader → Reader
-inCondition c r = record { condition = c; file = r .file; pace = r .pace; position = r .position }
+inCondition c r = rewritten r c (r .position)
 
 -- the position grows by 1
 abbrev pub onward : Reader → Reader
-onward r = record { condition = r .condition; file = r .file; pace = r .pace; position = r .position + 1 }
+onward r = rewritten r (r .condition) (r .position + 1)

@@ -6,7 +6,7 @@ use lib.ListN.{length}
 use lib.Dec.{ltb, eqb}
 use Rattle.rules.specs.Pages.{keyOf, fetchingPages}
 use Rattle.rules.specs.Readers.{readerAt, attached}
-use Rattle.rules.specs.Calls.{reply, refused, remade, readOf, arriveOf}
+use Rattle.rules.specs.Calls.{reply, refused, withTurn, readOf, arriveOf}
 use Rattle.rules.specs.declared.State.{State}
 use Rattle.rules.specs.declared.Reply.{Reply}
 use Rattle.rules.specs.declared.Answer.{Answer}
@@ -52,7 +52,7 @@ pub record Turn : Type 0 where
 
 -- "then the turn grows by 1 modulo 16"
 abbrev pub nextTurn : State → State
-nextTurn s = remade s ((s .turn + 1) % 16) (s .readers) (s .cached) (s .fetching)
+nextTurn s = withTurn s ((s .turn + 1) % 16)
 
 -- a turn that ends in this reply
 abbrev pub ended : ℕ → Reply → Turn

@@ -62,6 +62,7 @@ fn turn(v: View, cached: &mut [u64; 128], fetching: &mut [u64; 128]) -> Turned
     end_turn(second.view, again, 1)
 }
 
+// The counts fit: each turn adds at most 1 to either, and there are at most 16,384. Between two turns no page is in fetch.
 pub fn run(v: View, cached: &mut [u64; 128], fetching: &mut [u64; 128], turns: u64) -> Outcome
     requires { ⌜ Valid (stateOf v (now cached) (now fetching)) ⌝ }
     ensures { λ r. ⌜ replyOf r (now (cached .exit)) (now (fetching .exit)) ≡ runOf (stateOf v (now (cached .entry)) (now (fetching .entry))) turns ⌝ }

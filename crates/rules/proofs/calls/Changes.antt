@@ -11,7 +11,7 @@ use Rattle.bits.specs.Map.{putBit, on}
 use Rattle.rules.specs.Pages.{size, cached, inFetch, Page, cachedPages}
 use Rattle.rules.specs.Readers.{noReader, readerAt, lastPage, nextKey, awaits}
 use Rattle.rules.specs.Valid.{Valid, Placed, ReaderIn, PageMap}
-use Rattle.rules.specs.Calls.{remade, withReader, withFetch, without}
+use Rattle.rules.specs.Calls.{withTurn, withReaders, withCached, withFetching, withReader, withFetch, without}
 use Rattle.rules.specs.Schedules.{num, count}
 use Rattle.rules.specs.declared.State.{State}
 use Rattle.rules.specs.declared.Reader.{Reader}
@@ -54,15 +54,19 @@ record Maps (s : State) (held fetching : List ℕ) : Type 0 where
 abbrev Waits : State → List Reader → List ℕ → Type 0
 Waits s readers fetching = (j : ℕ) → getD readers j noReader .condition ≡ Waiting → T (inFetch s (nextKey (getD readers j noReader))) → T (on fetching (nextKey (getD readers j noReader)))
 
+-- a state with all four parts changed
+abbrev allChanged : State → ℕ → List Reader → List ℕ → List ℕ → State
+allChanged s turn readers held fetching = withFetching (withCached (withReaders (withTurn s turn) readers) held) fetching
+
 module _ (s : State) (turn : ℕ) (readers : List Reader) (held fetching : List ℕ) where
-  page-in : (k : ℕ) → Page s k → Page (remade s turn readers held fetching) k
+  page-in : (k : ℕ) → Page s k → Page (allChanged s turn readers held fetching) k
   page-in k p = record { low = p .low; there = p .there }
 
   -- a placed reader stays placed
-  pub placed-in : (r : Reader) → Placed s r → Placed (remade s turn readers held fetching) r
+  pub placed-in : (r : Reader) → Placed s r → Placed (allChanged s turn readers held fetching) r
   placed-in r p = record { file-high = p .file-high; file-there = p .file-there; pace-low = p .pace-low; pace-high = p .pace-high; position-in = p .position-in }
 
-  reader-in : (c : Condition) (r : Reader) → (c ≡ Waiting → T (inFetch s (nextKey r)) → T (on fetching (nextKey r))) → ReaderIn c s r → ReaderIn c (remade s turn readers held fetching) r
+  reader-in : (c : Condition) (r : Reader) → (c ≡ Waiting → T (inFetch s (nextKey r)) → T (on fetching (nextKey r))) → ReaderIn c s r → ReaderIn c (allChanged s turn readers held fetching) r
   unfolding awaits
   reader-in Empty r w h = h
   reader-in Running r w h = placed-in r h
@@ -71,9 +75,9 @@ module _ (s : State) (turn : ℕ) (readers : List Reader) (held fetching : List 
       (placed-in r (h .0), and-both short _ (and-first short _ (h .1)) (w refl (and-second short _ (h .1))))
 
   -- turn, readers and maps that fit make a valid state
-  remade-valid : Valid s → Seats s turn readers → Maps s held fetching → Waits s readers fetching → Valid (remade s turn readers held fetching)
-  remade-valid v a m w =
-      let inside : (k : ℕ) → T (on held k) → Page (remade s turn readers held fetching) k = λ k h. page-in k (m .held-in .inside k h) in
+  all-changed : Valid s → Seats s turn readers → Maps s held fetching → Waits s readers fetching → Valid (allChanged s turn readers held fetching)
+  all-changed v a m w =
+      let inside : (k : ℕ) → T (on held k) → Page (allChanged s turn readers held fetching) k = λ k h. page-in k (m .held-in .inside k h) in
       record {
         eight = v .eight;
         sizes-high = v .sizes-high;
@@ -90,7 +94,7 @@ module _ (s : State) (turn : ℕ) (readers : List Reader) (held fetching : List 
         cached-in = inside;
         fetching-in = λ k h. page-in k (m .fetching-in .inside k h);
         apart = m .apart;
-        room = rw (cached-count (remade s turn readers held fetching) (v .sizes-high) inside) (m .room);
+        room = rw (cached-count (allChanged s turn readers held fetching) (v .sizes-high) inside) (m .room);
       }
 
 module _ (s : State) (v : Valid s) where
@@ -131,17 +135,17 @@ module _ (s : State) (v : Valid s) where
       key k j (λ b. T (b || on words j) → ⊥) (λ e _. absent (subst (λ i. T (on others i)) (sym e) o)) (λ _ q. apart j q o) (subst T (on-put words (m .fits) k (p .low) j) h)
 
   -- other maps
-  maps-changed : (held fetching : List ℕ) → Maps s held fetching → Waits s (s .readers) fetching → Valid (remade s (s .turn) (s .readers) held fetching)
-  maps-changed held fetching = remade-valid s (s .turn) (s .readers) held fetching v (record { low = v .turn-high; all = v .sixteen; each-in = v .readers-in })
+  maps-changed : (held fetching : List ℕ) → Maps s held fetching → Waits s (s .readers) fetching → Valid (withFetching (withCached s held) fetching)
+  maps-changed held fetching = all-changed s (s .turn) (s .readers) held fetching v (record { low = v .turn-high; all = v .sixteen; each-in = v .readers-in })
 
   -- the turn moves on
-  pub turn-moved : (turn : ℕ) → turn < 16 → Valid (remade s turn (s .readers) (s .cached) (s .fetching))
-  turn-moved turn h = remade-valid s turn (s .readers) (s .cached) (s .fetching) v (record { low = h; all = v .sixteen; each-in = v .readers-in }) same-maps (λ j _ q. q)
+  pub turn-moved : (turn : ℕ) → turn < 16 → Valid (withTurn s turn)
+  turn-moved turn h = all-changed s turn (s .readers) (s .cached) (s .fetching) v (record { low = h; all = v .sixteen; each-in = v .readers-in }) same-maps (λ j _ q. q)
 
   -- other readers
   pub readers-changed : (readers : List Reader) → length readers ≡ 16 → ((j : ℕ) → ReaderIn (getD readers j noReader .condition) s (getD readers j noReader))
-      → Valid (remade s (s .turn) readers (s .cached) (s .fetching))
-  readers-changed readers n h = remade-valid s (s .turn) readers (s .cached) (s .fetching) v (record { low = v .turn-high; all = n; each-in = h }) same-maps (λ j _ q. q)
+      → Valid (withReaders s readers)
+  readers-changed readers n h = all-changed s (s .turn) readers (s .cached) (s .fetching) v (record { low = v .turn-high; all = n; each-in = h }) same-maps (λ j _ q. q)
 
   -- a page put in fetch
   pub fetch-opened : (k : ℕ) → Page s k → (T (cached s k) → ⊥) → Valid (withFetch s k)
@@ -156,7 +160,7 @@ module _ (s : State) (v : Valid s) where
       }
 
   -- a fetch closed for which no reader waits
-  pub fetch-closed : (k : ℕ) → Page s k → ((j : ℕ) → readerAt s j .condition ≡ Waiting → nextKey (readerAt s j) ≢ k) → Valid (remade s (s .turn) (s .readers) (s .cached) (without (s .fetching) k))
+  pub fetch-closed : (k : ℕ) → Page s k → ((j : ℕ) → readerAt s j .condition ≡ Waiting → nextKey (readerAt s j) ≢ k) → Valid (withFetching s (without (s .fetching) k))
   fetch-closed k p none = maps-changed (s .cached) (without (s .fetching) k) maps waits
     where
       maps : Maps s (s .cached) (without (s .fetching) k)
@@ -180,7 +184,7 @@ module _ (s : State) (v : Valid s) where
       (λ j. rw (off-put (s .cached) (v .cached-map) k (p .low)) (key k j (λ b. num (b || (not b && cached s j)) ≡ num (cached s j)) (λ e. sym (num-in (cached s j) (subst (λ i. T (cached s i)) e c))) (λ _. refl)))
 
   -- a page dropped
-  pub page-dropped : (k : ℕ) → T (cached s k) → Valid (remade s (s .turn) (s .readers) (without (s .cached) k) (s .fetching))
+  pub page-dropped : (k : ℕ) → T (cached s k) → Valid (withCached s (without (s .cached) k))
   page-dropped k c = maps-changed (without (s .cached) k) (s .fetching) maps (λ j _ q. q)
     where
       p : Page s k
@@ -196,7 +200,7 @@ module _ (s : State) (v : Valid s) where
 
   -- a page cached where a frame is free
   pub page-cached : (k : ℕ) → Page s k → T (not (cached s k)) → (T (inFetch s k) → ⊥) → count 8192 (cached s) < s .frames
-      → Valid (remade s (s .turn) (s .readers) (putBit (s .cached) k 1) (s .fetching))
+      → Valid (withCached s (putBit (s .cached) k 1))
   page-cached k p absent closed free = maps-changed (putBit (s .cached) k 1) (s .fetching) maps (λ j _ q. q)
     where
       more : count 8192 (on (putBit (s .cached) k 1)) ≡ count 8192 (cached s) + 1

@@ -14,7 +14,7 @@ use Rattle.rules.specs.Pages.{cached, inFetch, Page, cachedPages}
 use Rattle.rules.specs.Readers.{noReader, readerAt, byCondition, nextKey, inCondition}
 use Rattle.rules.specs.Valid.{Valid, Placed, ReaderIn}
 use Rattle.rules.specs.Orders.{victim}
-use Rattle.rules.specs.Calls.{remade, without, full, dropped, woken, landed}
+use Rattle.rules.specs.Calls.{withReaders, withCached, without, full, dropped, woken, closed, landed}
 use Rattle.rules.specs.Schedules.{count}
 use Rattle.rules.specs.declared.State.{State}
 use Rattle.rules.specs.declared.Reader.{Reader}
@@ -66,10 +66,10 @@ module _ (s : State) (v : Valid s) (k : ℕ) where
   woken-at j = List·getD-map (woken k) (s .readers) j noReader
 
   -- the fetch is closed and its waiters run
-  pub waiters-woken : T (inFetch s k) → Valid (remade s (s .turn) (map (woken k) (s .readers)) (s .cached) (without (s .fetching) k))
+  pub waiters-woken : T (inFetch s k) → Valid (closed s k)
   waiters-woken f =
       let w = readers-changed s v (map (woken k) (s .readers)) (length-map (s .readers) (woken k) ∙ v .sixteen) (λ j. rw (woken-at j) (woken-in s k (readerAt s j) (v .readers-in j))) in
-      fetch-closed (remade s (s .turn) (map (woken k) (s .readers)) (s .cached) (s .fetching)) w k (w .fetching-in k f) (λ j. rw (woken-at j) (woken-waits k (readerAt s j)))
+      fetch-closed (withReaders s (map (woken k) (s .readers))) w k (w .fetching-in k f) (λ j. rw (woken-at j) (woken-waits k (readerAt s j)))
 
 -- ---- the page that goes
 
@@ -110,18 +110,15 @@ module _ (s : State) (v : Valid s) where
   -- a page of a fetch lands, and its waiters run
   pub landed-valid : (k : ℕ) → T (inFetch s k) → Valid (landed s k)
   unfolding landed eased
-  landed-valid k f = page-cached after kept k page absent closed eased-room
+  landed-valid k f = page-cached after kept k page absent gone eased-room
     where
-      closing : State
-      closing = remade s (s .turn) (map (woken k) (s .readers)) (s .cached) (without (s .fetching) k)
-
       after : State
-      after = remade s (s .turn) (map (woken k) (s .readers)) eased (without (s .fetching) k)
+      after = withCached (closed s k) eased
 
       kept : Valid after
       kept = let w = waiters-woken s v k f in
-          option-all (λ words. Valid (remade s (s .turn) (map (woken k) (s .readers)) words (without (s .fetching) k))) (dropped s) (without (s .cached)) (s .cached)
-          (λ d e. page-dropped closing w d (dropped-some d e)) (λ _. w)
+          option-all (λ words. Valid (withCached (closed s k) words)) (dropped s) (without (s .cached)) (s .cached)
+          (λ d e. page-dropped (closed s k) w d (dropped-some d e)) (λ _. w)
 
       page : Page after k
       page = let p = v .fetching-in k f in record { low = p .low; there = p .there }
@@ -129,5 +126,5 @@ module _ (s : State) (v : Valid s) where
       absent : T (not (cached after k))
       absent = not-T (cached after k) (λ c. v .apart k (eased-on k c) f)
 
-      closed : T (inFetch after k) → ⊥
-      closed = put-off (s .fetching) (v .fetching-map) k (v .fetching-in k f .low)
+      gone : T (inFetch after k) → ⊥
+      gone = put-off (s .fetching) (v .fetching-map) k (v .fetching-in k f .low)

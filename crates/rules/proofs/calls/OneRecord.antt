@@ -6,7 +6,7 @@ use mathlib.Core.Logic.{_≢_}
 use lib.ListN.{set}
 use lib.Seq.{getD-set-other}
 use Rattle.rules.specs.Readers.{noReader, readerAt}
-use Rattle.rules.specs.Calls.{remade, attachOf, readRunning, readOf, detachOf}
+use Rattle.rules.specs.Calls.{withReader, withFetching, attachOf, readRunning, readOf, detachOf}
 use Rattle.rules.specs.Entries.{Call, attach, read, detach, callOf}
 use Rattle.rules.specs.declared.State.{State}
 use Rattle.rules.specs.declared.Reader.{Reader}
@@ -38,7 +38,7 @@ pub record ButSlot (s : State) (slot : ℕ) (t : State) : Type 0 where
 same-state : (s : State) (slot : ℕ) → ButSlot s slot s
 same-state s slot = record { others = λ j _. refl; frames = refl; turn = refl; look-ahead = refl; fetch-time = refl; sizes = refl; cached = refl }
 
-record-set : (s : State) (slot : ℕ) (r : Reader) (fetching : List ℕ) → ButSlot s slot (remade s (s .turn) (set (s .readers) slot r) (s .cached) fetching)
+record-set : (s : State) (slot : ℕ) (r : Reader) (fetching : List ℕ) → ButSlot s slot (withFetching (withReader s slot r) fetching)
 record-set s slot r fetching = record { others = λ j ne. getD-set-other (s .readers) slot j r noReader ne; frames = refl; turn = refl; look-ahead = refl; fetch-time = refl; sizes = refl; cached = refl }
 
 -- so is the reply's state

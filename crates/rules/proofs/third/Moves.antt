@@ -13,8 +13,8 @@ use Rattle.rules.specs.Lists.{only}
 use Rattle.rules.specs.Pages.{inFetch, pages, fetchingPages}
 use Rattle.rules.specs.Readers.{noReader, readerAt, attached, lastPage, nextKey, onward}
 use Rattle.rules.specs.Valid.{Valid}
-use Rattle.rules.specs.Calls.{remade}
-use Rattle.rules.specs.Run.{fetchOpen}
+use Rattle.rules.specs.Calls.{withReaders, withCached, withFetching}
+use Rattle.rules.specs.Run.{fetchOpen, nextTurn}
 use Rattle.rules.specs.Third.{Covers, Premises, goes, movedOn}
 use Rattle.rules.proofs.laws.Tests.{less, key}
 use Rattle.rules.proofs.calls.Valids.{placed-at}
@@ -37,7 +37,7 @@ keyNow s = nextKey (readerAt s (s .turn))
 
 -- the state after a turn that leaves these maps: the turn's reader has moved on, if it goes
 abbrev pub left : State → List ℕ → List ℕ → State
-left s held fetching = remade s ((s .turn + 1) % 16) (movedOn (s .sizes) (s .readers) (s .turn)) held fetching
+left s held fetching = withFetching (withCached (withReaders (nextTurn s) (movedOn (s .sizes) (s .readers) (s .turn))) held) fetching
 
 -- a reader that is in its file goes on where it is not yet at the last page
 goes-below : (sizes : List ℕ) (r : Reader) → (T (attached r) → r .position ≤ lastPage sizes r) → goes sizes r ≡ (attached r && ltb (r .position) (lastPage sizes r))

@@ -16,7 +16,7 @@ use Rattle.rules.specs.Pages.{size, cached, inFetch, Page, pages, cached
 use Rattle.rules.specs.Readers.{noReader, readerAt, attached, byCondition, lastPage, nextKey, awaits, inCondition, onward}
 use Rattle.rules.specs.Valid.{Valid, Placed, ReaderIn, PageMap}
 use Rattle.rules.specs.Orders.{victim}
-use Rattle.rules.specs.Calls.{reply, remade, without, withReader, withFetch, readRunning, readOf, full, dropped, woken, landed, forFetch, arriveOf}
+use Rattle.rules.specs.Calls.{reply, without, withReaders, withCached, withFetching, withReader, withFetch, readRunning, readOf, full, dropped, woken, landed, forFetch, arriveOf}
 use Rattle.rules.specs.Run.{Turn, fetchOpen, onFetch, nextTurn, ended, readTurn, turnOf}
 use Rattle.rules.specs.Schedules.{Set, count}
 use Rattle.rules.specs.Third.{goes}
@@ -142,7 +142,7 @@ goes-not sizes r a h = go (attached r) (atEnd sizes r) a h
 
 -- a turn that leaves these readers and maps
 abbrev turned : State → List Reader → List ℕ → List ℕ → ℕ → List ℕ → Turn
-turned s readers held fs fetched hits = record { after = remade s ((s .turn + 1) % 16) readers held fs; fetched = fetched; hit = hits }
+turned s readers held fs fetched hits = record { after = withFetching (withCached (withReaders (nextTurn s) readers) held) fs; fetched = fetched; hit = hits }
 
 module _ (s : State) (v : Valid s) (closed : (k : ℕ) → T (inFetch s k) → ⊥) where
   awake : (j : ℕ) → T (attached (readerAt s j)) → readerAt s j .condition ≡ Running
@@ -219,9 +219,9 @@ module _ (s : State) (v : Valid s) (closed : (k : ℕ) → T (inFetch s k) → �
       unfolding dropped full victim cachedPages pages
       dropped-same = ap (λ l. cond (full s) (head l) none) (steal-same s v (s .turn) (v .turn-high) here (putBit (s .fetching) (keyNow s) 1) (rw asked at (read-kept s (s .turn) v)))
 
-      landed-at : landed (awaiting s (s .turn)) (keyNow s) ≡ remade s (s .turn) (s .readers) (stored (dropped s)) emptied
+      landed-at : landed (awaiting s (s .turn)) (keyNow s) ≡ withFetching (withCached s (stored (dropped s))) emptied
       unfolding landed
-      landed-at = ap₂ (λ rs o. remade s (s .turn) rs (stored o) emptied) woken-paused dropped-same
+      landed-at = ap₂ (λ rs o. withFetching (withCached (withReaders s rs) (stored o)) emptied) woken-paused dropped-same
 
       arrived : arriveOf (awaiting s (s .turn)) (nowAt s .file) (nowAt s .position + 1) .state ≡ landed (awaiting s (s .turn)) (keyNow s)
       unfolding arriveOf forFetch
@@ -235,11 +235,11 @@ module _ (s : State) (v : Valid s) (closed : (k : ℕ) → T (inFetch s k) → �
       -- the second Read finds the page
       fetch-turn : turnOf s ≡ turned s (set (s .readers) (s .turn) (onward (nowAt s))) (stored (dropped s)) emptied 1 (keyNow s ∷ [])
       fetch-turn =
-          let there : cached (remade s (s .turn) (s .readers) (stored (dropped s)) emptied) (keyNow s) ≡ true =
+          let there : cached (withFetching (withCached s (stored (dropped s))) emptied) (keyNow s) ≡ true =
           is-true (on (stored (dropped s)) (keyNow s)) (put-on (onOption (dropped s) (without (s .cached)) (s .cached)) eased-map (keyNow s) low) in
           turn-by s _ here asked
           ∙ ap (λ t. ended 1 (readOf t (s .turn))) (arrived ∙ landed-at)
-          ∙ ap (ended 1) (read-hit (remade s (s .turn) (s .readers) (stored (dropped s)) emptied) (s .turn) (v .turn-high) (awake (s .turn) here) short there)
+          ∙ ap (ended 1) (read-hit (withFetching (withCached s (stored (dropped s))) emptied) (s .turn) (v .turn-high) (awake (s .turn) here) short there)
 
       -- the pages in fetch are as before
       emptied-same : on emptied ≡ inFetch s

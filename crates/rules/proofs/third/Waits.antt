@@ -10,7 +10,7 @@ use lib.Dec.{T}
 use Rattle.rules.specs.Readers.{noReader, readerAt, attached, inCondition}
 use Rattle.rules.specs.Valid.{Valid}
 use Rattle.rules.specs.Orders.{stealOrder}
-use Rattle.rules.specs.Calls.{remade}
+use Rattle.rules.specs.Calls.{withReaders, withFetching}
 use Rattle.rules.proofs.laws.Tests.{key, is-true}
 use Rattle.rules.proofs.orders.Local.{AlikeReader, alike-same, steal-local}
 use Rattle.rules.specs.declared.State.{State}
@@ -27,8 +27,8 @@ module _ (s : State) (v : Valid s) (u : ℕ) (l : u < 16) (here : T (attached (r
       (λ e. rw (← e, getD-set-same (s .readers) u _ noReader (omega arith)) (record { attached-same = sym (is-true _ here); file-same = refl; pace-same = refl; position-same = refl }))
       (λ ne. alike-same (getD-set-other (s .readers) u j _ noReader (λ e. ne (sym e))))
 
-  -- the steal order once reader u waits, whatever is in fetch and whatever T: q does not look at the fetch map (present-same, in Local.antt). Where it does, this
-  -- needs T = 0, which the third statement has.
-  pub steal-same : (fetching : List ℕ) → Valid (remade s (s .turn) (paused s u) (s .cached) fetching) → stealOrder (remade s (s .turn) (paused s u) (s .cached) fetching) ≡ stealOrder s
-  steal-same fetching w = steal-local (remade s (s .turn) (paused s u) (s .cached) fetching) s w v
+  -- the steal order once reader u waits, whatever is in fetch and whatever T: q does not look at the fetch map (present-same, in Local.antt). Where it does,
+  -- this needs T = 0, which the third statement has.
+  pub steal-same : (fetching : List ℕ) → Valid (withFetching (withReaders s (paused s u)) fetching) → stealOrder (withFetching (withReaders s (paused s u)) fetching) ≡ stealOrder s
+  steal-same fetching w = steal-local (withFetching (withReaders s (paused s u)) fetching) s w v
       (λ f. record { turn-same = refl; look-same = refl; time-same = refl; size-same = refl; readers-same = λ j. inl (paused-alike j); bits-same = λ k _. refl })
