@@ -305,7 +305,8 @@ fn land(
 ) -> View
     requires { ⌜ key < 8192 ⌝ }
     requires { ⌜ InMap (chosen gone) ⌝ }
-    ensures { λ r. ⌜ stateOf r (now (cached .exit)) (now (fetching .exit)) ≡ landedWith (stateOf v (now (cached .entry)) (now (fetching .entry))) (chosen gone) key ⌝ }
+    ensures { λ r.
+        ⌜ stateOf r (now (cached .exit)) (now (fetching .exit)) ≡ landedWith (stateOf v (now (cached .entry)) (now (fetching .entry))) (chosen gone) key ⌝ }
 {
     make_room(cached, gone);
     bits::set_bit(cached, key);
