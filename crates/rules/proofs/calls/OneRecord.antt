@@ -3,7 +3,6 @@ use Prim.Native.Nat.{ℕ}
 use mathlib.Core.Path.{_≡_, refl}
 use mathlib.Core.List.{List}
 use mathlib.Core.Logic.{_≢_}
-use lib.ListN.{set}
 use lib.Seq.{getD-set-other}
 use Rattle.rules.specs.Readers.{noReader, readerAt}
 use Rattle.rules.specs.Calls.{withReader, withFetching, attachOf, readRunning, readOf, detachOf}
