@@ -1,3 +1,4 @@
+-- What the functions of the map rest on: words and digits, bits put, ones counted, bits found, maps joined.
 pub mod Words
 pub mod Bits
 pub mod Counts

@@ -1,3 +1,4 @@
+-- What the calls rest on: ranges, frames, walks over slots, refusals, outcomes and choices.
 pub mod Outcomes
 pub mod Walks
 pub mod Ranges

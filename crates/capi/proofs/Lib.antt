@@ -1,2 +1,3 @@
+-- What every entry shares.
 pub mod Outcomes
 pub mod Entering

@@ -1,1 +1,2 @@
+-- What the program rests on.
 pub mod Pumping

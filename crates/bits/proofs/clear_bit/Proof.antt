@@ -1,3 +1,4 @@
+-- The word with its digit taken out is the map with the bit put to 0.
 use borrow.Author.Needs.{needs}
 use Rattle.bits.proofs.Bits.{xor-is}
 use Rattle.bits.proofs.clear_bit.Statement.{statement}

@@ -1,3 +1,4 @@
+-- The keys lie in one word, or in a first part, whole words and a last part, counted one after the other.
 use Prim.Native.Nat.{_-_, _<_, _%_}
 use native.Mathlib.Omega.{arith}
 use Rattle.bits.proofs.Counts.{ones-le, ones-parts}

@@ -1,3 +1,4 @@
+-- The ones of a part of one word.
 use mathlib.Core.Path.{_∙_, sym}
 use Prim.Native.Nat.{_/_, _%_}
 use mathlib.Core.List.{[], _∷_}

@@ -1,3 +1,4 @@
+-- Invariant: the ones of the whole words passed are counted. Measure: the words that are left.
 use mathlib.Core.Path.{_≡_, sym}
 use Prim.Native.Nat.{_-_, _*_, _≤_}
 use mathlib.Core.List.{[], _∷_}

@@ -1,3 +1,4 @@
+-- The digit of the word is the bit of the map.
 use mathlib.Core.Path.{ap}
 use Prim.Native.Nat.{ℕ}
 use lib.Dec.{eqb}

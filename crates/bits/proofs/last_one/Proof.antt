@@ -1,3 +1,4 @@
+-- The last set digit below a place, by the zeros above it.
 use Prim.Native.Nat.{_-_, _*_, _%_, _^_}
 use native.Mathlib.Omega.{arith}
 use lib.Count.{leading-le}

@@ -1,3 +1,4 @@
+-- The last set bit of a part of one word.
 use mathlib.Core.Path.{sym, _∙_}
 use mathlib.Core.List.{[], _∷_}
 use Prim.Native.Nat.{_*_, _/_, _%_}

@@ -1,3 +1,4 @@
+-- The part of the last word, else the whole words down to the one of the first key; a bit before the first key is none.
 use mathlib.Core.Path.{_≡_}
 use mathlib.Core.Logic.{⊎-elim}
 use Prim.Native.Nat.{_+_, _-_, _*_, _/_, _%_, _≤_, _<_}

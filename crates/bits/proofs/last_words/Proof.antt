@@ -1,3 +1,4 @@
+-- Invariant: no bit is set behind the place reached, and the bit there is set if one was found. Measure: the word reached.
 use mathlib.Core.Path.{_≡_}
 use mathlib.Core.Logic.{⊎-elim}
 use Prim.Native.Nat.{_+_, _-_, _*_, _≤_, _<_}

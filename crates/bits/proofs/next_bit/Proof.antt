@@ -1,3 +1,4 @@
+-- Invariant: no bit with the value lies between the start and the place reached. Measure: the keys that are left.
 use mathlib.Core.Logic.{⊎-elim}
 use Prim.Native.Nat.{_+_, _-_, _*_, _/_, _%_, _≤_}
 use native.Mathlib.Omega.{arith}

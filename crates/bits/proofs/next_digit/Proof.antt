@@ -1,3 +1,4 @@
+-- The next 0 of a word is the next 1 of its complement.
 use mathlib.Core.Path.{_≡_, _∙_}
 use native.Mathlib.Omega.{arith}
 use Rattle.bits.proofs.Finds.{next-not}

@@ -1,3 +1,4 @@
+-- The next set digit of a word, by the zeros below it.
 use Prim.Native.Nat.{_/_, _^_}
 use native.Mathlib.Omega.{arith}
 use lib.Count.{trailing-le}

@@ -1,3 +1,4 @@
+-- Of a word, the digits from one to another: shifted out below and above, the ones that stay are theirs.
 use mathlib.Core.Path.{_∙_}
 use Rattle.bits.proofs.Counts.{ones-shl}
 use borrow.Author.Needs.{needs}

@@ -1,3 +1,4 @@
+-- The word with its digit put in is the map with the bit put to 1.
 use borrow.Author.Needs.{needs}
 use Rattle.bits.proofs.Bits.{or-is}
 use Rattle.bits.proofs.set_bit.Statement.{statement}

@@ -1,3 +1,4 @@
+-- The ones of a word are its set digits.
 use Rattle.bits.proofs.Counts.{ones-word}
 use Rattle.bits.proofs.word_ones.Statement.{statement}
 use Rattle.bits.proofs.word_ones.Tie as tie

@@ -1,3 +1,4 @@
+-- By whether a page gave up its frame.
 use borrow.Author.Needs.{needs}
 use Rattle.calls.proofs.Choices.{is-key}
 use Rattle.calls.proofs.arrival.Statement.{statement}

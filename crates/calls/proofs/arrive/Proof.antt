@@ -1,3 +1,4 @@
+-- A refusal of the page, or the page to give up chosen and then the arrival, as the rule has them.
 use borrow.Author.Needs.{needs}
 use Rattle.rules.specs.Calls.{arriveOf}
 use Rattle.calls.proofs.Choices.{dropped-low, arrived}

@@ -1,3 +1,4 @@
+-- The rule's tests one after the other, and last the slot's condition.
 use borrow.Author.Needs.{needs}
 use Rattle.parts.proofs.Files.{file-fits}
 use Rattle.calls.proofs.Ranges.{within-fits}

@@ -1,3 +1,4 @@
+-- The bit is cleared and the readers are woken: the fetch is closed.
 use borrow.Author.Needs.{needs}
 use Rattle.calls.proofs.close_fetch.Statement.{statement}
 use Rattle.calls.proofs.close_fetch.Tie as tie

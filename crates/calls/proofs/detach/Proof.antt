@@ -1,3 +1,4 @@
+-- The slot, and then its condition, as the rule has them.
 use borrow.Author.Needs.{needs}
 use Rattle.rules.specs.Calls.{detachOf}
 use Rattle.calls.proofs.Slots.{detach-stays}

@@ -1,3 +1,4 @@
+-- File, page and fetch are tested one after the other, up to the first that fails.
 use borrow.Author.Needs.{needs}
 use Rattle.calls.specs.Parts.{fetchRefusal}
 use Rattle.calls.proofs.Outcomes.{keyed}

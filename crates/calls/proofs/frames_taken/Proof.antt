@@ -1,3 +1,4 @@
+-- Invariant: the cached pages of the files passed are counted. Measure: the files that are left.
 use Prim.Native.Nat.{_*_, _-_, _≤_}
 use mathlib.Core.Path.{_≡_, sym, ap, _∙_}
 use native.Mathlib.Omega.{arith}

@@ -1,3 +1,4 @@
+-- A frame is free, or the head of the steal order goes.
 use borrow.Author.Needs.{needs}
 use Rattle.order.proofs.Ranges.{valid-housed}
 use Rattle.calls.proofs.Frames.{free-none, taken-victim}

@@ -1,3 +1,4 @@
+-- Room is made, the page is cached, its fetch is closed: the state of the rule.
 use borrow.Author.Needs.{needs}
 use Rattle.calls.proofs.land.Statement.{statement}
 use Rattle.calls.proofs.land.Tie as tie

@@ -1,3 +1,4 @@
+-- A refusal of the page, or its fetch closed.
 use borrow.Author.Needs.{needs}
 use Rattle.rules.specs.Calls.{lostOf}
 use Rattle.calls.proofs.Refusing.{refuses, does, fetched-small, fetched-low}

@@ -1,3 +1,4 @@
+-- By whether a page was chosen.
 use borrow.Author.Needs.{needs}
 use Rattle.calls.proofs.Choices.{chosen-key, is-key}
 use Rattle.calls.proofs.make_room.Statement.{statement}

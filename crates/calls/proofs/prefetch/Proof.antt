@@ -1,3 +1,4 @@
+-- By whether the fetch order has a head.
 use borrow.Author.Needs.{needs}
 use Rattle.rules.specs.Views.{stateOf}
 use Rattle.rules.specs.Orders.{fetchOrder}

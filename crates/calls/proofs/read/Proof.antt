@@ -1,3 +1,4 @@
+-- The slot, and then its condition, as the rule has them.
 use borrow.Author.Needs.{needs}
 use Rattle.rules.specs.Calls.{readOf}
 use Rattle.rules.proofs.calls.Kept.{running-placed}

@@ -1,3 +1,4 @@
+-- The settings are tested one after the other, up to the first that fails.
 use borrow.Author.Needs.{needs}
 use Rattle.rules.specs.Calls.{settingsIn}
 use Rattle.parts.proofs.Tests.{tests}

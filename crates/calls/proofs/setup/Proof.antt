@@ -1,3 +1,4 @@
+-- The settings are in range and stored, or the idle state comes back.
 use mathlib.Core.Path.{sym, _∙_}
 use native.Mathlib.Omega.{arith}
 use borrow.Author.Needs.{needs}

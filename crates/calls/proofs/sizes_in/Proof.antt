@@ -1,3 +1,4 @@
+-- Invariant: the sizes passed are in range, so all are if the others are. Measure: the sizes that are left.
 use Prim.Native.Nat.{_≤_, _-_}
 use mathlib.Core.Path.{_≡_}
 use borrow.Author.Needs.{needs}

@@ -1,3 +1,4 @@
+-- Invariant: the sizes passed are stored. Measure: the sizes that are left.
 use Prim.Native.Nat.{_≤_, _-_}
 use mathlib.Core.Path.{_≡_}
 use native.Mathlib.Omega.{arith}

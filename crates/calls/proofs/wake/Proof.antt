@@ -1,3 +1,4 @@
+-- Invariant: the readers passed are woken, the others as they were. Measure: the slots that are left.
 use Prim.Native.Nat.{_≤_, _-_}
 use mathlib.Core.Path.{_≡_}
 use borrow.Author.Needs.{needs}

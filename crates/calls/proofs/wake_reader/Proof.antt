@@ -1,3 +1,4 @@
+-- By the reader's condition, and for a waiting one by the key of its next page.
 use borrow.Author.Needs.{needs}
 use Rattle.rules.specs.Calls.{woken}
 use Rattle.calls.proofs.Outcomes.{keyed}

@@ -1,3 +1,4 @@
+-- By the answer: all but a refusal are carried out.
 use borrow.Author.Needs.{needs}
 use Rattle.capi.proofs.Outcomes.{not-refused}
 use Rattle.capi.proofs.carried_out.Statement.{statement}

@@ -1,3 +1,4 @@
+-- A refusal leaves the buffer; any other answer leaves the image of the state after it.
 use borrow.Author.Needs.{needs}
 use Rattle.capi.proofs.Entering.{end-refused, end-saved}
 use Rattle.capi.proofs.finish.Statement.{statement}

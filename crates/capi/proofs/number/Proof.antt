@@ -1,3 +1,4 @@
+-- By the answer, 01's number for each.
 use borrow.Author.Needs.{needs}
 use Rattle.rules.specs.Entries.{code}
 use Rattle.capi.proofs.number.Statement.{statement}

@@ -1,3 +1,4 @@
+-- Restore refuses the image, or Attach is done on its state and `finish` ends the entry.
 use borrow.Author.Needs.{needs}
 use Rattle.rules.specs.Entries.{attach}
 use Rattle.capi.proofs.Entering.{entry-unrestored, entry-ready, entry-restored}

@@ -1,3 +1,4 @@
+-- By whether there is a reader.
 use mathlib.Core.Path.{sym, _∙_}
 use borrow.Author.Needs.{needs}
 use Rattle.order.proofs.behind.Statement.{statement}

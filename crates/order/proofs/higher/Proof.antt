@@ -1,3 +1,4 @@
+-- There is no such page, its rank is higher, or the best stays.
 use mathlib.Core.Path.{sym, subst}
 use mathlib.Core.List.{List, []}
 use Prim.Native.Nat.{ℕ, _+_, _-_, _*_, _≤_}

@@ -1,3 +1,4 @@
+-- Invariant: no page between the start and the place reached is in neither map. Measure: the keys that are left.
 use mathlib.Core.Path.{sym, _∙_}
 use mathlib.Core.Logic.{⊎-elim}
 use Prim.Native.Nat.{_+_, _-_, _*_, _/_, _%_, _≤_}

@@ -1,3 +1,4 @@
+-- The first digit clear in both words, by the zeros below it in the complement of both.
 use Prim.Native.Nat.{_-_, _/_, _^_}
 use native.Mathlib.Omega.{arith}
 use lib.Bits.{bitOr}

@@ -1,3 +1,4 @@
+-- Invariant: of the slots passed, no first absent page is used sooner than the best (`Soonest`). Measure: the slots that are left.
 use mathlib.Core.Path.{_≡_, sym}
 use Prim.Native.Nat.{_-_, _≤_}
 use native.Mathlib.Omega.{arith}

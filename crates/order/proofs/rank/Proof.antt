@@ -1,3 +1,4 @@
+-- A rank with no floor to stop at.
 use borrow.Author.Needs.{needs}
 use Rattle.rules.specs.Views.{stateOf}
 use Rattle.order.proofs.Sweeps.{over-none}

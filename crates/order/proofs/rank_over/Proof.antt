@@ -1,3 +1,4 @@
+-- Invariant: the number kept is the page's rank as far as the readers passed tell. Measure: the seat reached, down the file's chain.
 use mathlib.Core.Path.{_≡_, refl, ap, subst, _∙_}
 use mathlib.Core.List.{List, []}
 use mathlib.Core.Logic.{⊎-elim}

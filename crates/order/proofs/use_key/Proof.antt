@@ -1,3 +1,4 @@
+-- A rank, or NEVER where that is less.
 use mathlib.Core.Path.{ap, _∙_}
 use Prim.Native.Nat.{min}
 use borrow.Author.Needs.{needs}

@@ -1,3 +1,4 @@
+-- Invariant: of the candidates passed none has a higher rank than the best (`Highest`). Measure: the candidates that are left.
 use mathlib.Core.Path.{_≡_, sym, _∙_}
 use mathlib.Core.Bool.{cond}
 use mathlib.Core.List.{List}

@@ -1,3 +1,4 @@
+-- The turn grows by 1 modulo 16.
 use borrow.Author.Needs.{needs}
 use Rattle.run.proofs.end_turn.Statement.{statement}
 use Rattle.run.proofs.end_turn.Tie as tie

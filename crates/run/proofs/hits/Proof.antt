@@ -1,3 +1,4 @@
+-- By the answer: 1 for a hit.
 use borrow.Author.Needs.{needs}
 use Rattle.run.proofs.Answers.{not-hit}
 use Rattle.run.proofs.hits.Statement.{statement}

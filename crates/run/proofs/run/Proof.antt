@@ -1,3 +1,4 @@
+-- Invariant: state, fetches and reads are those of the first i turns. Measure: the turns that are left.
 use Prim.Native.Nat.{_-_, _≤_}
 use mathlib.Core.Path.{_≡_}
 use borrow.Author.Needs.{needs}

@@ -1,3 +1,4 @@
+-- Read's answer is a fetch, and Arrive and a second Read follow; or it ends the turn.
 use borrow.Author.Needs.{needs}
 use Rattle.run.proofs.Rounds.{turn-else, turn-fetch, read-valid, arrive-valid, and-single}
 use Rattle.run.proofs.turn.Statement.{statement}

@@ -1,3 +1,4 @@
+-- One of the two lists, into a list that is long enough.
 use borrow.Author.Needs.{needs}
 use Rattle.rules.specs.Views.{stateOf}
 use Rattle.lines.proofs.Shown.{steal-front, fetch-front}

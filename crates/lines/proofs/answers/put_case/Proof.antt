@@ -1,3 +1,4 @@
+-- By the answer, its letter and its numbers.
 use borrow.Author.Needs.{needs}
 use Rattle.rules.specs.Lists.{each}
 use Rattle.rules.specs.Lines.{lineOf}

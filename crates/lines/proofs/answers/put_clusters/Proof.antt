@@ -1,3 +1,4 @@
+-- Invariant: the first i pages are written behind the count. Measure: the pages that are left.
 use Prim.Native.Nat.{_-_, _≤_}
 use mathlib.Core.Path.{_≡_, refl}
 use native.Mathlib.Omega.{arith}

@@ -1,3 +1,4 @@
+-- Invariant: the first i keys are written behind the count, each as file and page. Measure: the keys that are left.
 use Prim.Native.Nat.{_-_, _≤_}
 use mathlib.Core.Path.{_≡_, refl}
 use native.Mathlib.Omega.{arith}

@@ -1,3 +1,4 @@
+-- The letter, then the number behind it.
 use native.Mathlib.Omega.{arith}
 use borrow.Author.Needs.{needs}
 use Rattle.text.proofs.Puts.{digits-length}

@@ -1,3 +1,4 @@
+-- The first number, then the second behind it.
 use native.Mathlib.Omega.{arith}
 use borrow.Author.Needs.{needs}
 use Rattle.lines.proofs.Rows.{pair-length, put-both}

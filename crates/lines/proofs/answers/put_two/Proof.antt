@@ -1,3 +1,4 @@
+-- The letter, then the two numbers behind it.
 use mathlib.Core.List.{[], _∷_}
 use native.Mathlib.Omega.{arith}
 use borrow.Author.Needs.{needs}

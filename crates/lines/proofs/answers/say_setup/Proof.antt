@@ -1,3 +1,4 @@
+-- Refused, Setup leaves the old state; carried out, it gives its own, with empty maps.
 use borrow.Author.Needs.{needs}
 use Rattle.rules.specs.Views.{stateOf, noPages, replyOf}
 use Rattle.rules.specs.Views.{stateOf}

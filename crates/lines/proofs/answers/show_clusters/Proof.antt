@@ -1,3 +1,4 @@
+-- The file is not there, or its clusters' pages are written, two for each.
 use mathlib.Core.Bool.{false}
 use mathlib.Core.Path.{_≡_, refl}
 use native.Mathlib.Omega.{arith}

@@ -1,3 +1,4 @@
+-- The order is listed, then written as pairs, then its line end.
 use mathlib.Core.Path.{refl}
 use native.Mathlib.Omega.{arith}
 use borrow.Author.Needs.{needs}

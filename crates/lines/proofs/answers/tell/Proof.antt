@@ -1,3 +1,4 @@
+-- The answer's line, then its line end.
 use native.Mathlib.Omega.{arith}
 use borrow.Author.Needs.{needs}
 use Rattle.lines.proofs.Replies.{answer-length, line-ended}

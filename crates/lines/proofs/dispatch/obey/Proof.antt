@@ -1,3 +1,4 @@
+-- By the number of fields.
 use mathlib.Core.Path.{_≡_}
 use borrow.Author.Needs.{needs}
 use lib.ListN.{length}

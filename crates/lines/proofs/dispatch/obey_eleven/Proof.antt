@@ -1,3 +1,4 @@
+-- The letter S, or none that takes eleven fields.
 use mathlib.Core.Path.{_≡_}
 use borrow.Author.Needs.{needs}
 use lib.ListN.{length}

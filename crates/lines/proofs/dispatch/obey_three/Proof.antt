@@ -1,3 +1,4 @@
+-- The letter A, or none that takes three fields.
 use borrow.Author.Needs.{needs}
 use Rattle.rules.specs.Lines.{obeyed}
 use Rattle.lines.proofs.Letters.{other-three}

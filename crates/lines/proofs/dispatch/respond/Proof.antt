@@ -1,3 +1,4 @@
+-- The line is a command, or gets 14.
 use borrow.Author.Needs.{needs}
 use Rattle.lines.proofs.Letters.{command-few, responds-by, responds-not}
 use Rattle.lines.proofs.dispatch.respond.Statement.{statement}

@@ -1,3 +1,4 @@
+-- The idle view with empty maps, saved.
 use mathlib.Core.Path.{sym, subst, ap, _∙_}
 use borrow.Author.Needs.{needs}
 use Rattle.rules.proofs.calls.Kept.{idle-valid}
