@@ -5,7 +5,7 @@ use mathlib.Core.List.{List}
 use mathlib.Core.Option.{Option, some}
 use Rattle.bits.specs.Map.{putBit}
 use Rattle.rules.specs.Lists.{head, onOption}
-use Rattle.rules.specs.Pages.{fileOf, pageOf, keyOf}
+use Rattle.rules.specs.Pages.{fileOf, pageOf}
 use Rattle.rules.specs.Valid.{Valid}
 use Rattle.rules.specs.Orders.{fetchOrder, victim}
 use Rattle.rules.specs.Calls.{reply, withCached, withFetching, without, stealOf, dropped, landed, arriveOf, prefetchOf}
@@ -18,8 +18,10 @@ use Rattle.rules.proofs.calls.Landings.{dropped-some}
 use Rattle.order.specs.Choices.{chosen}
 use Rattle.order.specs.declared.Choice.{Choice}
 use Rattle.order.specs.declared.Choice.the-variants.{Key, Nothing}
-use Rattle.calls.specs.Parts.{fetchRefusal, InMap, landedWith, arrivalOf}
-use Rattle.calls.proofs.Refusing.{does}
+use Rattle.calls.specs.declared.Fetched.{Fetched}
+use Rattle.calls.specs.declared.Fetched.the-variants.{Open}
+use Rattle.calls.specs.Inner.{openFetch, InMap, landedWith, arrivalOf}
+use Rattle.calls.proofs.Refusing.{does, found-key}
 
 -- a choice with a key
 pub chosen-key : (g : Choice) (k : ℕ) → g ≡ Key k → chosen g ≡ some k
@@ -78,9 +80,10 @@ module _ (s : State) (g : Choice) (k file page : ℕ) (f : file ≡ fileOf k) (p
   unfolding prefetchOf
   opened b still c e = by-key (λ t. head (fetchOrder t)) s g b k _ _ _ e (rw (c, f, p))
 
--- where the page is not refused, the reply by the choice of the page to drop
-pub arrived : (s : State) (file page q : ℕ) (g : Choice) (k : ℕ) (after : State) (answer : Answer)
-    → q ≡ fetchRefusal (s .sizes) (s .fetching) file page → q ≡ 0 → chosen g ≡ dropped s → k ≡ keyOf file page
+-- where the page is in fetch, the reply by the choice of the page to drop
+pub arrived : (s : State) (file page : ℕ) (q : Fetched) (g : Choice) (k : ℕ) (after : State) (answer : Answer)
+    → q ≡ openFetch (s .sizes) (s .fetching) file page → q ≡ Open k → chosen g ≡ dropped s
     → after ≡ landedWith s (chosen g) k → answer ≡ arrivalOf (chosen g) → reply after answer ≡ arriveOf s file page
 unfolding arriveOf landed
-arrived s file page q g k after answer e z b d l c = does q s file page _ _ e z (rw (l, d, c, b))
+arrived s file page q g k after answer e z b l c =
+    does q s file page _ _ e k z (rw (l, found-key q (s .sizes) (s .fetching) file page k e z, c, b))

@@ -1,60 +1,76 @@
--- Arrive and Lost by the number with which they refuse a page. Assumes nothing.
+-- Arrive and Lost by what they find of a page. Assumes nothing.
 use Prim.Native.Nat.{ℕ, _≤_, _<_}
 use mathlib.Core.Path.{_≡_, refl, sym, _∙_}
 use mathlib.Core.Bool.{Bool, true, false, cond}
 use mathlib.Core.List.{List}
 use native.Mathlib.Omega.{arith}
-use borrow.Author.Tests.{eq-eqb, ne-eqb}
 use lib.ListN.{getD}
-use lib.Dec.{eqb}
-use Rattle.bits.specs.Map.{bit}
+use Rattle.bits.specs.Map.{on}
 use Rattle.rules.specs.Pages.{keyOf, inFetch}
-use Rattle.rules.specs.Calls.{refused, noFile, noPage, forFetch}
+use Rattle.rules.specs.Calls.{reply, refused, noFile, noPage, closed, forFetch, lostOf}
 use Rattle.rules.specs.declared.State.{State}
 use Rattle.rules.specs.declared.Reply.{Reply}
-use Rattle.parts.specs.Files.{noFileIn, noPageIn, Small}
-use Rattle.calls.specs.Parts.{fetchRefusal}
-use Rattle.calls.proofs.Outcomes.{is-yes, is-no}
-use Rattle.parts.proofs.Files.{there-small, there-low}
+use Rattle.rules.specs.declared.Answer.the-variants.{Done}
+use Rattle.parts.specs.Files.{noFileIn, noPageIn}
+use Rattle.calls.specs.Inner.{openFetch}
+use Rattle.calls.specs.declared.Fetched.{Fetched}
+use Rattle.calls.specs.declared.Fetched.the-variants.{Open, Refused}
+use Rattle.parts.proofs.Files.{there-low}
 
--- the refusals, or what is done, by the number
-pub for-fetch-is : (s : State) (file page : ℕ) (done : Reply)
-    → forFetch s file page done ≡ cond (eqb (fetchRefusal (s .sizes) (s .fetching) file page) 0) done (refused s (fetchRefusal (s .sizes) (s .fetching) file page))
-unfolding forFetch fetchRefusal
+-- what is made of a page that is found in fetch, or of a refusal
+abbrev byFetch : Fetched → (ℕ → Reply) → Reply → Reply
+byFetch (Open k) f done = done
+byFetch (Refused n) f done = f n
+
+-- the refusals, or what is done
+for-fetch-is : (s : State) (file page : ℕ) (done : Reply) → forFetch s file page done ≡ byFetch (openFetch (s .sizes) (s .fetching) file page) (refused s) done
+unfolding forFetch openFetch
 for-fetch-is s file page done = go (noFile s file) (noPage s file page) (inFetch s (keyOf file page))
   where
+    k : ℕ
+    k = keyOf file page
+
     go : (a b c : Bool)
         → cond a (refused s 3) (cond b (refused s 8) (cond c done (refused s 9)))
-        ≡ cond (eqb (cond a 3 (cond b 8 (cond c 0 9))) 0) done (refused s (cond a 3 (cond b 8 (cond c 0 9))))
+        ≡ byFetch (cond a (Refused 3) (cond b (Refused 8) (cond c (Open k) (Refused 9)))) (refused s) done
     go true b c = refl
     go false true c = refl
     go false false true = refl
     go false false false = refl
 
-module _ (q : ℕ) (s : State) (file page : ℕ) (r done : Reply) (e : q ≡ fetchRefusal (s .sizes) (s .fetching) file page) where
-  -- a number that is not 0 is the refusal's
-  pub refuses : (q ≡ 0 → ⊥) → r ≡ refused s q → r ≡ forFetch s file page done
-  refuses h k = is-no (eqb q 0) r done (refused s q) (ne-eqb q 0 h) k ∙ rw e (sym (for-fetch-is s file page done))
+module _ (q : Fetched) (s : State) (file page : ℕ) (r done : Reply) (e : q ≡ openFetch (s .sizes) (s .fetching) file page) where
+  -- the page is refused
+  pub refuses : (n : ℕ) → q ≡ Refused n → r ≡ refused s n → r ≡ forFetch s file page done
+  refuses n h k = k ∙ sym (for-fetch-is s file page done ∙ rw (← e, h) refl)
 
-  -- at 0 the call is carried out
-  pub does : q ≡ 0 → r ≡ done → r ≡ forFetch s file page done
-  does h k = is-yes (eqb q 0) r done (refused s q) (eq-eqb q 0 h) k ∙ rw e (sym (for-fetch-is s file page done))
+  -- the page is in fetch, and the call is carried out
+  pub does : (k : ℕ) → q ≡ Open k → r ≡ done → r ≡ forFetch s file page done
+  does k h i = i ∙ sym (for-fetch-is s file page done ∙ rw (← e, h) refl)
 
--- where the number is 0 neither test refuses
-not-refused : (q : ℕ) (sizes fetching : List ℕ) (file page : ℕ) → q ≡ fetchRefusal sizes fetching file page → q ≡ 0 → (noFileIn sizes file ≡ false) × (noPageIn sizes file page ≡ false)
-unfolding fetchRefusal
-not-refused q sizes fetching file page e h = by (noFileIn sizes file) (noPageIn sizes file page) (eqb (bit fetching (keyOf file page)) 1) (sym e ∙ h)
+-- a page that is found is the one asked for, and neither test refuses it
+found : (sizes fetching : List ℕ) (file page k : ℕ) → openFetch sizes fetching file page ≡ Open k
+    → (k ≡ keyOf file page) × (noFileIn sizes file ≡ false) × (noPageIn sizes file page ≡ false)
+unfolding openFetch
+found sizes fetching file page k e = by (noFileIn sizes file) (noPageIn sizes file page) (on fetching (keyOf file page)) e
   where
-    by : (a b c : Bool) → _≡_ {A = ℕ} (cond a 3 (cond b 8 (cond c 0 9))) 0 → (a ≡ false) × (b ≡ false)
-    by true b c z = let w : ⊥ = omega arith in absurd w
-    by false true c z = let w : ⊥ = omega arith in absurd w
-    by false false c z = (refl, refl)
+    by : (a b c : Bool) → cond a (Refused 3) (cond b (Refused 8) (cond c (Open (keyOf file page)) (Refused 9))) ≡ Open k
+        → (k ≡ keyOf file page) × (a ≡ false) × (b ≡ false)
+    by true b c z = let w : _≡_ {A = ℕ} 0 1 = cc in absurd (omega arith)
+    by false true c z = let w : _≡_ {A = ℕ} 0 1 = cc in absurd (omega arith)
+    by false false true z = (cc, refl, refl)
+    by false false false z = let w : _≡_ {A = ℕ} 0 1 = cc in absurd (omega arith)
 
-module _ (q : ℕ) (sizes fetching : List ℕ) (file page : ℕ) (e : q ≡ fetchRefusal sizes fetching file page) (z : q ≡ 0) (high : getD sizes file 0 ≤ 1024) where
-  -- then the page's key can be worked out
-  pub fetched-small : Small file page
-  fetched-small = let h = not-refused q sizes fetching file page e z in there-small _ _ sizes file page refl (h .0) refl (h .1) high
+module _ (q : Fetched) (sizes fetching : List ℕ) (file page k : ℕ) (e : q ≡ openFetch sizes fetching file page) (h : q ≡ Open k) where
+  -- its key
+  pub found-key : k ≡ keyOf file page
+  found-key = found sizes fetching file page k (sym e ∙ h) .0
 
-  -- and is one of a map's
-  pub fetched-low : (k : ℕ) → k ≡ keyOf file page → k < 8192
-  fetched-low = let h = not-refused q sizes fetching file page e z in there-low _ _ sizes file page refl (h .0) refl (h .1) high
+  -- which is one of a map's
+  pub found-low : getD sizes file 0 ≤ 1024 → k < 8192
+  found-low high = let f = found sizes fetching file page k (sym e ∙ h) in there-low _ _ sizes file page refl (f .1) refl (f .2) high k (f .0)
+
+-- Lost of a page that is in fetch
+pub lost-found : (s : State) (file page : ℕ) (q : Fetched) (k : ℕ) (after : State)
+    → q ≡ openFetch (s .sizes) (s .fetching) file page → q ≡ Open k → after ≡ closed s k → reply after Done ≡ lostOf s file page
+unfolding lostOf
+lost-found s file page q k after e z l = does q s file page _ _ e k z (rw (l, found-key q (s .sizes) (s .fetching) file page k e z))

@@ -19,7 +19,7 @@ use Rattle.rules.specs.declared.Answer.the-variants.{Done, Fetch}
 use Rattle.rules.specs.declared.Condition.the-variants.{Waiting}
 use Rattle.rules.proofs.calls.OneRecord.{SlotCall, attaching, detaching, reading, callAt, one-record}
 use Rattle.parts.specs.Files.{noFileIn}
-use Rattle.calls.specs.Parts.{OthersStay}
+use Rattle.calls.specs.Inner.{OthersStay}
 use Rattle.calls.proofs.Outcomes.{answers, keyed}
 
 -- a call of a slot leaves the other slots' records, with these maps before and those after

@@ -32,7 +32,13 @@ ghost use Rattle.rules.specs.Calls.{
   prefetchOf,
 };
 ghost use Rattle.order.specs.Choices.{chosen, Housed};
-ghost use Rattle.calls.specs.Parts.{outcomeOf, refusal, fetchRefusal, OthersStay, InMap, eased, landedWith, arrivalOf};
+ghost use Rattle.calls.specs.Inner.{outcomeOf, refusal, openFetch, OthersStay, InMap, eased, landedWith, arrivalOf};
+
+// What Arrive and Lost find of a page: the key of one that is in fetch, or the number of the refusal.
+pub enum Fetched {
+    Open(usize),
+    Refused(u8),
+}
 
 // ---- outcomes and refusals
 
@@ -49,27 +55,28 @@ pub fn refuse(v: View, number: u8) -> Outcome
     outcome(v, Answer::Refused(number))
 }
 
-// With what Arrive and Lost refuse a page: 3, 8 or 9; 0 where it is in fetch.
-pub fn fetch_refusal(sizes: [u16; 8], fetching: &[u64; 128], file: u64, page: u64) -> u8
+// Looks a page up for Arrive and Lost.
+fn open_fetch(sizes: [u16; 8], fetching: &[u64; 128], file: u64, page: u64) -> Fetched
     requires { ⌜ getD sizes file 0 ≤ 1024 ⌝ }
-    ensures { λ r. ⌜ r ≡ fetchRefusal sizes (now (fetching .entry)) file page ⌝ }
+    ensures { λ r. ⌜ r ≡ openFetch sizes (now (fetching .entry)) file page ⌝ }
 {
     if parts::no_file(sizes, file) {
-        return 3;
+        return Fetched::Refused(3);
     }
     if parts::no_page(sizes, file, page) {
-        return 8;
+        return Fetched::Refused(8);
     }
-    if bits::has_bit(fetching, parts::page_key(file, page)) {
-        return 0;
+    let key = parts::page_key(file, page);
+    if bits::has_bit(fetching, key) {
+        return Fetched::Open(key);
     }
-    9
+    Fetched::Refused(9)
 }
 
 // ---- Setup
 
 // Is every size at most 1,024?
-fn sizes_in(sizes: [u64; 8]) -> bool
+fn sizes_within(sizes: [u64; 8]) -> bool
     ensures { λ r. ⌜ r ≡ every (within 0 1024) sizes ⌝ }
 {
     let mut i: usize = 0;
@@ -95,7 +102,7 @@ fn settings_in(frames: u64, look_ahead: u64, fetch_time: u64, sizes: [u64; 8]) -
     if !parts::within(0, 2000000, fetch_time) {
         return false;
     }
-    sizes_in(sizes)
+    sizes_within(sizes)
 }
 
 // The sizes as the state has them.
@@ -274,14 +281,11 @@ pub fn lost(v: View, fetching: &mut [u64; 128], file: u64, page: u64) -> Outcome
     ensures { λ r. ⌜ ((c : List ℕ) → replyOf r c (now (fetching .exit)) ≡ lostOf (stateOf v c (now (fetching .entry))) file page) ⌝ }
 {
     let sizes = v.sizes;
-    let number = fetch_refusal(sizes, fetching, file, page);
-    if number != 0 {
-        return refuse(v, number);
+    let fetched = open_fetch(sizes, fetching, file, page);
+    match fetched {
+        Fetched::Open(key) => outcome(close_fetch(v, fetching, key), Answer::Done),
+        Fetched::Refused(number) => refuse(v, number),
     }
-    outcome(
-        close_fetch(v, fetching, parts::page_key(file, page)),
-        Answer::Done,
-    )
 }
 
 // The page chosen, if any, gives up its frame.
@@ -364,13 +368,15 @@ pub fn arrive(
     ensures { λ r. ⌜ replyOf r (now (cached .exit)) (now (fetching .exit)) ≡ arriveOf (stateOf v (now (cached .entry)) (now (fetching .entry))) file page ⌝ }
 {
     let sizes = v.sizes;
-    let number = fetch_refusal(sizes, fetching, file, page);
-    if number != 0 {
-        return refuse(v, number);
+    let fetched = open_fetch(sizes, fetching, file, page);
+    match fetched {
+        Fetched::Open(key) => {
+            let gone = give_up(v, cached, fetching);
+            let after = land(v, cached, fetching, key, gone);
+            outcome(after, arrival(gone))
+        }
+        Fetched::Refused(number) => refuse(v, number),
     }
-    let gone = give_up(v, cached, fetching);
-    let after = land(v, cached, fetching, parts::page_key(file, page), gone);
-    outcome(after, arrival(gone))
 }
 
 // ---- Steal and Prefetch: the heads of the two orders. The view stays.

@@ -12,7 +12,7 @@ use Rattle.rules.specs.Lists.{range, every}
 use Rattle.rules.proofs.laws.Cases.{and-stop, and-pass, call-stop, call-pass, outcomes, passed, failed}
 use Rattle.rules.proofs.laws.Tests.{is-true}
 use Rattle.rules.proofs.laws.Members.{range-in, range-at}
-use Rattle.rules.proofs.laws.Parts.{all-always, always-all, every-all, all-every}
+use Rattle.rules.proofs.laws.Indexed.{all-always, always-all, every-all, all-every}
 
 -- two tests that pass together
 pub same-test : (a b : Bool) → (T a → T b) → (T b → T a) → a ≡ b

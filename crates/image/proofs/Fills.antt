@@ -6,7 +6,7 @@ use native.Mathlib.Omega.{arith}
 use lib.ListN.{length, getD, take, drop, set, drop-of-length-le}
 use lib.Seq.{length-take-le, take-all, take-suc, drop-cons, set-at, append-snoc}
 use Rattle.rules.specs.Lists.{range}
-use Rattle.rules.proofs.laws.Parts.{length-listed, getD-listed}
+use Rattle.rules.proofs.laws.Indexed.{length-listed, getD-listed}
 
 module _ {A : Type 0} (f : ℕ → A) (n : ℕ) (d : A) where
   -- the first k are those of f, the others as they were

@@ -9,7 +9,7 @@ use lib.ListN.{length, getD, take, set, length-append, take-append-drop}
 use lib.Seq.{length-take-le, take-all, take-suc}
 use Rattle.rules.specs.Lists.{each, written}
 use Rattle.rules.specs.Image.{Field, bytesOf, encoded}
-use Rattle.rules.proofs.laws.Parts.{length-each}
+use Rattle.rules.proofs.laws.Indexed.{length-each}
 use Rattle.rules.proofs.laws.Numbers.{bytes-length}
 use Rattle.image.specs.Bytes.{readerBytes}
 use Rattle.rules.specs.declared.Reader.{Reader}

@@ -19,7 +19,7 @@ use Rattle.rules.specs.Image.{stateFrom, slotHolds, keyHolds, accepts, restoreO
 use Rattle.rules.proofs.laws.Cases.{passed}
 use Rattle.rules.proofs.laws.Tests.{or-left}
 use Rattle.rules.proofs.laws.Members.{range-at}
-use Rattle.rules.proofs.laws.Parts.{every-all}
+use Rattle.rules.proofs.laws.Indexed.{every-all}
 use Rattle.rules.proofs.laws.Counts.{pages-count}
 use Rattle.rules.proofs.images.Accepts.{settings-in, key-in, unset}
 use Rattle.rules.proofs.images.Images.{upgraded-same}

@@ -7,7 +7,7 @@ use lib.ListN.{length, length-append, drop-of-length-le}
 use Rattle.rules.specs.Lists.{each, written}
 use Rattle.rules.specs.Valid.{Valid}
 use Rattle.rules.specs.Image.{Field, field, readerFields, layout, bytesOf, imageOf, encoded, tail, imageLength}
-use Rattle.rules.proofs.laws.Parts.{each-map, length-each}
+use Rattle.rules.proofs.laws.Indexed.{each-map, length-each}
 use Rattle.rules.proofs.laws.Numbers.{bytes-length}
 use Rattle.rules.proofs.images.Offsets.{sizesAt, readersAt, gapAt, cachedAt, fetchingAt}
 use Rattle.image.specs.Bytes.{readerBytes, settingsFields}

@@ -13,8 +13,9 @@ use Rattle.rules.specs.Image.{readerNumber, readerFrom, readerPlaced, readerHol
 use Rattle.rules.proofs.laws.Cases.{passed, file-there, call-stop, call-pass}
 use Rattle.rules.proofs.laws.Tests.{is-true, and-first}
 use Rattle.rules.proofs.images.Offsets.{readersAt, slot-at}
+use Rattle.parts.specs.Files.{sizedWith}
 use Rattle.image.specs.Bytes.{numberAt, stateIn}
-use Rattle.image.specs.Tests.{among, FromImage}
+use Rattle.image.specs.Tests.{FromImage}
 use Rattle.image.proofs.Checks.{and-later}
 use Rattle.rules.specs.declared.State.{State}
 use Rattle.rules.specs.declared.Reader.{Reader}
@@ -23,45 +24,45 @@ use Rattle.rules.specs.declared.Condition.the-variants.{Empty, Running, Waiting
 module _ (sizes fetching : List ℕ) (r : Reader) where
   -- an empty slot
   pub holds-empty : (t : Bool) → r .condition ≡ Empty → t ≡ (eqb (r .file) 0 && (eqb (r .pace) 0 && eqb (r .position) 0))
-      → t ≡ readerHolds (among sizes fetching) r
+      → t ≡ readerHolds (sizedWith sizes fetching) r
   unfolding readerHolds
   holds-empty t e f = rw e f
 
   -- a running reader
-  pub holds-running : (t : Bool) → r .condition ≡ Running → t ≡ readerPlaced (among sizes []) r → t ≡ readerHolds (among sizes fetching) r
+  pub holds-running : (t : Bool) → r .condition ≡ Running → t ≡ readerPlaced (sizedWith sizes []) r → t ≡ readerHolds (sizedWith sizes fetching) r
   unfolding readerHolds readerPlaced
   holds-running t e f = rw e f
 
   -- a waiting reader that is not in its place
-  pub holds-stop : (t : Bool) → r .condition ≡ Waiting → t ≡ readerPlaced (among sizes []) r → not t ≡ true → false ≡ readerHolds (among sizes fetching) r
+  pub holds-stop : (t : Bool) → r .condition ≡ Waiting → t ≡ readerPlaced (sizedWith sizes []) r → not t ≡ true → false ≡ readerHolds (sizedWith sizes fetching) r
   unfolding readerHolds readerPlaced awaits
-  holds-stop t e f n = rw e (call-stop (readerPlaced (among sizes []) r) (awaits (among sizes fetching) r) t f n)
+  holds-stop t e f n = rw e (call-stop (readerPlaced (sizedWith sizes []) r) (awaits (sizedWith sizes fetching) r) t f n)
 
   -- one that is
-  pub holds-waiting : (t q : Bool) → r .condition ≡ Waiting → t ≡ readerPlaced (among sizes []) r → not t ≡ false → q ≡ awaits (among sizes fetching) r
-      → q ≡ readerHolds (among sizes fetching) r
+  pub holds-waiting : (t q : Bool) → r .condition ≡ Waiting → t ≡ readerPlaced (sizedWith sizes []) r → not t ≡ false → q ≡ awaits (sizedWith sizes fetching) r
+      → q ≡ readerHolds (sizedWith sizes fetching) r
   unfolding readerHolds readerPlaced awaits
-  holds-waiting t q e f n g = rw e (call-pass (readerPlaced (among sizes []) r) (awaits (among sizes fetching) r) t q f n g)
+  holds-waiting t q e f n g = rw e (call-pass (readerPlaced (sizedWith sizes []) r) (awaits (sizedWith sizes fetching) r) t q f n g)
 
   -- a reader in its place has a file below 8
-  pub placed-file : (t : Bool) → t ≡ readerPlaced (among sizes []) r → not t ≡ false → r .file < 8
+  pub placed-file : (t : Bool) → t ≡ readerPlaced (sizedWith sizes []) r → not t ≡ false → r .file < 8
   unfolding readerPlaced
   placed-file t e n =
-      let s : State = among sizes [] in
+      let s : State = sizedWith sizes [] in
       let all = passed (readerPlaced s r) (sym e ∙ not-false t n) in
       let none = noFile s (r .file) in
       file-there s (r .file) (not-true none (is-true (not none) (and-first (not none) _ all))) .0
 
 -- the test of a record looks at the sizes and the fetches alone
-holds-among : (s : State) (r : Reader) → readerHolds (among (s .sizes) (s .fetching)) r ≡ readerHolds s r
+holds-sized : (s : State) (r : Reader) → readerHolds (sizedWith (s .sizes) (s .fetching)) r ≡ readerHolds s r
 unfolding readerHolds readerPlaced awaits
-holds-among s r = refl
+holds-sized s r = refl
 
 module _ (image sizes fetching : List ℕ) (h : FromImage image sizes fetching) (j : ℕ) (low : j < 16) where
   -- the test of the record
-  record-holds : (r : Reader) (t : Bool) → r ≡ readerFrom (imageNumbers image) j → t ≡ readerHolds (among sizes fetching) r
+  record-holds : (r : Reader) (t : Bool) → r ≡ readerFrom (imageNumbers image) j → t ≡ readerHolds (sizedWith sizes fetching) r
       → t ≡ readerHolds (stateIn image) (readerFrom (imageNumbers image) j)
-  record-holds r t e f = f ∙ rw (h .sizes-read, h .fetching-read, e) (holds-among (stateIn image) (readerFrom (imageNumbers image) j))
+  record-holds r t e f = f ∙ rw (h .sizes-read, h .fetching-read, e) (holds-sized (stateIn image) (readerFrom (imageNumbers image) j))
 
   -- the test of the condition's number
   condition-holds : (n : ℕ) (t : Bool) → n ≡ numberAt 1 image (readersAt + 8 * j) → t ≡ within 0 2 n → t ≡ within 0 2 (readerNumber (imageNumbers image) j 0)
@@ -75,7 +76,7 @@ module _ (image sizes fetching : List ℕ) (h : FromImage image sizes fetching) 
   slot-stop n t e f m = call-stop (within 0 2 (readerNumber (imageNumbers image) j 0)) _ t (condition-holds n t e f) m
 
   -- the record does not hold
-  pub slot-out : (r : Reader) (t : Bool) → r ≡ readerFrom (imageNumbers image) j → t ≡ readerHolds (among sizes fetching) r → not t ≡ true
+  pub slot-out : (r : Reader) (t : Bool) → r ≡ readerFrom (imageNumbers image) j → t ≡ readerHolds (sizedWith sizes fetching) r → not t ≡ true
       → false ≡ slotHolds (imageNumbers image) j
   unfolding slotHolds
   slot-out r t e f m =
@@ -84,7 +85,7 @@ module _ (image sizes fetching : List ℕ) (h : FromImage image sizes fetching) 
 
   -- the 0 bytes are left
   pub slot-last : (n o : ℕ) (r : Reader) (t u : Bool) → n ≡ numberAt 1 image (readersAt + 8 * j) → t ≡ within 0 2 n → not t ≡ false
-      → r ≡ readerFrom (imageNumbers image) j → u ≡ readerHolds (among sizes fetching) r → not u ≡ false
+      → r ≡ readerFrom (imageNumbers image) j → u ≡ readerHolds (sizedWith sizes fetching) r → not u ≡ false
       → o ≡ numberAt 2 image (readersAt + 8 * j + 6) → eqb o 0 ≡ slotHolds (imageNumbers image) j
   unfolding slotHolds
   slot-last n o r t u e f m g k l z =

@@ -9,7 +9,7 @@ use Rattle.rules.specs.Lists.{range, each}
 use Rattle.rules.specs.Calls.{idle}
 use Rattle.rules.specs.Views.{stateOf, viewOf}
 use Rattle.rules.specs.Image.{layout, conditionOf, readerFrom, stateFrom, imageNumbers}
-use Rattle.rules.proofs.laws.Parts.{part-listed, length-listed, getD-listed}
+use Rattle.rules.proofs.laws.Indexed.{part-listed, length-listed, getD-listed}
 use Rattle.rules.proofs.images.Tables.{numbers-length}
 use Rattle.rules.proofs.images.Offsets.{sizesAt, readersAt, cachedAt, fetchingAt, setting-at, size-at, slot-at, cached-at, fetching-at}
 use Rattle.image.specs.Bytes.{numberAt, numberFrom, numbersAt, stateIn}

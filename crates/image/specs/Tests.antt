@@ -7,24 +7,9 @@ use lib.ListN.{length, getD}
 use lib.Dec.{eqb}
 use Rattle.bits.specs.Map.{bit}
 use Rattle.rules.specs.Lists.{range, every}
-use Rattle.rules.specs.Calls.{settingsIn, idle}
+use Rattle.rules.specs.Calls.{settingsIn}
 use Rattle.rules.specs.Image.{imageLength}
 use Rattle.image.specs.Bytes.{numberAt, stateIn}
-use Rattle.rules.specs.declared.State.{State}
-
--- a state of these sizes and fetches: the test of a reader's record looks at no more of it
-abbrev pub among : List ℕ → List ℕ → State
-among sizes fetching =
-    record {
-      frames = 1;
-      turn = 0;
-      «look_ahead» = 1;
-      «fetch_time» = 0;
-      sizes = sizes;
-      readers = idle .readers;
-      cached = idle .cached;
-      fetching = fetching;
-    }
 
 -- these sizes and these fetches are those of the image
 pub record FromImage (image sizes fetching : List ℕ) : Type 0 where

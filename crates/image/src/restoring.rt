@@ -11,8 +11,9 @@ ghost use Rattle.rules.specs.Views.{viewOf, replyOf};
 ghost use Rattle.rules.specs.Calls.{refused, idle as idleState};
 ghost use Rattle.rules.specs.Readers.{awaits};
 ghost use Rattle.rules.specs.Image.{conditionOf, readerFrom, readerPlaced, readerHolds, slotHolds, accepts, restoreOf, imageNumbers, imageLength};
+ghost use Rattle.parts.specs.Files.{sizedWith};
 ghost use Rattle.image.specs.Bytes.{numbersAt, stateIn};
-ghost use Rattle.image.specs.Tests.{among, FromImage, SizesLow, settingsFrom, gapsHold, apartAt, clearAt, clearAbove, sizeHolds};
+ghost use Rattle.image.specs.Tests.{FromImage, SizesLow, settingsFrom, gapsHold, apartAt, clearAt, clearAbove, sizeHolds};
 use crate::CACHED_AT;
 use crate::FETCHING_AT;
 use crate::GAP_AT;
@@ -116,19 +117,10 @@ fn view_in(image: &[u8]) -> View
 
 // ---- its tests
 
-fn is_within(low: u32, high: u32, n: u32) -> bool
-    ensures { λ r. ⌜ r ≡ within low high n ⌝ }
-{
-    if n < low {
-        return false;
-    }
-    n <= high
-}
-
 fn size_holds(size: u16) -> bool
     ensures { λ r. ⌜ r ≡ within 0 1024 size ⌝ }
 {
-    is_within(0, 1024, size as u32)
+    parts::within(0, 1024, size as u64)
 }
 
 fn sizes_hold(sizes: &[u16; 8]) -> bool
@@ -150,13 +142,13 @@ fn settings_hold(image: &[u8], sizes: &[u16; 8]) -> bool
     requires { ⌜ (length (now image) ≡ imageLength) × (length (now sizes) ≡ 8) ⌝ }
     ensures { λ r. ⌜ r ≡ settingsFrom (now (image .entry)) (now (sizes .entry)) ⌝ }
 {
-    if !is_within(1, 1024, get_u16(image, 0) as u32) {
+    if !parts::within(1, 1024, get_u16(image, 0) as u64) {
         return false;
     }
-    if !is_within(1, 2000000, get_u32(image, 4)) {
+    if !parts::within(1, 2000000, get_u32(image, 4) as u64) {
         return false;
     }
-    if !is_within(0, 2000000, get_u32(image, 8)) {
+    if !parts::within(0, 2000000, get_u32(image, 8) as u64) {
         return false;
     }
     sizes_hold(sizes)
@@ -164,13 +156,13 @@ fn settings_hold(image: &[u8], sizes: &[u16; 8]) -> bool
 
 // An attached reader: its file is there, its pace is in range, its position is in the file.
 fn reader_placed(r: Reader, sizes: &[u16; 8]) -> bool
-    ensures { λ t. ⌜ t ≡ readerPlaced (among (now (sizes .entry)) []) r ⌝ }
+    ensures { λ t. ⌜ t ≡ readerPlaced (sizedWith (now (sizes .entry)) []) r ⌝ }
 {
     let all = *sizes;
     if parts::no_file(all, r.file as u64) {
         return false;
     }
-    if !is_within(1, 1000, r.pace as u32) {
+    if !parts::within(1, 1000, r.pace as u64) {
         return false;
     }
     r.position <= parts::last_page(all, r)
@@ -179,7 +171,7 @@ fn reader_placed(r: Reader, sizes: &[u16; 8]) -> bool
 // A reader's next page is in fetch.
 fn reader_awaits(r: Reader, sizes: &[u16; 8], fetching: &[u64; 128]) -> bool
     requires { ⌜ (r .file < 8) × SizesLow (now sizes) ⌝ }
-    ensures { λ t. ⌜ t ≡ awaits (among (now (sizes .entry)) (now (fetching .entry))) r ⌝ }
+    ensures { λ t. ⌜ t ≡ awaits (sizedWith (now (sizes .entry)) (now (fetching .entry))) r ⌝ }
 {
     if parts::last_page(*sizes, r) <= r.position {
         return false;
@@ -201,7 +193,7 @@ fn is_blank(r: Reader) -> bool
 
 fn reader_holds(r: Reader, sizes: &[u16; 8], fetching: &[u64; 128]) -> bool
     requires { ⌜ SizesLow (now sizes) ⌝ }
-    ensures { λ t. ⌜ t ≡ readerHolds (among (now (sizes .entry)) (now (fetching .entry))) r ⌝ }
+    ensures { λ t. ⌜ t ≡ readerHolds (sizedWith (now (sizes .entry)) (now (fetching .entry))) r ⌝ }
 {
     let condition = r.condition;
     match condition {
@@ -222,7 +214,7 @@ fn slot_holds(image: &[u8], slot: usize, sizes: &[u16; 8], fetching: &[u64; 128]
     ensures { λ r. ⌜ r ≡ slotHolds (imageNumbers (now (image .entry))) slot ⌝ }
 {
     let at = READERS_AT + 8 * slot;
-    if !is_within(0, 2, get_u8(image, at) as u32) {
+    if !parts::within(0, 2, get_u8(image, at) as u64) {
         return false;
     }
     if !reader_holds(reader_in(image, slot), sizes, fetching) {
@@ -334,7 +326,7 @@ fn accepted<'a>(image: &[u8], cached: &'a [u64; 128], fetching: &'a [u64; 128]) 
     if !settings_hold(image, &sizes) {
         return false;
     }
-    if !is_within(0, 15, get_u8(image, 2) as u32) {
+    if !parts::within(0, 15, get_u8(image, 2) as u64) {
         return false;
     }
     if !slots_hold(image, &sizes, fetching) {

@@ -12,7 +12,7 @@ use Rattle.rules.specs.Pages.{fileOf, pageOf, size, Page, held, ends, pages, ca
 use Rattle.rules.specs.Orders.{wanted, stealOrder, fetchOrder}
 use Rattle.rules.specs.Schedules.{num, count}
 use Rattle.rules.specs.Valid.{Valid}
-use Rattle.rules.specs.Lines.{digitsOf, lineOf, orderLine, clustersLine}
+use Rattle.rules.specs.Lines.{digitsOf, lineOf, orderLine, clustersLine, fieldOf, pairOf}
 use Rattle.rules.specs.declared.State.{State}
 use Rattle.rules.proofs.laws.Tests.{less}
 use Rattle.rules.proofs.laws.Members.{All, all-map, all-only, range-in}
@@ -20,10 +20,8 @@ use Rattle.rules.proofs.laws.Sorts.{all-sorted, sorted-length}
 use Rattle.rules.proofs.laws.Counts.{pages-count}
 use Rattle.rules.proofs.orders.Ranks.{pages-in, steal-ranked}
 use Rattle.rules.proofs.orders.Distinct.{wanted-page}
-use Rattle.text.specs.Written.{fieldOf}
 use Rattle.text.proofs.Puts.{digits-one, digits-more}
 use Rattle.rules.proofs.laws.Lists.{each-append}
-use Rattle.lines.specs.Responses.{pairOf}
 
 -- ---- lines
 

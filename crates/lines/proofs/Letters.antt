@@ -12,7 +12,7 @@ use Rattle.rules.specs.Calls.{refused, setupOf}
 use Rattle.rules.specs.Lines.{wellFormed, told, toldSetup, obeyed, respondOf}
 use Rattle.rules.specs.declared.State.{State}
 use Rattle.rules.proofs.laws.Cases.{and-true}
-use Rattle.rules.proofs.laws.Parts.{part-listed}
+use Rattle.rules.proofs.laws.Indexed.{part-listed}
 use Rattle.text.specs.Commands.{isCommand, commandOf}
 use Rattle.text.specs.declared.Command.{Command}
 use Rattle.text.proofs.Pieces.{by-test}

@@ -7,11 +7,10 @@ use native.Mathlib.Numerals.{add-one}
 use lib.ListN.{length, getD, take, drop, length-append, take-append-drop}
 use lib.Seq.{length-take-le, take-suc, take-take}
 use Rattle.rules.specs.Lists.{each}
-use Rattle.rules.specs.Lines.{lineOf, orderLine, clustersLine}
-use Rattle.text.specs.Written.{fieldOf, Put}
+use Rattle.rules.specs.Lines.{lineOf, orderLine, clustersLine, fieldOf, pairOf}
+use Rattle.text.specs.Written.{Put}
 use Rattle.rules.proofs.laws.Lists.{written-none, each-append}
 use Rattle.text.proofs.Puts.{digits-length, put-more}
-use Rattle.lines.specs.Responses.{pairOf}
 
 -- at most eleven bytes a number
 pub line-length : (first : ℕ) (numbers : List ℕ) → length (lineOf first numbers) ≤ 1 + length numbers * 11
@@ -33,7 +32,7 @@ put-numbers l m out i j first numbers p q h = put-more l m out 0 i j (first ∷ 
 -- room for them
 pub numbers-room : (l m : List ℕ) (i first : ℕ) (numbers : List ℕ) → Put l 0 (first ∷ []) m i → 1 + length numbers * 11 ≤ length l → i + length (each fieldOf numbers) ≤ length l
 unfolding lineOf
-numbers-room l m i first numbers p h = omega (arith, p .place, line-length first numbers)
+numbers-room l m i first numbers p h = omega (arith, p .next-is, line-length first numbers)
 
 -- a number by itself
 abbrev pub one : ℕ → List ℕ
@@ -73,7 +72,7 @@ rowOf g list i = each fieldOf (each g (take i list))
 -- no member yet
 pub row-none : (g : ℕ → List ℕ) (list l : List ℕ) (at : ℕ) → Put l at (rowOf g list 0) l at
 unfolding each
-row-none g list l at = record { buffer = written-none l at; place = omega arith }
+row-none g list l at = record { buffer = written-none l at; next-is = omega arith }
 
 module _ (g : ℕ → List ℕ) (list : List ℕ) (n : ℕ) (all : n ≤ length list) where
   row-more : (i : ℕ) → i < n → rowOf g list (i + 1) ≡ rowOf g list i ++ each fieldOf (g (getD list i 0))
@@ -99,7 +98,7 @@ module _ (g : ℕ → List ℕ) (list : List ℕ) (n : ℕ) (all : n ≤ length 
 
     -- there is room for the next member
     pub row-room : length m ≡ length l → at + length (each fieldOf (g (getD list i 0))) ≤ length m
-    row-room e = omega (arith, row-fits, p .place)
+    row-room e = omega (arith, row-fits, p .next-is)
 
     -- it is put
     pub row-step : (out : List ℕ) (j : ℕ) → Put m at (each fieldOf (g (getD list i 0))) out j → Put l from (rowOf g list (i + 1)) out j
@@ -117,7 +116,7 @@ row-line first count g list l m out from at n p q h =
 pub line-room : (first count : ℕ) (numbers l m : List ℕ) (from : ℕ) → Put l 0 (lineOf first (count ∷ [])) m from → length (lineOf first (count ∷ numbers)) ≤ length l
     → from + length (each fieldOf numbers) ≤ length l
 line-room first count numbers l m from p h =
-    omega (arith, p .place, ap length (line-append first (count ∷ []) numbers), length-append (lineOf first (count ∷ [])) (each fieldOf numbers))
+    omega (arith, p .next-is, ap length (line-append first (count ∷ []) numbers), length-append (lineOf first (count ∷ [])) (each fieldOf numbers))
 
 -- the last member is put
 row-end : (g : ℕ → List ℕ) (list l m : List ℕ) (from at i n : ℕ) → i ≤ n → n ≤ i → Put l from (rowOf g list i) m at → Put l from (rowOf g list n) m at

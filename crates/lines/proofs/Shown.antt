@@ -13,7 +13,7 @@ use Rattle.rules.specs.Listings.{countIn, Written, listed, stealListOf, fetchLi
 use Rattle.rules.specs.Lines.{orderLine, clustersLine, told}
 use Rattle.rules.specs.declared.State.{State}
 use Rattle.rules.specs.declared.Listing.{Listing}
-use Rattle.rules.specs.declared.Listing.the-variants.{Count, Declined}
+use Rattle.rules.specs.declared.Listing.the-variants.{Count, Refused}
 use Rattle.text.proofs.Pieces.{by-test}
 use Rattle.lists.proofs.Stretches.{clusters-low}
 use Rattle.lines.specs.Responses.{orderOf, Front, clustersShown}
@@ -46,7 +46,7 @@ module _ (s : State) (v : Valid s) (lent list : List ℕ) (r : Listing) where
 
   module _ (f : ℕ) (l : _≡_ {A = Written} (record { answer = r; list = list }) (clustersOf s f lent)) (h : 2048 ≤ length lent) where
     -- no such file
-    no-clusters : noFile s f ≡ true → r ≡ Declined 3
+    no-clusters : noFile s f ≡ true → r ≡ Refused 3
     unfolding clustersOf
     no-clusters t = ap (λ (x : Written). x .answer) (rw t at l)
 
@@ -66,7 +66,7 @@ module _ (s : State) (v : Valid s) (lent list : List ℕ) (r : Listing) where
         (t, front (clusters s f) list (2 * n) _ r d g))
 
     -- a refusal
-    pub clusters-refused : (number : ℕ) → r ≡ Declined number → clustersShown s f ≡ told (refused s number)
+    pub clusters-refused : (number : ℕ) → r ≡ Refused number → clustersShown s f ≡ told (refused s number)
     clusters-refused number e =
         by-test (noFile s f)
         (λ t. let no = no-clusters t in let k : _≡_ {A = ℕ} 3 number = cc in rw (t, k))

@@ -157,15 +157,15 @@ module _ (m part : List ℕ) (at len : ℕ) (bytes : List ℕ) (inside : at ≤ 
       let sums : at + (0 + length bytes) ≡ at + length bytes = omega arith in
       let none : drop (length m - at) (drop at m) ≡ [] = drop-of-length-le (drop at m) past in
       let behind : part ≡ bytes ++ drop (at + length bytes) m = p .buffer ∙ rw (whole, drop-drop, sums) in
-      record { buffer = rw (none, append-nil) (ap (λ l. take at m ++ l) behind); place = omega (arith, p .place) }
+      record { buffer = rw (none, append-nil) (ap (λ l. take at m ++ l) behind); next-is = omega (arith, p .next-is) }
 
 module _ (m after bytes : List ℕ) (at next : ℕ) (inside : at ≤ length m) (p : Put m at bytes after next) where
   front : length (take at m ++ bytes) ≡ next
-  front = omega (arith, p .place, length-append (take at m) bytes, length-take-le at m inside)
+  front = omega (arith, p .next-is, length-append (take at m) bytes, length-take-le at m inside)
 
   whole : after ≡ (take at m ++ bytes) ++ drop next m
   unfolding written
-  whole = p .buffer ∙ rw (← p .place, append-assoc)
+  whole = p .buffer ∙ rw (← p .next-is, append-assoc)
 
   -- what stands up to its end, and behind it
   put-front : take next after ≡ take at m ++ bytes

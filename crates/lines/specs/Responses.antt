@@ -6,7 +6,7 @@ use mathlib.Core.Bool.{Bool, true, false, cond}
 use mathlib.Core.List.{List, [], _∷_, _++_}
 use lib.ListN.{length, take}
 use Rattle.rules.specs.Views.{stateOf}
-use Rattle.rules.specs.Pages.{fileOf, pageOf, clusters}
+use Rattle.rules.specs.Pages.{clusters}
 use Rattle.rules.specs.Orders.{stealOrder, fetchOrder}
 use Rattle.rules.specs.Calls.{noFile, refused}
 use Rattle.rules.specs.Lines.{clustersLine, Response, told, shown}
@@ -25,10 +25,6 @@ Roomy buffer = answerRoom ≤ length buffer
 -- behind every answer line
 abbrev pub lineEnd : List ℕ
 lineEnd = ascii "\n" ∷ []
-
--- a key as the numbers of its file and its page
-abbrev pub pairOf : ℕ → List ℕ
-pairOf k = fileOf k ∷ pageOf k ∷ []
 
 -- a line's answer: the state after it, and how many bytes were written
 pub record Answered : Type 0 where

@@ -13,7 +13,7 @@ use Rattle.rules.specs.Entries.{carriedOut}
 use Rattle.rules.specs.Image.{imageOf, restoreOf}
 use Rattle.rules.specs.Lines.{split}
 use Rattle.rules.specs.declared.State.{State}
-use Rattle.text.specs.Cuts.{clipped, textIn, kept}
+use Rattle.text.specs.Cuts.{textRoom, clipped, textIn, kept}
 use Rattle.text.specs.Streams.{OnePiece, Fed, behind, answered}
 use Rattle.lines.specs.Responses.{answerRoom, lineEnd}
 use Rattle.lines.specs.declared.Went.{Went}
@@ -70,7 +70,7 @@ goneIn r cached fetching text out =
 
 -- no text, in its buffer
 abbrev pub noText : List ℕ
-noText = replicate 201 0
+noText = replicate textRoom 0
 
 -- what a call leaves in the lent buffers, and how many bytes of answers there are
 pub record Left : Type 0 where
@@ -93,7 +93,7 @@ fedIn r image text out = record { left = leftIn (r .len) image text out; next = 
 
 -- room for any answer, a buffer for a text, and a place of the chunk
 unfoldable pub ready : List ℕ → List ℕ → ℕ → List ℕ → Bool
-ready text chunk from out = leb answerRoom (length out) && (eqb (length text) 201 && leb from (length chunk))
+ready text chunk from out = leb answerRoom (length out) && (eqb (length text) textRoom && leb from (length chunk))
 
 -- lines taken, and the image of the state after them
 abbrev pub saved : Gone → Taken
@@ -115,6 +115,6 @@ finishOf image text out = cond (eqb (getD text 0 0) 0) (leftIn 0 image text out)
 pub record StandsIn (image text : List ℕ) (f : Fed) : Type 0 where
   pub valid : Valid (f .state)
   pub image-is : image ≡ imageOf (f .state)
-  pub sized : length text ≡ 201
+  pub sized : length text ≡ textRoom
   pub text-is : textIn text ≡ clipped (f .text)
   pub one : OnePiece (ascii "\n") (f .text)

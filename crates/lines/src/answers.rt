@@ -14,8 +14,8 @@ ghost use Rattle.rules.specs.Lists.{each};
 ghost use Rattle.rules.specs.Valid.{Valid};
 ghost use Rattle.rules.specs.Calls.{refused};
 ghost use Rattle.rules.specs.Listings.{countIn};
-ghost use Rattle.rules.specs.Lines.{lineOf, answerLine, orderLine, clustersLine, told, toldSetup, shown};
-ghost use Rattle.text.specs.Written.{fieldOf, Put};
+ghost use Rattle.rules.specs.Lines.{lineOf, answerLine, orderLine, clustersLine, told, toldSetup, shown, fieldOf};
+ghost use Rattle.text.specs.Written.{Put};
 ghost use Rattle.lines.specs.Responses.{Roomy, lineEnd, orderOf, Front, clustersShown, saidOf, Gives};
 
 // ---- the bytes of answers
@@ -165,7 +165,7 @@ fn count_in(listing: Listing) -> u16
 {
     match listing {
         Listing::Count(n) => n,
-        Listing::Declined(_) => 0,
+        Listing::Refused(_) => 0,
     }
 }
 
@@ -229,6 +229,6 @@ pub(crate) fn show_clusters<'a>(
             let len = text::put_byte(out, at, b'\n');
             Said { view: v, len }
         }
-        Listing::Declined(number) => answer(v, Answer::Refused(number), out),
+        Listing::Refused(number) => answer(v, Answer::Refused(number), out),
     }
 }

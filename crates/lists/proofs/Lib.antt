@@ -1,5 +1,5 @@
 -- What the code of the three lists rests on: ranges of keys, packed numbers, their order, the wanted pages, the clusters and the writing.
-pub mod Runs
+pub mod Keys
 pub mod Packing
 pub mod Directions
 pub mod Wants

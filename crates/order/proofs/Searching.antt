@@ -15,10 +15,10 @@ use Rattle.rules.specs.Pages.{cached}
 use Rattle.rules.specs.Readers.{readerAt, attached, lastPage}
 use Rattle.rules.specs.Valid.{Valid}
 use Rattle.rules.specs.UseTimes.{before, never, useFor}
-use Rattle.rules.specs.Orders.{fetchOrder, victim}
+use Rattle.rules.specs.Orders.{absent, fetchOrder, victim}
 use Rattle.rules.proofs.laws.Cases.{passed}
 use Rattle.rules.proofs.orders.LookAheads.{before-is, is-before, use-least}
-use Rattle.rules.specs.Ranks.{rank, lastCached, AtMost, absent, FirstAbsent, NoneBelow, AtLeast, Before}
+use Rattle.rules.specs.Ranks.{rank, lastCached, AtMost, FirstAbsent, NoneBelow, AtLeast, Before}
 use Rattle.rules.proofs.orders.Candidates.{candidate-cached, NoneAbove, best-candidate, no-candidate, none-below, slot-below, absent-least, absent-wanted, best-wanted, no-wanted}
 use Rattle.rules.specs.declared.State.{State}
 use Rattle.rules.specs.declared.Reader.{Reader}

@@ -11,35 +11,35 @@ use borrow.Author.Tests.{eq-eqb, ne-eqb}
 use lib.Dec.{T, eqb}
 use lib.ListN.{length, getD, set, replicate, length-set}
 use lib.Seq.{getD-set-same, getD-set-other}
-use Rattle.rules.specs.Readers.{attached}
+use Rattle.rules.specs.Readers.{attached, readerIn, readsFile}
 use Rattle.rules.proofs.laws.Below.{one-more}
 use Rattle.rules.proofs.laws.Cases.{failed}
 use Rattle.rules.proofs.calls.Kept.{same-at}
 use Rattle.rules.specs.declared.Reader.{Reader}
-use Rattle.order.specs.Seats.{readerIn, reads, lastSeat, Seated}
+use Rattle.order.specs.Seats.{lastSeat, Seated}
 
 -- r is the last one of the first n slots with a reader of file f, or 0
 pub record Seat (readers : List Reader) (f n r : ℕ) : Type 0 where
   pub high : r ≤ n
-  pub found : 0 < r → T (reads f (readerIn readers (r - 1)))
-  pub after : (j : ℕ) → r ≤ j → j < n → T (reads f (readerIn readers j)) → ⊥
+  pub found : 0 < r → T (readsFile f (readerIn readers (r - 1)))
+  pub after : (j : ℕ) → r ≤ j → j < n → T (readsFile f (readerIn readers j)) → ⊥
 
 -- `lastSeat` is that slot
 pub seat-is : (readers : List Reader) (f n : ℕ) → Seat readers f n (lastSeat readers f n)
 unfolding lastSeat
 seat-is readers f zero = record { high = omega arith; found = λ h. absurd (omega arith); after = λ j l u. absurd (omega arith) }
-seat-is readers f (suc n) = go (reads f (readerIn readers n)) refl (seat-is readers f n)
+seat-is readers f (suc n) = go (readsFile f (readerIn readers n)) refl (seat-is readers f n)
   where
-    go : (b : Bool) → reads f (readerIn readers n) ≡ b → Seat readers f n (lastSeat readers f n) → Seat readers f (suc n) (cond b (suc n) (lastSeat readers f n))
+    go : (b : Bool) → readsFile f (readerIn readers n) ≡ b → Seat readers f n (lastSeat readers f n) → Seat readers f (suc n) (cond b (suc n) (lastSeat readers f n))
     go true e t = let q : suc n - 1 ≡ n = omega arith in record { high = omega arith; found = λ h. rw (q, e) tt; after = λ j l u. absurd (omega arith) }
     go false e t = record { high = omega (arith, t .high); found = t .found; after = λ j l u h. by j l u h (decLt j n) }
       where
-        by : (j : ℕ) → lastSeat readers f n ≤ j → j < suc n → T (reads f (readerIn readers j)) → Dec (j < n) → ⊥
+        by : (j : ℕ) → lastSeat readers f n ≤ j → j < suc n → T (readsFile f (readerIn readers j)) → Dec (j < n) → ⊥
         by j l u h (yes g) = t .after j l g h
         by j l u h (no g) = let q : j ≡ n = omega arith in rw (q, e) at h
 
 -- one slot more
-seat-more : (readers : List Reader) (f n : ℕ) → lastSeat readers f (n + 1) ≡ cond (reads f (readerIn readers n)) (n + 1) (lastSeat readers f n)
+seat-more : (readers : List Reader) (f n : ℕ) → lastSeat readers f (n + 1) ≡ cond (readsFile f (readerIn readers n)) (n + 1) (lastSeat readers f n)
 unfolding lastSeat
 seat-more readers f n = rw (add-one n) refl
 

@@ -8,7 +8,7 @@ use native.Mathlib.Omega.{arith}
 use borrow.Author.Tests.{le-leb, lt-leb, lt-ltb}
 use lib.Dec.{leb}
 use Rattle.rules.specs.Readers.{readerAt}
-use Rattle.rules.specs.UseTimes.{before, steps, between, cut, sees, timeFor, seat, never, useFor}
+use Rattle.rules.specs.UseTimes.{before, steps, between, pruned, sees, timeFor, seat, never, useFor}
 use Rattle.rules.proofs.laws.Tests.{is-true}
 use Rattle.rules.specs.Ranks.{Before}
 use Rattle.rules.proofs.orders.LookAheads.{is-before}
@@ -35,9 +35,9 @@ module _ (s : State) (r : Reader) (k : ℕ) where
       rw (lt-leb (steps r k) (s .«look_ahead» / r .pace) l) (sym (none (before s r k)))
 
   -- T is above 0 and (q + 1) × T is above L: q is at least m
-  cut-off : 0 < s .«fetch_time» → s .«look_ahead» < (between s r k + 1) * s .«fetch_time» → sees s r k ≡ false
-  unfolding sees cut
-  cut-off t h =
+  pruned-off : 0 < s .«fetch_time» → s .«look_ahead» < (between s r k + 1) * s .«fetch_time» → sees s r k ≡ false
+  unfolding sees pruned
+  pruned-off t h =
       let m : ℕ = s .«look_ahead» / s .«fetch_time» in
       let l : m < between s r k + 1 = div-lt-iff-lt-mul t .1 h in
       rw (lt-ltb 0 (s .«fetch_time») t, le-leb m (between s r k) (omega arith)) (sym (none-of (before s r k) (leb (steps r k) (s .«look_ahead» / r .pace))))
@@ -47,13 +47,13 @@ module _ (s : State) (r : Reader) (k : ℕ) where
     within-K = le-leb (steps r k) (s .«look_ahead» / r .pace) (le-div-iff-mul-le w .1 near)
 
     -- T is 0
-    uncut : s .«fetch_time» ≡ 0 → sees s r k ≡ true
-    unfolding sees cut
-    uncut t = rw (is-true (before s r k) (is-before s r k b), within-K, t) refl
+    unpruned : s .«fetch_time» ≡ 0 → sees s r k ≡ true
+    unfolding sees pruned
+    unpruned t = rw (is-true (before s r k) (is-before s r k b), within-K, t) refl
 
     -- T is above 0 and (q + 1) × T at most L: q is below m
     few : 0 < s .«fetch_time» → (between s r k + 1) * s .«fetch_time» ≤ s .«look_ahead» → sees s r k ≡ true
-    unfolding sees cut
+    unfolding sees pruned
     few t h =
         let m : ℕ = s .«look_ahead» / s .«fetch_time» in
         let l : between s r k + 1 ≤ m = le-div-iff-mul-le t .1 h in
@@ -83,8 +83,8 @@ module _ (s : State) (k j low : ℕ) where
       go false = refl
 
   -- too many pages are missing
-  pub lower-cut : (q : ℕ) → q ≡ between s (readerAt s j) k → 0 < s .«fetch_time» → s .«look_ahead» < (q + 1) * s .«fetch_time» → low ≡ lower s k j low
-  lower-cut q e t h = unseen (cut-off s (readerAt s j) k t (subst (λ x. s .«look_ahead» < (x + 1) * s .«fetch_time») e h))
+  pub lower-pruned : (q : ℕ) → q ≡ between s (readerAt s j) k → 0 < s .«fetch_time» → s .«look_ahead» < (q + 1) * s .«fetch_time» → low ≡ lower s k j low
+  lower-pruned q e t h = unseen (pruned-off s (readerAt s j) k t (subst (λ x. s .«look_ahead» < (x + 1) * s .«fetch_time») e h))
 
   -- a number up to `never`
   pub lower-least : low ≤ never → lower s k j low ≡ min (useFor s k j) low
@@ -99,7 +99,7 @@ module _ (s : State) (k j low : ℕ) where
     -- no fetch takes time
     pub lower-free : s .«fetch_time» ≡ 0 → steps (readerAt s j) k * readerAt s j .pace * 16 + seat s j < low → steps (readerAt s j) k * readerAt s j .pace * 16 + seat s j ≡ lower s k j low
     unfolding useFor timeFor
-    lower-free t h = rw (uncut s (readerAt s j) k b w near t, t) (omega arith)
+    lower-free t h = rw (unpruned s (readerAt s j) k b w near t, t) (omega arith)
 
     -- the slot sees the page
     pub lower-seen : (q : ℕ) → q ≡ between s (readerAt s j) k → 0 < s .«fetch_time» → (q + 1) * s .«fetch_time» ≤ s .«look_ahead»

@@ -2,12 +2,10 @@
 use Prim.Native.Nat.{ℕ, _≤_, _<_}
 use mathlib.Core.List.{List, []}
 use mathlib.Core.Option.{Option, none, some}
-use lib.ListN.{getD}
 use lib.Dec.{T}
 use Rattle.rules.specs.Pages.{cached, Page}
-use Rattle.rules.specs.Readers.{noReader, attached}
+use Rattle.rules.specs.Readers.{readerIn, attached}
 use Rattle.rules.specs.Views.{stateOf}
-use Rattle.rules.specs.declared.Reader.{Reader}
 use Rattle.rules.specs.declared.View.{View}
 use Rattle.order.specs.declared.Choice.{Choice}
 use Rattle.order.specs.declared.Choice.the-variants.{Key, Nothing}
@@ -17,17 +15,13 @@ abbrev pub chosen : Choice → Option ℕ
 chosen (Key k) = some k
 chosen Nothing = none
 
--- the record of a slot
-abbrev pub slotOf : View → ℕ → Reader
-slotOf v slot = getD (v .readers) slot noReader
-
 -- the ranges that the searches rest on; every valid state has them
 pub record Ranged (v : View) : Type 0 where
   pub turn-high : v .turn < 16
   pub look-high : v .«look_ahead» ≤ 2000000
-  pub file-high : (slot : ℕ) → T (attached (slotOf v slot)) → slotOf v slot .file < 8
-  pub pace-low : (slot : ℕ) → T (attached (slotOf v slot)) → 1 ≤ slotOf v slot .pace
-  pub position-high : (slot : ℕ) → T (attached (slotOf v slot)) → slotOf v slot .position ≤ 1024
+  pub file-high : (slot : ℕ) → T (attached (readerIn (v .readers) slot)) → readerIn (v .readers) slot .file < 8
+  pub pace-low : (slot : ℕ) → T (attached (readerIn (v .readers) slot)) → 1 ≤ readerIn (v .readers) slot .pace
+  pub position-high : (slot : ℕ) → T (attached (readerIn (v .readers) slot)) → readerIn (v .readers) slot .position ≤ 1024
 
 -- each cached page is a page of its file
 abbrev pub Housed : View → List ℕ → Type 0

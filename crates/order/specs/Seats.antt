@@ -2,25 +2,17 @@
 -- definitions.
 use Prim.Native.Nat.{ℕ, zero, suc, _+_, _<_}
 use mathlib.Core.Path.{_≡_}
-use mathlib.Core.Bool.{Bool, cond, _&&_}
+use mathlib.Core.Bool.{cond}
 use mathlib.Core.List.{List}
 use lib.ListN.{getD, length}
-use lib.Dec.{T, eqb}
-use Rattle.rules.specs.Readers.{noReader, attached}
+use lib.Dec.{T}
+use Rattle.rules.specs.Readers.{readerIn, attached, readsFile}
 use Rattle.rules.specs.declared.Reader.{Reader}
-
--- the record of a slot
-abbrev pub readerIn : List Reader → ℕ → Reader
-readerIn readers j = getD readers j noReader
-
--- a reader of file f
-abbrev pub reads : ℕ → Reader → Bool
-reads f r = attached r && eqb (r .file) f
 
 -- the last one of the first n slots with a reader of file f, counted from 1; 0 where there is none
 unfoldable pub lastSeat : List Reader → ℕ → ℕ → ℕ
 lastSeat readers f zero = 0
-lastSeat readers f (suc n) = cond (reads f (readerIn readers n)) (suc n) (lastSeat readers f n)
+lastSeat readers f (suc n) = cond (readsFile f (readerIn readers n)) (suc n) (lastSeat readers f n)
 
 -- the array has the first n slots
 pub record Seated (readers : List Reader) (n : ℕ) (seats : List ℕ) : Type 0 where

@@ -11,14 +11,14 @@ ghost use lib.Dec.{T};
 ghost use Rattle.rules.specs.declared.State.{State};
 ghost use Rattle.rules.specs.Lists.{head};
 ghost use Rattle.rules.specs.Pages.{Page};
-ghost use Rattle.rules.specs.Readers.{attached};
+ghost use Rattle.rules.specs.Readers.{readerIn, attached};
 ghost use Rattle.rules.specs.Valid.{Valid};
 ghost use Rattle.rules.specs.UseTimes.{missing, useKey};
 ghost use Rattle.rules.specs.Orders.{fetchOrder, victim};
 ghost use Rattle.rules.specs.Ranks.{rank, Before};
 ghost use Rattle.rules.specs.Views.{stateOf};
-ghost use Rattle.order.specs.Choices.{chosen, slotOf, Ranged, Housed};
-ghost use Rattle.order.specs.Seats.{readerIn, Seated};
+ghost use Rattle.order.specs.Choices.{chosen, Ranged, Housed};
+ghost use Rattle.order.specs.Seats.{Seated};
 ghost use Rattle.order.specs.Absent.{nextAbsent};
 ghost use Rattle.order.specs.Searches.{lower, Over, Ranked, Raised, Soonest};
 
@@ -75,8 +75,8 @@ fn lowered(
 ) -> u64
     requires { ⌜ Ranged v ⌝ }
     requires { ⌜ (slot < 16) × (key < 8192) ⌝ }
-    requires { ⌜ (position ≡ slotOf v slot .position) × (pace ≡ slotOf v slot .pace) ⌝ }
-    requires { ⌜ Before (stateOf v [] []) (slotOf v slot) key ⌝ }
+    requires { ⌜ (position ≡ readerIn (v .readers) slot .position) × (pace ≡ readerIn (v .readers) slot .pace) ⌝ }
+    requires { ⌜ Before (stateOf v [] []) (readerIn (v .readers) slot) key ⌝ }
     ensures { λ r. ⌜ ((m : List ℕ) → r ≡ lower (stateOf v (now (cached .entry)) m) key slot low) ⌝ }
 {
     let from = position as usize;

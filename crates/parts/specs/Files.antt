@@ -2,12 +2,17 @@
 use Prim.Native.Nat.{ℕ, _≤_, _<_}
 use mathlib.Core.Bool.{Bool}
 use mathlib.Core.List.{List}
-use Rattle.rules.specs.Calls.{noFile, noPage, fresh}
+use Rattle.rules.specs.Calls.{noFile, noPage, fresh, withFetching}
+use Rattle.rules.specs.Views.{noPages}
 use Rattle.rules.specs.declared.State.{State}
 
--- a state with these sizes, which are all that the rules' tests of files and pages read
-abbrev pub sized : List ℕ → State
-sized sizes = fresh 1 1 0 sizes
+-- a state of these sizes and fetches: the rules' tests of files, pages and readers look at no more of it
+abbrev pub sizedWith : List ℕ → List ℕ → State
+sizedWith sizes fetching = withFetching (fresh 1 1 0 sizes) fetching
+
+-- of these sizes, whatever is in fetch
+abbrev sized : List ℕ → State
+sized sizes = sizedWith sizes noPages
 
 -- the rules' 3 and 8 by the sizes
 abbrev pub noFileIn : List ℕ → ℕ → Bool

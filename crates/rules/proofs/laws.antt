@@ -9,5 +9,5 @@ pub mod Sorts
 pub mod Numbered
 pub mod Counting
 pub mod Counts
-pub mod Parts
+pub mod Indexed
 pub mod Numbers

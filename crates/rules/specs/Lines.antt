@@ -62,9 +62,13 @@ unfoldable pub digitsOf : ℕ → ℕ → List ℕ
 digitsOf zero n = []
 digitsOf (suc more) n = cond (ltb n 10) [] (digitsOf more (n / 10)) ++ (ascii "0" + n % 10) ∷ []
 
--- a letter, then the numbers, each behind a comma; every number here has at most ten digits
+-- a number of an answer line, behind its comma; every number here has at most ten digits
+abbrev pub fieldOf : ℕ → List ℕ
+fieldOf n = ascii "," ∷ digitsOf 10 n
+
+-- a letter, then the numbers
 unfoldable pub lineOf : ℕ → List ℕ → List ℕ
-lineOf first numbers = first ∷ each (λ n. ascii "," ∷ digitsOf 10 n) numbers
+lineOf first numbers = first ∷ each fieldOf numbers
 
 -- what stands behind the letter: "E,number"; "H, W or F with file,page"; ".. S,file,page; I alone or with file,page; N,fetches,reads"
 abbrev pub numbersOf : Answer → List ℕ
@@ -83,9 +87,13 @@ numbersOf (Ran fetches reads) = fetches ∷ reads ∷ []
 abbrev pub answerLine : Answer → List ℕ
 answerLine a = lineOf (letter a) (numbersOf a)
 
+-- a key as the numbers of its file and its page
+abbrev pub pairOf : ℕ → List ℕ
+pairOf k = fileOf k ∷ pageOf k ∷ []
+
 -- "L or Q with count and file,page pairs"
 abbrev pub orderLine : ℕ → List ℕ → List ℕ
-orderLine first keys = lineOf first (length keys ∷ each (λ k. fileOf k ∷ pageOf k ∷ []) keys)
+orderLine first keys = lineOf first (length keys ∷ each pairOf keys)
 
 -- "C with count and low,high pairs"
 abbrev pub clustersLine : List ℕ → List ℕ

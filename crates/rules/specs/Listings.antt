@@ -9,17 +9,17 @@ use Rattle.rules.specs.Orders.{stealOrder, fetchOrder}
 use Rattle.rules.specs.Calls.{noFile}
 use Rattle.rules.specs.declared.State.{State}
 use Rattle.rules.specs.declared.Listing.{Listing}
-use Rattle.rules.specs.declared.Listing.the-variants.{Count, Declined}
+use Rattle.rules.specs.declared.Listing.the-variants.{Count, Refused}
 
 -- "The count of keys, or of clusters .., is returned": 0 where the call is refused
 abbrev pub countIn : Listing → ℕ
 countIn (Count n) = n
-countIn (Declined number) = 0
+countIn (Refused number) = 0
 
 -- the refusal's number; 0, which none has, where the call is carried out
 abbrev pub refusalIn : Listing → ℕ
 refusalIn (Count n) = 0
-refusalIn (Declined number) = number
+refusalIn (Refused number) = number
 
 -- the answer, and the lent list after the call
 pub record Written : Type 0 where
@@ -29,7 +29,7 @@ pub record Written : Type 0 where
 -- 12: list too short; "Past what is written the list is unchanged. The count .. is returned"
 unfoldable pub listed : List ℕ → ℕ → List ℕ → Written
 listed numbers count lent =
-    cond (ltb (length lent) (length numbers)) (record { answer = Declined 12; list = lent })
+    cond (ltb (length lent) (length numbers)) (record { answer = Refused 12; list = lent })
     (record { answer = Count count; list = numbers ++ drop (length numbers) lent })
 
 unfoldable pub stealListOf : State → List ℕ → Written
@@ -41,5 +41,5 @@ fetchListOf s lent = listed (fetchOrder s) (length (fetchOrder s)) lent
 -- 3; "low and high page by rising page", the count "of clusters (two numbers each)"
 unfoldable pub clustersOf : State → ℕ → List ℕ → Written
 clustersOf s file lent =
-    cond (noFile s file) (record { answer = Declined 3; list = lent })
+    cond (noFile s file) (record { answer = Refused 3; list = lent })
     (listed (clusters s file) (length (clusters s file) / 2) lent)

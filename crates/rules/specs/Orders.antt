@@ -28,9 +28,13 @@ useTime s = falling (useKey s) (only (λ k. cached s k && seen s k) (pages s))
 unfoldable pub stealOrder : State → List ℕ
 stealOrder s = behindLast s ++ (notSeen s ++ useTime s)
 
+-- neither cached nor in fetch
+abbrev pub absent : State → ℕ → Bool
+absent s k = not (cached s k) && not (inFetch s k)
+
 -- in a look-ahead, and neither cached nor in fetch
 abbrev pub wanted : State → ℕ → Bool
-wanted s k = seen s k && (not (cached s k) && not (inFetch s k))
+wanted s k = seen s k && absent s k
 
 -- "The fetch order is the pages in a look-ahead that are neither cached nor in fetch, smaller use key first"
 unfoldable pub fetchOrder : State → List ℕ

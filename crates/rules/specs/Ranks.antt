@@ -8,7 +8,7 @@ use Rattle.bits.specs.Map.{lastBit}
 use Rattle.rules.specs.Pages.{fileOf, pageOf, keyOf, cached, inFetch}
 use Rattle.rules.specs.Readers.{readerAt, attached, lastPage}
 use Rattle.rules.specs.UseTimes.{before, sees, never, useFor, useKey, ahead, seen}
-use Rattle.rules.specs.Orders.{place}
+use Rattle.rules.specs.Orders.{place, absent}
 use Rattle.rules.specs.declared.State.{State}
 use Rattle.rules.specs.declared.Reader.{Reader}
 
@@ -40,10 +40,6 @@ abbrev pub AtMost : State → ℕ → ℕ → ℕ → Type 0
 AtMost s b f n = 0 < lastCached s f n → rank s (keyOf f (lastCached s f n)) ≤ b
 
 -- ---- the fetch order
-
--- neither cached nor in fetch
-abbrev pub absent : State → ℕ → Bool
-absent s k = not (cached s k) && not (inFetch s k)
 
 -- k is the first absent page that the reader has before it
 pub record FirstAbsent (s : State) (r : Reader) (k : ℕ) : Type 0 where

@@ -3,7 +3,7 @@ use Prim.Native.Nat.{ℕ, _+_}
 use mathlib.Core.Bool.{Bool, true, false, _&&_}
 use mathlib.Core.List.{List}
 use lib.ListN.{getD}
-use lib.Dec.{ltb}
+use lib.Dec.{ltb, eqb}
 use Rattle.rules.specs.Pages.{keyOf, inFetch}
 use Rattle.rules.specs.declared.State.{State}
 use Rattle.rules.specs.declared.Reader.{Reader}
@@ -15,8 +15,11 @@ abbrev pub noReader : Reader
 noReader = record { condition = Empty; file = 0; pace = 0; position = 0 }
 
 -- the record of a slot
+abbrev pub readerIn : List Reader → ℕ → Reader
+readerIn readers slot = getD readers slot noReader
+
 abbrev pub readerAt : State → ℕ → Reader
-readerAt s slot = getD (s .readers) slot noReader
+readerAt s = readerIn (s .readers)
 
 -- "A reader's record holds its condition: empty, running, or waiting"
 abbrev pub byCondition : {A : Type 0} → Condition → A → A → A → A
@@ -27,6 +30,10 @@ byCondition Waiting a b c = c
 -- "A reader is attached if its slot is not empty"
 abbrev pub attached : Reader → Bool
 attached r = byCondition (r .condition) false true true
+
+-- a reader of file f
+abbrev pub readsFile : ℕ → Reader → Bool
+readsFile f r = attached r && eqb (r .file) f
 
 -- the page at which the reader is at its end: its file's size
 abbrev pub lastPage : List ℕ → Reader → ℕ

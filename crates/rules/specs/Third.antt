@@ -3,10 +3,10 @@ use Prim.Native.Nat.{ℕ, zero, suc, _+_, _*_, _%_, _≤_}
 use mathlib.Core.Path.{_≡_}
 use mathlib.Core.Bool.{Bool, false, not, cond, _&&_}
 use mathlib.Core.List.{List, [], _∷_, _++_}
-use lib.ListN.{getD, set, length}
+use lib.ListN.{set, length}
 use lib.Dec.{T, eqb}
 use Rattle.rules.specs.Pages.{cached}
-use Rattle.rules.specs.Readers.{noReader, readerAt, attached, lastPage, nextKey, onward}
+use Rattle.rules.specs.Readers.{readerIn, readerAt, attached, lastPage, nextKey, onward}
 use Rattle.rules.specs.Valid.{Valid}
 use Rattle.rules.specs.Run.{turnOf, fetchOpen}
 use Rattle.rules.specs.Schedules.{Set, Serves, fetchesIn}
@@ -35,13 +35,13 @@ goes sizes r = attached r && not (eqb (r .position) (lastPage sizes r))
 -- "its position grows by 1"
 abbrev pub movedOn : List ℕ → List Reader → ℕ → List Reader
 movedOn sizes readers turn =
-    cond (goes sizes (getD readers turn noReader)) (set readers turn (onward (getD readers turn noReader))) readers
+    cond (goes sizes (readerIn readers turn)) (set readers turn (onward (readerIn readers turn))) readers
 
 -- "and the page of that number in its file goes to the end of the list; otherwise nothing does. Then the turn grows by 1 modulo 16"
 unfoldable pub laidDown : ℕ → List ℕ → List Reader → ℕ → List ℕ
 laidDown zero sizes readers turn = []
 laidDown (suc n) sizes readers turn =
-    cond (goes sizes (getD readers turn noReader)) (nextKey (getD readers turn noReader) ∷ []) []
+    cond (goes sizes (readerIn readers turn)) (nextKey (readerIn readers turn) ∷ []) []
     ++ laidDown n sizes (movedOn sizes readers turn) ((turn + 1) % 16)
 
 abbrev pub laid : ℕ → State → List ℕ

@@ -30,12 +30,12 @@ abbrev pub between : State → Reader → ℕ → ℕ
 between s r k = missing s (r .file) (r .position) (steps r k - 1)
 
 -- "T is above 0 and the pages .. hold at least m not cached, m being L divided by T, rounded down"
-unfoldable pub cut : State → ℕ → Bool
-cut s q = ltb 0 (s .«fetch_time») && leb (s .«look_ahead» / s .«fetch_time») q
+unfoldable pub pruned : State → ℕ → Bool
+pruned s q = ltb 0 (s .«fetch_time») && leb (s .«look_ahead» / s .«fetch_time») q
 
--- page k is in the reader's look-ahead: j from 1 to K, K being L divided by w, rounded down; c + j at most the last page; not cut
+-- page k is in the reader's look-ahead: j from 1 to K, K being L divided by w, rounded down; c + j at most the last page; not pruned
 unfoldable pub sees : State → Reader → ℕ → Bool
-sees s r k = before s r k && (leb (steps r k) (s .«look_ahead» / r .pace) && not (cut s (between s r k)))
+sees s r k = before s r k && (leb (steps r k) (s .«look_ahead» / r .pace) && not (pruned s (between s r k)))
 
 -- "Its time for that reader is j × w + q × T"
 unfoldable pub timeFor : State → Reader → ℕ → ℕ

@@ -55,7 +55,7 @@ pub enum Answer {
 // What a call that writes into a lent list answers: the count, or the refusal's number.
 pub enum Listing {
     Count(u16),
-    Declined(u8),
+    Refused(u8),
 }
 
 // What a call gives by the rules: the state after it and the answer. A type of the rules: no function passes it.

@@ -23,7 +23,7 @@ use Rattle.rules.proofs.laws.Cases.{cond-all, cond-yes, cond-no, fetch-all, out
 use Rattle.rules.proofs.calls.Kept.{read-kept, arrive-kept, turn-kept}
 use Rattle.rules.proofs.third.Optimal.{third-of}
 use Rattle.calls.proofs.Frames.{pages-ones}
-use Rattle.run.specs.Told.{Told, told, turned, Single}
+use Rattle.run.specs.Tallies.{Tally, tally, turned, Single}
 use Rattle.run.specs.declared.Turned.{Turned}
 use Rattle.run.proofs.Answers.{NoFetch, not-fetch, is-fetch, one-hit}
 
@@ -51,19 +51,19 @@ turn-reads s l = go (readerAt s (s .turn) .condition) refl
 
 module _ (s : State) (v : Valid s) (r : Reply) (e : r ≡ readOf s (s .turn)) where
   -- Read's answer is no F, and ends the turn
-  pub turn-else : (q : Told) → NoFetch (r .answer) → q ≡ told (ended 0 r) → q ≡ told (turnOf s)
+  pub turn-else : (q : Tally) → NoFetch (r .answer) → q ≡ tally (ended 0 r) → q ≡ tally (turnOf s)
   unfolding readTurn
   turn-else q k h =
       let t : ended 0 r ≡ readTurn s = rw (← e) (not-fetch (r .answer) _ _ k) in
-      h ∙ ap told (t ∙ turn-reads s (v .turn-high))
+      h ∙ ap tally (t ∙ turn-reads s (v .turn-high))
 
   -- it is F: Arrive of that page and Read again
-  pub turn-fetch : (file page : ℕ) (m again : Reply) (q : Told) → r .answer ≡ Fetch file page → m ≡ arriveOf (r .state) file page → again ≡ readOf (m .state) (s .turn)
-      → q ≡ told (ended 1 again) → q ≡ told (turnOf s)
+  pub turn-fetch : (file page : ℕ) (m again : Reply) (q : Tally) → r .answer ≡ Fetch file page → m ≡ arriveOf (r .state) file page → again ≡ readOf (m .state) (s .turn)
+      → q ≡ tally (ended 1 again) → q ≡ tally (turnOf s)
   unfolding readTurn
   turn-fetch file page m again q k a b h =
       let t : ended 1 again ≡ readTurn s = rw (b, a, ← e) (is-fetch (r .answer) file page _ _ _ k refl) in
-      h ∙ ap told (t ∙ turn-reads s (v .turn-high))
+      h ∙ ap tally (t ∙ turn-reads s (v .turn-high))
 
 -- ---- the states of a turn are valid
 
@@ -76,14 +76,14 @@ pub arrive-valid : (s : State) → Valid s → (file page : ℕ) (r : Reply) →
 arrive-valid s v file page r e = rw e (arrive-kept s file page v)
 
 -- after the turn
-pub turn-valid : (s : State) → Valid s → (t : Told) → t ≡ told (turnOf s) → Valid (t .after)
+pub turn-valid : (s : State) → Valid s → (t : Tally) → t ≡ tally (turnOf s) → Valid (t .after)
 turn-valid s v t e = rw e (turn-kept s v)
 
 -- a turn meets F once at most, and ends in one H at most
-abbrev OneOfEach : Told → Type 0
+abbrev OneOfEach : Tally → Type 0
 OneOfEach t = (t .fetched ≤ 1) × (t .read ≤ 1)
 
-turn-single : (s : State) → OneOfEach (told (turnOf s))
+turn-single : (s : State) → OneOfEach (tally (turnOf s))
 unfolding turnOf readTurn
 turn-single s =
     cond-all One (attached (readerAt s (s .turn))) _ _
@@ -93,11 +93,11 @@ turn-single s =
     (λ _. (omega arith, omega arith))
   where
     One : Turn → Type 0
-    One t = OneOfEach (told t)
+    One t = OneOfEach (tally t)
 
 -- what holds of a turn that is the rule's
-pub and-single : (s : State) (r : Turned) (cached fetching : List ℕ) → turned r cached fetching ≡ told (turnOf s)
-    → (turned r cached fetching ≡ told (turnOf s)) × Single r
+pub and-single : (s : State) (r : Turned) (cached fetching : List ℕ) → turned r cached fetching ≡ tally (turnOf s)
+    → (turned r cached fetching ≡ tally (turnOf s)) × Single r
 and-single s r cached fetching e = (e, subst OneOfEach (sym e) (turn-single s))
 
 -- ---- the turns so far
@@ -127,7 +127,7 @@ unfolding turnsOf
 turns-none s = refl
 
 -- one more
-pub turns-more : (s t : State) (fetches reads i : ℕ) (r : Told) → soFar t fetches reads ≡ turnsOf i s → r ≡ told (turnOf t)
+pub turns-more : (s t : State) (fetches reads i : ℕ) (r : Tally) → soFar t fetches reads ≡ turnsOf i s → r ≡ tally (turnOf t)
     → soFar (r .after) (fetches + r .fetched) (reads + r .read) ≡ turnsOf (i + 1) s
 turns-more s t fetches reads i r e h = rw (add-one i, turns-last i s, ← e, h)
 

@@ -1,2 +1,2 @@
 -- What the contracts of Run speak of beside the rules.
-pub mod Told
+pub mod Tallies

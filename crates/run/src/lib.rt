@@ -12,7 +12,7 @@ ghost use Rattle.rules.specs.Valid.{Valid};
 ghost use Rattle.rules.specs.Calls.{reply};
 ghost use Rattle.rules.specs.Run.{hitPage, ended, turnOf, runOf};
 ghost use Rattle.rules.specs.Third.{ThirdStatement};
-ghost use Rattle.run.specs.Told.{told, turned, Single};
+ghost use Rattle.run.specs.Tallies.{tally, turned, Single};
 
 // A turn: the view after it, 1 if it met F, and 1 if it ended in H.
 pub struct Turned {
@@ -34,7 +34,7 @@ fn hits(answer: Answer) -> u16
 // The end of a turn: the turn grows by 1 modulo 16.
 fn end_turn(mut v: View, answer: Answer, fetched: u16) -> Turned
     requires { ⌜ v .turn < 16 ⌝ }
-    ensures { λ r. ⌜ ((c f : List ℕ) → turned r c f ≡ told (ended fetched (reply (stateOf v c f) answer))) ⌝ }
+    ensures { λ r. ⌜ ((c f : List ℕ) → turned r c f ≡ tally (ended fetched (reply (stateOf v c f) answer))) ⌝ }
 {
     v.turn = (v.turn + 1) % 16;
     Turned {
@@ -47,7 +47,7 @@ fn end_turn(mut v: View, answer: Answer, fetched: u16) -> Turned
 // One turn. Read refuses an empty slot and changes nothing, so the slot is not looked at before.
 fn turn(v: View, cached: &mut [u64; 128], fetching: &mut [u64; 128]) -> Turned
     requires { ⌜ Valid (stateOf v (now cached) (now fetching)) ⌝ }
-    ensures { λ r. ⌜ turned r (now (cached .exit)) (now (fetching .exit)) ≡ told (turnOf (stateOf v (now (cached .entry)) (now (fetching .entry)))) ⌝ }
+    ensures { λ r. ⌜ turned r (now (cached .exit)) (now (fetching .exit)) ≡ tally (turnOf (stateOf v (now (cached .entry)) (now (fetching .entry)))) ⌝ }
     ensures single { λ r. ⌜ Single r ⌝ }
 {
     let slot = v.turn as u64;

@@ -19,8 +19,8 @@ use Rattle.text.specs.Written.{Put}
 -- bytes put behind bytes
 pub put-more : (l m out : List ℕ) (at i j : ℕ) (xs ys : List ℕ) → Put l at xs m i → Put m i ys out j → at + length xs + length ys ≤ length l → Put l at (xs ++ ys) out j
 put-more l m out at i j xs ys p q h =
-    let place : j ≡ at + length (xs ++ ys) = rw length-append (omega (arith, p .place, q .place)) in
-    record { buffer = q .buffer ∙ rw (p .place, p .buffer) (written-more l at xs ys h); place = place }
+    let place : j ≡ at + length (xs ++ ys) = rw length-append (omega (arith, p .next-is, q .next-is)) in
+    record { buffer = q .buffer ∙ rw (p .next-is, p .buffer) (written-more l at xs ys h); next-is = place }
 
 -- ---- the digits of a number
 
@@ -89,33 +89,33 @@ pub record Back (l : List ℕ) (n end left i : ℕ) (out : List ℕ) : Type 0 wh
   pub tail : List ℕ
   pub digits : Left n left tail
   pub buffer : out ≡ written l (i + 1) tail
-  pub place : i + 1 + length tail ≡ end
+  pub next-is : i + 1 + length tail ≡ end
   pub same : length out ≡ length l
 
 -- nothing is written
 pub back-start : (l : List ℕ) (n end i : ℕ) → n < 10000000000 → i + 1 ≡ end → Back l n end n i l
 back-start l n end i h e =
     let place : i + 1 + 0 ≡ end = omega arith in
-    record { tail = []; digits = left-all n h; buffer = written-none l (i + 1); place = place; same = refl }
+    record { tail = []; digits = left-all n h; buffer = written-none l (i + 1); next-is = place; same = refl }
 
 module _ (l : List ℕ) (n end left i : ℕ) (out : List ℕ) (b : Back l n end left i out) where
   write : (x : ℕ) → end ≤ length l → set out i x ≡ written l i (x ∷ b .tail)
-  write x h = rw (b .buffer) (written-front l i x (b .tail) (omega (arith, b .place)))
+  write x h = rw (b .buffer) (written-front l i x (b .tail) (omega (arith, b .next-is)))
 
   -- there is a place before
   pub back-room : 10 ≤ left → length (digitsOf 10 n) ≤ end → 1 ≤ i
-  back-room h k = omega (arith, left-some n (left / 10) _ (left-less n left (b .tail) (b .digits) h), b .place)
+  back-room h k = omega (arith, left-some n (left / 10) _ (left-less n left (b .tail) (b .digits) h), b .next-is)
 
   -- one digit more
   pub back-step : 10 ≤ left → end ≤ length l → 1 ≤ i → Back l n end (left / 10) (i - 1) (set out i (ascii "0" + left % 10))
   back-step h k r =
       let j : i - 1 + 1 ≡ i = omega arith in
-      let place : i - 1 + 1 + suc (length (b .tail)) ≡ end = omega (arith, b .place) in
+      let place : i - 1 + 1 + suc (length (b .tail)) ≡ end = omega (arith, b .next-is) in
       record {
         tail = (ascii "0" + left % 10) ∷ b .tail;
         digits = left-less n left (b .tail) (b .digits) h;
         buffer = rw j (write (ascii "0" + left % 10) k);
-        place = place;
+        next-is = place;
         same = length-set out i (ascii "0" + left % 10) ∙ b .same;
       }
 
@@ -123,5 +123,5 @@ module _ (l : List ℕ) (n end left i : ℕ) (out : List ℕ) (b : Back l n end 
   pub back-end : (at : ℕ) → left < 10 → end ≤ length l → end ≡ at + length (digitsOf 10 n) → Put l at (digitsOf 10 n) (set out i (ascii "0" + left)) end
   back-end at h k e =
       let d = left-last n left (b .tail) (b .digits) h in
-      let j : i ≡ at = omega (arith, b .place, ap length d) in
-      record { buffer = write (ascii "0" + left) k ∙ rw (d, j); place = e }
+      let j : i ≡ at = omega (arith, b .next-is, ap length d) in
+      record { buffer = write (ascii "0" + left) k ∙ rw (d, j); next-is = e }

@@ -15,7 +15,11 @@ lineIn = firstPiece (ascii "\n")
 abbrev pub endOf : List ℕ → ℕ → ℕ
 endOf chunk from = from + length (lineIn (drop from chunk))
 
--- a text that is too long for a line: any one stands for all, since each gets 14
+-- the bytes of a text's buffer: one that says how many follow, and at most 200 of a line
+abbrev pub textRoom : ℕ
+textRoom = 201
+
+-- a text of more than 200 bytes is too long for a line: any one stands for all, since each gets 14
 abbrev pub tooLong : List ℕ
 tooLong = replicate 201 0
 

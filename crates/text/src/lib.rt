@@ -4,10 +4,10 @@ ghost use mathlib.Core.List.{[], _∷_, _++_};
 ghost use Prim.Native.Nat.{_+_, _<_, _≤_};
 ghost use lib.ListN.{length};
 ghost use lib.Seq.{slice};
-ghost use Rattle.rules.specs.Lines.{digitsOf};
+ghost use Rattle.rules.specs.Lines.{digitsOf, fieldOf};
 ghost use Rattle.text.specs.Commands.{grownBy, Digits, fieldFrom, fieldAt, startsWell, noCommand, commandOf};
 ghost use Rattle.rules.specs.Lists.{written};
-ghost use Rattle.text.specs.Written.{fieldOf, Put};
+ghost use Rattle.text.specs.Written.{Put};
 ghost use Rattle.text.specs.Cuts.{endOf, textIn, kept};
 
 // ---- a line taken apart

@@ -26,8 +26,8 @@ returns-3 : tie.Need-returns-3
 unfolding settingsIn
 returns-3 c = search tests depth 12
 
-sizes-in-requires : tie.Need-sizes-in-requires
-sizes-in-requires c κs = search needs
+sizes-within-requires : tie.Need-sizes-within-requires
+sizes-within-requires c κs = search needs
 
 returns-4 : tie.Need-returns-4
 unfolding settingsIn
@@ -43,5 +43,5 @@ settings-in-spec =
     returns-2
     within-requires-3
     returns-3
-    sizes-in-requires
+    sizes-within-requires
     returns-4)

@@ -7,15 +7,14 @@ use native.Mathlib.Omega.{arith}
 use borrow.Author.Needs.{needs}
 use lib.Dec.{T, eqb→eq}
 use lib.ListN.{getD}
-use Rattle.rules.specs.Readers.{readerAt, attached}
+use Rattle.rules.specs.Readers.{readerAt, attached, readerIn, readsFile}
 use Rattle.rules.specs.UseTimes.{before, never}
 use Rattle.rules.proofs.laws.Tests.{and-first, and-second}
 use Rattle.rules.specs.Ranks.{Before}
 use Rattle.rules.proofs.orders.LookAheads.{before-is, is-before}
 use Rattle.rules.specs.declared.Reader.{Reader}
 use Rattle.rules.specs.Views.{stateOf}
-use Rattle.order.specs.Choices.{slotOf}
-use Rattle.order.specs.Seats.{reads, lastSeat}
+use Rattle.order.specs.Seats.{lastSeat}
 use Rattle.order.specs.Searches.{lower}
 use Rattle.order.proofs.Seating.{seat-is}
 use Rattle.order.proofs.Slots.{before-any}
@@ -28,7 +27,7 @@ Inv-loop v seats cached key floor page place top₀ at₀ top at =
     (page ≡ key % 1024 + 1)
     × (place ≡ page * 8 + key / 1024)
     × (at ≤ 16)
-    × (0 < at → T (reads (key / 1024) (slotOf v (at - 1))))
+    × (0 < at → T (readsFile (key / 1024) (readerIn (v .readers) (at - 1))))
     × ((m : List ℕ) → Swept (stateOf v cached m) key at top)
 
 abbrev μ-loop : tie.MeasureT-loop
@@ -45,13 +44,13 @@ abbrev slot : tie.After-position Inv-loop μ-loop → ℕ
 slot c = turn c .loop .at - 1
 
 abbrev reader : tie.After-position Inv-loop μ-loop → Reader
-reader c = slotOf (start c .args .v) (slot c)
+reader c = readerIn (start c .args .v .readers) (slot c)
 
 low : (c : tie.After-position Inv-loop μ-loop) → slot c < 16
 low c = omega (arith, turn c .loop .inv .2, c .before .loop-test .taken)
 
 -- it has a reader of the page's file
-sits : (c : tie.After-position Inv-loop μ-loop) → T (reads (start c .args .key / 1024) (reader c))
+sits : (c : tie.After-position Inv-loop μ-loop) → T (readsFile (start c .args .key / 1024) (reader c))
 sits c = turn c .loop .inv .3 (omega (arith, c .before .loop-test .taken))
 
 here : (c : tie.After-position Inv-loop μ-loop) → T (attached (reader c))

@@ -6,7 +6,7 @@ use native.Mathlib.Omega.{arith}
 use borrow.Author.Needs.{needs}
 use borrow.Author.Tests.{not-true, not-false}
 use lib.Dec.{T}
-use Rattle.rules.specs.Readers.{attached, lastPage}
+use Rattle.rules.specs.Readers.{attached, lastPage, readerIn}
 use Rattle.rules.specs.Valid.{Placed}
 use Rattle.rules.proofs.laws.Cases.{passed, failed}
 use Rattle.rules.proofs.calls.Valids.{placed-at}
@@ -16,7 +16,6 @@ use Rattle.rules.proofs.orders.Candidates.{absent-least}
 use Rattle.rules.specs.declared.State.{State}
 use Rattle.rules.specs.declared.Reader.{Reader}
 use Rattle.rules.specs.Views.{stateOf}
-use Rattle.order.specs.Choices.{slotOf}
 use Rattle.order.specs.Absent.{nextAbsent}
 use Rattle.order.proofs.Ranges.{valid-ranged}
 use Rattle.order.proofs.Slots.{before-any, lower-least}
@@ -28,15 +27,15 @@ abbrev at : tie.Start → State
 at c = stateOf (c .args .t1) (c .args .cached .now) (c .args .fetching .now)
 
 -- the slot has a reader
-here : (c : tie.Else1) → T (attached (slotOf (c .before .before .before .args .t1) (c .before .before .before .args .slot)))
+here : (c : tie.Else1) → T (attached (readerIn (c .before .before .before .args .t1 .readers) (c .before .before .before .args .slot)))
 here c = passed _ (sym (c .before .is-attached .ensures) ∙ not-false _ (c .if1 .left))
 
-placed : (c : tie.Else1) → Placed (at (c .before .before .before)) (slotOf (c .before .before .before .args .t1) (c .before .before .before .args .slot))
+placed : (c : tie.Else1) → Placed (at (c .before .before .before)) (readerIn (c .before .before .before .args .t1 .readers) (c .before .before .before .args .slot))
 placed c = let s = c .before .before .before in placed-at (at s) (s .pre .0) (s .args .slot) (here c)
 
 -- its last page
-last-high : (c : tie.Else1) → lastPage (c .before .before .before .args .t1 .sizes) (slotOf (c .before .before .before .args .t1) (c .before .before .before .args .slot)) ≤ 1024
-last-high c = let s = c .before .before .before in s .pre .0 .sizes-high (slotOf (s .args .t1) (s .args .slot) .file)
+last-high : (c : tie.Else1) → lastPage (c .before .before .before .args .t1 .sizes) (readerIn (c .before .before .before .args .t1 .readers) (c .before .before .before .args .slot)) ≤ 1024
+last-high c = let s = c .before .before .before in s .pre .0 .sizes-high (readerIn (s .args .t1 .readers) (s .args .slot) .file)
 
 -- the places, back from where the last page is known
 abbrev attached-at : tie.After-last-page → tie.Else1
@@ -46,7 +45,7 @@ abbrev start : tie.After-last-page → tie.Start
 start c = attached-at c .before .before .before
 
 abbrev reader : tie.After-last-page → Reader
-reader c = slotOf (start c .args .t1) (start c .args .slot)
+reader c = readerIn (start c .args .t1 .readers) (start c .args .slot)
 
 -- where the search for an absent page ended
 found : (c : tie.After-next-absent)

@@ -7,11 +7,10 @@ use Prim.Native.Nat.{ℕ, _+_, _-_, _≤_, _<_}
 use native.Mathlib.Omega.{arith}
 use borrow.Author.Needs.{needs}
 use lib.Dec.{T}
-use Rattle.rules.specs.Readers.{attached}
+use Rattle.rules.specs.Readers.{attached, readerIn}
 use Rattle.rules.proofs.laws.Tests.{is-true}
 use Rattle.rules.specs.declared.State.{State}
 use Rattle.rules.specs.Views.{stateOf}
-use Rattle.order.specs.Choices.{slotOf}
 use Rattle.order.specs.Seats.{Seated}
 use Rattle.order.specs.Searches.{Highest}
 use Rattle.order.proofs.Ranges.{valid-ranged, valid-file, valid-behind, valid-housed}
@@ -37,7 +36,7 @@ number c = c .before .before .loop .i - 1
 
 -- which candidate it is
 picked : (c : tie.Joined1 Inv-loop μ-loop)
-    → ((8 ≤ number c) × (c .if1 .file ≡ slotOf (start c .args .t1) (number c - 8) .file) × (c .if1 .n ≡ cond (attached (slotOf (start c .args .t1) (number c - 8))) (slotOf (start c .args .t1) (number c - 8) .position) 0))
+    → ((8 ≤ number c) × (c .if1 .file ≡ readerIn (start c .args .t1 .readers) (number c - 8) .file) × (c .if1 .n ≡ cond (attached (readerIn (start c .args .t1 .readers) (number c - 8))) (readerIn (start c .args .t1 .readers) (number c - 8) .position) 0))
     ⊎ ((number c < 8) × (c .if1 .file ≡ number c) × (c .if1 .n ≡ 1024))
 picked c = ⊎-elim (λ w. inl (w .0 .taken, w .4, w .5 ∙ w .3 .ensures)) (λ w. inr (omega (arith, w .0 .left), w .1, w .2)) (c .if1 .came)
 
@@ -55,11 +54,11 @@ of-file : (c : tie.Joined1 Inv-loop μ-loop) → number c < 8 → (c .if1 .file 
 of-file c l = ⊎-elim (λ w. absurd (omega (arith, w .0))) (λ w. (w .1, w .2)) (picked c)
 
 -- or a slot's
-of-slot : (c : tie.Joined1 Inv-loop μ-loop) (j : ℕ) → number c ≡ 8 + j → T (attached (slotOf (start c .args .t1) j)) → (c .if1 .file ≡ slotOf (start c .args .t1) j .file) × (c .if1 .n ≡ slotOf (start c .args .t1) j .position)
+of-slot : (c : tie.Joined1 Inv-loop μ-loop) (j : ℕ) → number c ≡ 8 + j → T (attached (readerIn (start c .args .t1 .readers) j)) → (c .if1 .file ≡ readerIn (start c .args .t1 .readers) j .file) × (c .if1 .n ≡ readerIn (start c .args .t1 .readers) j .position)
 of-slot c j e h =
     let q : number c - 8 ≡ j = omega arith in
     ⊎-elim
-    (λ w. (rw q at (w .1), rw (q, is-true (attached (slotOf (start c .args .t1) j)) h) at (w .2)))
+    (λ w. (rw q at (w .1), rw (q, is-true (attached (readerIn (start c .args .t1 .readers) j)) h) at (w .2)))
     (λ w. absurd (omega (arith, w .0)))
     (picked c)
 

@@ -14,44 +14,44 @@ use Rattle.rules.proofs.laws.Tests.{key}
 use Rattle.rules.proofs.laws.Cases.{cond-all, condition-all, option-all, for-fetch-all}
 
 -- n is a member of the list
-abbrev pub among : List ℕ → ℕ → Bool
-among [] n = false
-among (m ∷ ms) n = eqb n m || among ms n
+abbrev pub member : List ℕ → ℕ → Bool
+member [] n = false
+member (m ∷ ms) n = eqb n m || member ms n
 
 -- the numbers with which a call is refused, in their order
-abbrev pub numbers : Call → List ℕ
-numbers (attach slot file pace) = 2 ∷ 3 ∷ 4 ∷ 5 ∷ []
-numbers (detach slot) = 2 ∷ 6 ∷ []
-numbers (read slot) = 2 ∷ 6 ∷ 7 ∷ []
-numbers (arrive file page) = 3 ∷ 8 ∷ 9 ∷ []
-numbers (lost file page) = 3 ∷ 8 ∷ 9 ∷ []
-numbers prefetch = []
-numbers steal = []
-numbers (run turns) = 11 ∷ 10 ∷ []
+abbrev pub refusalsOf : Call → List ℕ
+refusalsOf (attach slot file pace) = 2 ∷ 3 ∷ 4 ∷ 5 ∷ []
+refusalsOf (detach slot) = 2 ∷ 6 ∷ []
+refusalsOf (read slot) = 2 ∷ 6 ∷ 7 ∷ []
+refusalsOf (arrive file page) = 3 ∷ 8 ∷ 9 ∷ []
+refusalsOf (lost file page) = 3 ∷ 8 ∷ 9 ∷ []
+refusalsOf prefetch = []
+refusalsOf steal = []
+refusalsOf (run turns) = 11 ∷ 10 ∷ []
 
 -- a refusal gives the state s back, with a number of the list
 Fair : State → List ℕ → Reply → Type 0
-Fair s list r = (n : ℕ) → r .answer ≡ Refused n → (r .state ≡ s) × T (among list n)
+Fair s list r = (n : ℕ) → r .answer ≡ Refused n → (r .state ≡ s) × T (member list n)
 
-fair-refused : (s : State) (list : List ℕ) (number : ℕ) → T (among list number) → Fair s list (refused s number)
+fair-refused : (s : State) (list : List ℕ) (number : ℕ) → T (member list number) → Fair s list (refused s number)
 unfolding Fair
-fair-refused s list number h n e = (refl, let q : number ≡ n = cc in subst (λ m. T (among list m)) q h)
+fair-refused s list number h n e = (refl, let q : number ≡ n = cc in subst (λ m. T (member list m)) q h)
 
 fair-done : (s : State) (list : List ℕ) (r : Reply) → T (carriedOut (r .answer)) → Fair s list r
 unfolding Fair
 fair-done s list r h n e = absurd (subst (λ a. T (carriedOut a)) e h)
 
 -- every call refuses with one of its numbers, and then changes nothing
-fair : (c : Call) (s : State) → Fair s (numbers c) (callOf c s)
+fair : (c : Call) (s : State) → Fair s (refusalsOf c) (callOf c s)
 unfolding attachOf detachOf readOf readRunning arriveOf lostOf prefetchOf stealOf runOf
-fair (attach slot file pace) s = let F = Fair s (numbers (attach slot file pace)) in search (cond-all F, condition-all F, fair-refused, fair-done, tt) depth 12
-fair (detach slot) s = let F = Fair s (numbers (detach slot)) in search (cond-all F, condition-all F, fair-refused, fair-done, tt) depth 12
-fair (read slot) s = let F = Fair s (numbers (read slot)) in search (cond-all F, condition-all F, fair-refused, fair-done, tt) depth 12
-fair (arrive file page) s = let F = Fair s (numbers (arrive file page)) in search (for-fetch-all F, option-all (λ a. T (carriedOut a)), fair-refused, fair-done, tt) depth 12
-fair (lost file page) s = let F = Fair s (numbers (lost file page)) in search (for-fetch-all F, fair-refused, fair-done, tt) depth 12
+fair (attach slot file pace) s = let F = Fair s (refusalsOf (attach slot file pace)) in search (cond-all F, condition-all F, fair-refused, fair-done, tt) depth 12
+fair (detach slot) s = let F = Fair s (refusalsOf (detach slot)) in search (cond-all F, condition-all F, fair-refused, fair-done, tt) depth 12
+fair (read slot) s = let F = Fair s (refusalsOf (read slot)) in search (cond-all F, condition-all F, fair-refused, fair-done, tt) depth 12
+fair (arrive file page) s = let F = Fair s (refusalsOf (arrive file page)) in search (for-fetch-all F, option-all (λ a. T (carriedOut a)), fair-refused, fair-done, tt) depth 12
+fair (lost file page) s = let F = Fair s (refusalsOf (lost file page)) in search (for-fetch-all F, fair-refused, fair-done, tt) depth 12
 fair prefetch s = let F = Fair s [] in search (option-all F, fair-done, tt) depth 12
 fair steal s = let F = Fair s [] in search (option-all F, fair-done, tt) depth 12
-fair (run turns) s = let F = Fair s (numbers (run turns)) in search (cond-all F, fair-refused, fair-done, tt) depth 12
+fair (run turns) s = let F = Fair s (refusalsOf (run turns)) in search (cond-all F, fair-refused, fair-done, tt) depth 12
 
 -- a refused call gives the state back
 pub refused-same : (c : Call) (s : State) (n : ℕ) → callOf c s .answer ≡ Refused n → callOf c s .state ≡ s
@@ -59,7 +59,7 @@ unfolding Fair
 refused-same c s n e = fair c s n e .0
 
 -- the number is one of those listed for the call
-pub refusal-numbers : (c : Call) (s : State) (n : ℕ) → callOf c s .answer ≡ Refused n → T (among (numbers c) n)
+pub refusal-numbers : (c : Call) (s : State) (n : ℕ) → callOf c s .answer ≡ Refused n → T (member (refusalsOf c) n)
 unfolding Fair
 refusal-numbers c s n e = fair c s n e .1
 

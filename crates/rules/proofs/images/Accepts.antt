@@ -17,7 +17,7 @@ use Rattle.rules.specs.Calls.{settingsIn}
 use Rattle.rules.specs.Image.{readerNumber, readerFrom, stateFrom, readerPlaced, readerHolds, slotHolds, keyHolds, accepts}
 use Rattle.rules.proofs.laws.Tests.{less, key, and-both, and-first, and-second, or-left, or-right}
 use Rattle.rules.proofs.laws.Members.{range-in, range-at}
-use Rattle.rules.proofs.laws.Parts.{Always, always-take, always-drop, all-always, always-all, every-all, all-every}
+use Rattle.rules.proofs.laws.Indexed.{Always, always-take, always-drop, all-always, always-all, every-all, all-every}
 use Rattle.rules.proofs.images.Layouts.{condition-low, Lengths, valid-lengths, stateNumbers, slot-number, reader-numbers, gap-number, state-numbers, Table, lengths-from, reader-from}
 use Rattle.rules.specs.declared.State.{State}
 use Rattle.rules.specs.declared.Reader.{Reader}

@@ -8,7 +8,7 @@ use Rattle.rules.specs.Pages.{size}
 use Rattle.rules.specs.Readers.{noReader, readerAt}
 use Rattle.rules.specs.Valid.{ReaderIn, Valid}
 use Rattle.rules.specs.Image.{Field, field, readerFields, tail, layout}
-use Rattle.rules.proofs.laws.Parts.{Always, always-append, always-map, always-each}
+use Rattle.rules.proofs.laws.Indexed.{Always, always-append, always-map, always-each}
 use Rattle.rules.proofs.images.Tables.{Fit, Fits}
 use Rattle.rules.proofs.images.Layouts.{condition-low}
 use Rattle.rules.specs.declared.State.{State}

@@ -16,7 +16,7 @@ use Rattle.rules.specs.Calls.{reply, refused, idle}
 use Rattle.rules.specs.Image.{layout, imageLength, imageOf, numbersIn, imageNumbers, stateFrom, accepts, upgraded, restored, restoreOf}
 use Rattle.rules.proofs.calls.Kept.{idle-valid}
 use Rattle.rules.proofs.laws.Tests.{side, is-true, is-false, and-both, and-first, and-second}
-use Rattle.rules.proofs.laws.Parts.{Always, all-always, every-all}
+use Rattle.rules.proofs.laws.Indexed.{Always, all-always, every-all}
 use Rattle.rules.proofs.laws.Numbers.{Bytes}
 use Rattle.rules.proofs.images.Tables.{widths, total, encoded-length, numbers-encoded, encoded-numbers, numbers-alike, numbers-length, numbers-low}
 use Rattle.rules.proofs.images.Fits.{layout-fits}

@@ -11,7 +11,7 @@ use Rattle.rules.specs.Calls.{idle}
 use Rattle.rules.specs.Image.{layout, numberOf, imageNumbers, readerNumber}
 use Rattle.rules.proofs.laws.Tests.{and-first, and-second}
 use Rattle.rules.proofs.laws.Members.{range-at}
-use Rattle.rules.proofs.laws.Parts.{every-all}
+use Rattle.rules.proofs.laws.Indexed.{every-all}
 use Rattle.rules.proofs.images.Tables.{widths, total, number-at}
 
 -- where the sizes, the readers, the 4 bytes of 0, the cached map and the fetch map begin: the laws below compute it from the table

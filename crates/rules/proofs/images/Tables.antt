@@ -8,7 +8,7 @@ use lib.ListN.{length, getD, take, drop, length-append, length-take, length-drop
 use lib.Seq.{take-at, drop-at, drop-drop, length-take-le}
 use Rattle.rules.specs.Lists.{each}
 use Rattle.rules.specs.Image.{Field, field, bytesOf, encoded, numberOf, numbersIn}
-use Rattle.rules.proofs.laws.Parts.{Always, always-take, always-drop}
+use Rattle.rules.proofs.laws.Indexed.{Always, always-take, always-drop}
 use Rattle.rules.proofs.laws.Numbers.{Bytes, bytes-length, number-bytes, bytes-number, number-low}
 
 -- a table's widths

@@ -9,7 +9,7 @@ use native.Mathlib.Numerals.{add-one}
 use lib.ListN.{length, getD, take, drop, set, length-append, take-append-drop}
 use lib.Seq.{length-take-le, set-at, set-split, take-at, take-suc, drop-drop}
 use Rattle.rules.specs.Lists.{range, each, only, every, written}
-use Rattle.rules.proofs.laws.Parts.{drop-past}
+use Rattle.rules.proofs.laws.Indexed.{drop-past}
 
 -- a range in two parts
 pub range-add : (a m n : ℕ) → range a (m + n) ≡ range a m ++ range (a + m) n

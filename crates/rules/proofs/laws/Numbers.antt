@@ -6,7 +6,7 @@ use native.Mathlib.Nat.{pow-suc}
 use native.Mathlib.Omega.{arith}
 use lib.ListN.{length}
 use Rattle.rules.specs.Image.{bytesOf, numberOf}
-use Rattle.rules.proofs.laws.Parts.{Always}
+use Rattle.rules.proofs.laws.Indexed.{Always}
 
 -- every element is a byte
 abbrev pub Bytes : List ℕ → Type 0

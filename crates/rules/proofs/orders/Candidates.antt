@@ -15,11 +15,11 @@ use Rattle.rules.specs.Pages.{fileOf, pageOf, keyOf, cached}
 use Rattle.rules.specs.Readers.{readerAt, attached}
 use Rattle.rules.specs.Valid.{Valid}
 use Rattle.rules.specs.UseTimes.{before, sees, never, useFor, useKey, ahead, seen}
-use Rattle.rules.specs.Orders.{wanted, fetchOrder, victim}
+use Rattle.rules.specs.Orders.{absent, wanted, fetchOrder, victim}
 use Rattle.rules.proofs.laws.Tests.{less, side, and-both, and-first, and-second}
 use Rattle.rules.proofs.laws.Below.{one-more, one-or-all}
 use Rattle.rules.proofs.laws.Leasts.{some-at, some-in}
-use Rattle.rules.specs.Ranks.{rank, lastCached, AtMost, absent, FirstAbsent, AtLeast, NoneBelow}
+use Rattle.rules.specs.Ranks.{rank, lastCached, AtMost, FirstAbsent, AtLeast, NoneBelow}
 use Rattle.rules.proofs.orders.Ranks.{seen-ahead, seen-small}
 use Rattle.rules.proofs.orders.LookAheads.{before-is, is-before, sees-before, sees-earlier, seen-by, use-sees, use-least, use-rises, met-by}
 use Rattle.rules.proofs.laws.Numbered.{larger-first, smaller-first, none-in, none-of}

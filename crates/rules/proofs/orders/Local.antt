@@ -8,9 +8,9 @@ use lib.Dec.{eqb, eqb→eq}
 use Rattle.bits.specs.Map.{bit}
 use Rattle.rules.specs.Lists.{range, each, only, falling, least, some-of}
 use Rattle.rules.specs.Pages.{size, fileOf, keyOf, cached, pages, cachedPages}
-use Rattle.rules.specs.Readers.{readerAt, attached}
+use Rattle.rules.specs.Readers.{readerAt, attached, readsFile}
 use Rattle.rules.specs.Valid.{Valid}
-use Rattle.rules.specs.UseTimes.{before, steps, present, missing, between, cut, sees, timeFor, never, useFor, useKey, ahead, seen}
+use Rattle.rules.specs.UseTimes.{before, steps, present, missing, between, pruned, sees, timeFor, never, useFor, useKey, ahead, seen}
 use Rattle.rules.specs.Orders.{stealOrder}
 use Rattle.rules.proofs.laws.Tests.{both, is-false, and-second}
 use Rattle.rules.specs.Ranks.{rank}
@@ -20,7 +20,7 @@ use Rattle.rules.specs.declared.Reader.{Reader}
 
 -- the record is of no reader of the file
 abbrev pub NotOf : ℕ → Reader → Type 0
-NotOf f r = (attached r && eqb (r .file) f) ≡ false
+NotOf f r = readsFile f r ≡ false
 
 -- two records alike in what the orders read
 pub record AlikeReader (r q : Reader) : Type 0 where
@@ -77,7 +77,7 @@ module _ (s t : State) (k : ℕ) (a : SameFile (fileOf k) s t) where
     before-same = rw (e .attached-same, e .file-same, e .position-same, f, a .size-same)
 
     sees-same : sees s r k ≡ sees t q k
-    unfolding sees cut
+    unfolding sees pruned
     sees-same = rw (before-same, between-same, e .position-same, e .pace-same, a .look-same, a .time-same)
 
     time-alike : timeFor s r k ≡ timeFor t q k

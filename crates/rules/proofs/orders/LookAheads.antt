@@ -10,7 +10,7 @@ use Rattle.rules.specs.Lists.{least}
 use Rattle.rules.specs.Pages.{size, fileOf, pageOf, Page}
 use Rattle.rules.specs.Readers.{readerAt, attached, lastPage}
 use Rattle.rules.specs.Valid.{Valid}
-use Rattle.rules.specs.UseTimes.{before, steps, missing, between, cut, sees, timeFor, seat, never, useFor, useKey, seen}
+use Rattle.rules.specs.UseTimes.{before, steps, missing, between, pruned, sees, timeFor, seat, never, useFor, useKey, seen}
 use Rattle.rules.specs.Ranks.{Before}
 use Rattle.rules.proofs.laws.Tests.{side, is-true, is-false, and-both, and-first, and-second}
 use Rattle.rules.proofs.laws.Leasts.{some-at, some-in, least-le, least-met}
@@ -63,9 +63,9 @@ missing-more s f c n (suc m) =
     let e : missing s f c (suc m + n) ≡ missing s f c (suc (m + n)) = ap (missing s f c) (omega arith) in
     omega (arith, missing-one s f c (m + n), missing-more s f c n m)
 
-cut-rises : (s : State) (q m : ℕ) → q ≤ m → T (cut s q) → T (cut s m)
-unfolding cut
-cut-rises s q m l h =
+pruned-rises : (s : State) (q m : ℕ) → q ≤ m → T (pruned s q) → T (pruned s m)
+unfolding pruned
+pruned-rises s q m l h =
     let n : ℕ = s .«look_ahead» / s .«fetch_time» in
     and-both (ltb 0 (s .«fetch_time»)) _ (and-first (ltb 0 (s .«fetch_time»)) _ h)
     (le→leb n m (omega (arith, leb→le n q (and-second (ltb 0 (s .«fetch_time»)) _ h))))
@@ -97,12 +97,12 @@ module _ (s : State) (r : Reader) (k i : ℕ) where
   unfolding sees
   sees-earlier b l h =
       let n : ℕ = s .«look_ahead» / r .pace in
-      let C : Bool = not (cut s (between s r i)) in
+      let C : Bool = not (pruned s (between s r i)) in
       let rest = and-second (before s r i) (leb (steps r i) n && C) h in
       let near : steps r i ≤ n = leb→le (steps r i) n (and-first (leb (steps r i) n) C rest) in
       and-both (before s r k) _ b
       (and-both (leb (steps r k) n) _ (le→leb (steps r k) n (omega arith))
-      (not-T (cut s (between s r k)) (λ c. T-not (cut s (between s r i)) (and-second (leb (steps r i) n) C rest) (cut-rises s (between s r k) (between s r i) (between-rises l) c))))
+      (not-T (pruned s (between s r k)) (λ c. T-not (pruned s (between s r i)) (and-second (leb (steps r i) n) C rest) (pruned-rises s (between s r k) (between s r i) (between-rises l) c))))
 
 -- ---- use keys
 

@@ -11,7 +11,7 @@ use Rattle.rules.specs.Lists.{range, only, falling}
 use Rattle.rules.specs.Pages.{size, fileOf, cached, Page, pages, cachedPages}
 use Rattle.rules.specs.Readers.{readerAt}
 use Rattle.rules.specs.Valid.{Valid}
-use Rattle.rules.specs.UseTimes.{before, steps, between, cut, sees, timeFor, never, useFor, useKey, ahead, seen}
+use Rattle.rules.specs.UseTimes.{before, steps, between, pruned, sees, timeFor, never, useFor, useKey, ahead, seen}
 use Rattle.rules.specs.Orders.{place, behindLast, notSeen, useTime, stealOrder}
 use Rattle.rules.specs.Ranks.{rank}
 use Rattle.rules.proofs.laws.Tests.{leq, side, is-true, is-false, not-not, and-first, and-second}
@@ -26,10 +26,10 @@ unfolding seen ahead sees
 seen-ahead s k = some-mono 16 (λ j. sees s (readerAt s j) k) (λ j. before s (readerAt s j) k) (λ j h. and-first (before s (readerAt s j) k) _ h)
 
 time-small : (s : State) (r : Reader) (k : ℕ) → s .«look_ahead» ≤ 2000000 → T (sees s r k) → timeFor s r k ≤ 4000000
-unfolding sees cut timeFor
+unfolding sees pruned timeFor
 time-small s r k l h =
     let A : Bool = leb (steps r k) (s .«look_ahead» / r .pace) in
-    let B : Bool = not (cut s (between s r k)) in
+    let B : Bool = not (pruned s (between s r k)) in
     let rest = and-second (before s r k) (A && B) h in
     let near : steps r k ≤ s .«look_ahead» / r .pace = leb→le (steps r k) (s .«look_ahead» / r .pace) (and-first A B rest) in
     let a : steps r k * r .pace ≤ s .«look_ahead» = le-trans (mul-le-mul-right (r .pace) near) (div-mul-le-self (s .«look_ahead») (r .pace)) in

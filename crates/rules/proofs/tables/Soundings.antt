@@ -7,7 +7,7 @@ use Rattle.bits.specs.Map.{bit, putBit}
 use Rattle.rules.specs.Lists.{range, each, only, put, sorted, least, some-of}
 use Rattle.rules.specs.Pages.{keyOf, pages, held, ends, clusters}
 use Rattle.rules.specs.Readers.{noReader}
-use Rattle.rules.specs.UseTimes.{before, present, missing, cut, sees, timeFor, useFor, useKey, ahead, seen}
+use Rattle.rules.specs.UseTimes.{before, present, missing, pruned, sees, timeFor, useFor, useKey, ahead, seen}
 use Rattle.rules.specs.Orders.{behindLast, notSeen, useTime, stealOrder, fetchOrder}
 use Rattle.rules.specs.declared.State.{State}
 use Rattle.rules.specs.declared.Reader.{Reader}
@@ -103,5 +103,5 @@ table =
 
 -- every row holds, computed from the rules
 pub soundings : map (λ r. asked (r .question) (stateOf r)) table ≡ map (λ r. r .answer) table
-unfolding table putBit range each only put sorted least some-of bit pages before present missing cut sees timeFor useFor useKey ahead seen behindLast notSeen useTime stealOrder fetchOrder held ends clusters
+unfolding table putBit range each only put sorted least some-of bit pages before present missing pruned sees timeFor useFor useKey ahead seen behindLast notSeen useTime stealOrder fetchOrder held ends clusters
 soundings = refl

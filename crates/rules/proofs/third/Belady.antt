@@ -22,10 +22,10 @@ nextUse (none ∷ rs) k = suc (nextUse rs k)
 nextUse (some x ∷ rs) k = cond (eqb x k) 0 (suc (nextUse rs k))
 
 -- the reads alone
-unfoldable pub reads : Requests → List ℕ
-reads [] = []
-reads (none ∷ rs) = reads rs
-reads (some x ∷ rs) = x ∷ reads rs
+unfoldable pub readsIn : Requests → List ℕ
+readsIn [] = []
+readsIn (none ∷ rs) = readsIn rs
+readsIn (some x ∷ rs) = x ∷ readsIn rs
 
 -- a run of the requests from the set A with c fetches: a missing key takes a free frame, or the frame of a key whose next use is furthest off
 pub data Furthest (N F : ℕ) : Requests → Set → ℕ → Type 0 where
@@ -175,8 +175,8 @@ swap-step N x rs A B d v last full h = drop-step N (some x ∷ rs) (plus A x) (s
 
 -- the run's fetches, against a schedule that is d ahead
 against : {N F : ℕ} {rs : Requests} {A : Set} {c : ℕ} → Furthest N F rs A c → (B : Set) (d : ℕ) → Behind N rs A B d
-    → (Bs : List Set) → Serves N F (reads rs) Bs → c ≤ fetchesIn N B Bs + d
-unfolding reads Serves fetchesIn
+    → (Bs : List Set) → Serves N F (readsIn rs) Bs → c ≤ fetchesIn N B Bs + d
+unfolding readsIn Serves fetchesIn
 against over B d h Bs s = zero-le
 against {N} (idle {rs} {A} r) B d h Bs s = against r B d (idle-step N rs A B d h) Bs s
 against (hit a r) B d h [] s = absurd s
@@ -205,6 +205,6 @@ against {N} (evict {x} {rs} {A} l a f v lv av last r) B d h (B′ ∷ Bs) s =
     omega arith
 
 -- no schedule that serves the reads of the run fetches less
-pub optimal : {N F : ℕ} {rs : Requests} {A : Set} {c : ℕ} → Furthest N F rs A c → (Bs : List Set) → Serves N F (reads rs) Bs → c ≤ fetchesIn N A Bs
+pub optimal : {N F : ℕ} {rs : Requests} {A : Set} {c : ℕ} → Furthest N F rs A c → (Bs : List Set) → Serves N F (readsIn rs) Bs → c ≤ fetchesIn N A Bs
 unfolding Behind
 optimal {N} {A = A} r Bs s = let g = against r A 0 (λ t. omega arith) Bs s in omega arith

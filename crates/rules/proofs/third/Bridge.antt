@@ -12,7 +12,7 @@ use Rattle.rules.specs.Lists.{least}
 use Rattle.rules.specs.Pages.{fileOf, pageOf, cached}
 use Rattle.rules.specs.Readers.{readerAt, attached, lastPage}
 use Rattle.rules.specs.Valid.{Valid}
-use Rattle.rules.specs.UseTimes.{before, steps, cut, sees, timeFor, seat, never, useFor, useKey, ahead, seen}
+use Rattle.rules.specs.UseTimes.{before, steps, pruned, sees, timeFor, seat, never, useFor, useKey, ahead, seen}
 use Rattle.rules.specs.Orders.{victim}
 use Rattle.rules.specs.Third.{Premises}
 use Rattle.rules.proofs.laws.Tests.{leq, side, is-true, is-false, and-both}
@@ -28,16 +28,16 @@ use Rattle.rules.specs.declared.State.{State}
 use Rattle.rules.specs.declared.Reader.{Reader}
 
 -- a record as a slot of the scan
-unfoldable pub slotOf : List ℕ → Reader → Slot
-slotOf sizes r = cond (attached r) (reader (r .file) (r .position) (lastPage sizes r)) vacant
+unfoldable pub scanned : List ℕ → Reader → Slot
+scanned sizes r = cond (attached r) (reader (r .file) (r .position) (lastPage sizes r)) vacant
 
 -- the readers of the state as slots
 unfoldable pub slots : State → Slots
-slots s j = slotOf (s .sizes) (readerAt s j)
+slots s j = scanned (s .sizes) (readerAt s j)
 
 -- files have at most 1,024 pages
 fits : (s : State) → Valid s → (j : ℕ) → Fits (slots s j)
-unfolding slots slotOf Fits
+unfolding slots scanned Fits
 fits s v j = go (attached (readerAt s j))
   where
     go : (t : Bool) → Fits (cond t (reader (readerAt s j .file) (readerAt s j .position) (lastPage (s .sizes) (readerAt s j))) vacant)
@@ -47,7 +47,7 @@ fits s v j = go (attached (readerAt s j))
 -- a slot's distance, in the words of the use times
 away-at : (far : ℕ) (s : State) (k j : ℕ)
     → away far (slots s j) (s .turn) (k / 1024) (k % 1024) j ≡ cond (before s (readerAt s j) k) (16 * (steps (readerAt s j) k - 1) + seat s j) far
-unfolding slots slotOf away before
+unfolding slots scanned away before
 away-at far s k j = go (attached (readerAt s j))
   where
     r : Reader
@@ -72,7 +72,7 @@ module _ (s : State) (v : Valid s) (w : ℕ) (p : Premises s w) where
 
   -- every page that a reader has before it is in its look-ahead
   all-seen : (k j : ℕ) → T (before s (readerAt s j) k) → T (sees s (readerAt s j) k)
-  unfolding sees cut
+  unfolding sees pruned
   all-seen k j h =
       let r : Reader = readerAt s j in
       let c = before-is s r k h in

@@ -11,7 +11,7 @@ use Rattle.rules.specs.Valid.{Valid}
 use Rattle.rules.specs.Run.{fetchOpen, runOf}
 use Rattle.rules.specs.Schedules.{Set, count, Serves, fetchesIn}
 use Rattle.rules.specs.Third.{Premises, laid, hitPages, hitSets}
-use Rattle.rules.proofs.calls.Refusals.{among}
+use Rattle.rules.proofs.calls.Refusals.{member}
 use Rattle.rules.proofs.third.Optimal.{third}
 use Rattle.rules.specs.declared.State.{State}
 use Rattle.rules.specs.declared.Condition.the-variants.{Empty}
@@ -52,6 +52,6 @@ unfolding Serves
 two-reads frames x y A B = refl
 
 -- "the number of pages in the read's set that are not in the set before": page 0 is there at the start; 1 and 7, then 2 are fetched
-pub two-cost : fetchesIn 8 (among (0 ∷ [])) (among (0 ∷ 1 ∷ 7 ∷ []) ∷ among (1 ∷ 2 ∷ []) ∷ []) ≡ 3
+pub two-cost : fetchesIn 8 (member (0 ∷ [])) (member (0 ∷ 1 ∷ 7 ∷ []) ∷ member (1 ∷ 2 ∷ []) ∷ []) ≡ 3
 unfolding fetchesIn count
 two-cost = refl

@@ -20,7 +20,7 @@ use Rattle.rules.proofs.laws.Tests.{less, key}
 use Rattle.rules.proofs.calls.Valids.{placed-at}
 use Rattle.bits.specs.Map.{on}
 use Rattle.rules.proofs.third.Scan.{vacant, reader, code, pageAt, advance, after}
-use Rattle.rules.proofs.third.Bridge.{slotOf, slots}
+use Rattle.rules.proofs.third.Bridge.{scanned, slots}
 use Rattle.rules.specs.declared.State.{State}
 use Rattle.rules.specs.declared.Reader.{Reader}
 
@@ -51,19 +51,19 @@ goes-below sizes r = go (attached r)
         (λ ne. less (r .position) (lastPage sizes r) (λ b. true ≡ b) (λ _. refl) (λ h. absurd (omega (arith, l tt))))
 
 -- such a reader's slot after its turn
-slot-on : (sizes : List ℕ) (r : Reader) → (T (attached r) → r .position ≤ lastPage sizes r) → slotOf sizes (cond (goes sizes r) (onward r) r) ≡ advance (slotOf sizes r)
-unfolding slotOf advance
+slot-on : (sizes : List ℕ) (r : Reader) → (T (attached r) → r .position ≤ lastPage sizes r) → scanned sizes (cond (goes sizes r) (onward r) r) ≡ advance (scanned sizes r)
+unfolding scanned advance
 slot-on sizes r l = rw (goes-below sizes r l) (go (attached r) (ltb (r .position) (lastPage sizes r)) refl refl)
   where
     go : (a b : Bool) → attached r ≡ a → ltb (r .position) (lastPage sizes r) ≡ b
-        → slotOf sizes (cond (a && b) (onward r) r) ≡ advance (cond a (reader (r .file) (r .position) (lastPage sizes r)) vacant)
+        → scanned sizes (cond (a && b) (onward r) r) ≡ advance (cond a (reader (r .file) (r .position) (lastPage sizes r)) vacant)
     go true true e e′ = rw (e, e′)
     go true false e e′ = rw (e, e′)
     go false b e e′ = rw e
 
 -- what such a reader reads at its turn
-pub page-now : (sizes : List ℕ) (r : Reader) → (T (attached r) → r .position ≤ lastPage sizes r) → pageAt (slotOf sizes r) 0 ≡ cond (goes sizes r) (some (nextKey r)) none
-unfolding slotOf pageAt
+pub page-now : (sizes : List ℕ) (r : Reader) → (T (attached r) → r .position ≤ lastPage sizes r) → pageAt (scanned sizes r) 0 ≡ cond (goes sizes r) (some (nextKey r)) none
+unfolding scanned pageAt
 page-now sizes r l = rw (goes-below sizes r l) (go (attached r))
   where
     go : (a : Bool) → pageAt (cond a (reader (r .file) (r .position) (lastPage sizes r)) vacant) 0 ≡ cond (a && ltb (r .position) (lastPage sizes r)) (some (nextKey r)) none
@@ -104,11 +104,11 @@ module _ (s : State) (v : Valid s) where
   -- the slots after the turn
   pub slots-left : (held fetching : List ℕ) → slots (left s held fetching) ≡ after (slots s) (s .turn)
   unfolding slots
-  slots-left held fetching = fun-ext (λ j. ap (slotOf (s .sizes)) (moved-at j) ∙ go j)
+  slots-left held fetching = fun-ext (λ j. ap (scanned (s .sizes)) (moved-at j) ∙ go j)
     where
-      go : (j : ℕ) → slotOf (s .sizes) (cond (eqb (s .turn) j) (cond (goes (s .sizes) (readerAt s j)) (onward (readerAt s j)) (readerAt s j)) (readerAt s j))
-          ≡ cond (eqb (s .turn) j) (advance (slotOf (s .sizes) (readerAt s j))) (slotOf (s .sizes) (readerAt s j))
-      go j = key (s .turn) j (λ b. slotOf (s .sizes) (cond b (cond (goes (s .sizes) (readerAt s j)) (onward (readerAt s j)) (readerAt s j)) (readerAt s j)) ≡ cond b (advance (slotOf (s .sizes) (readerAt s j))) (slotOf (s .sizes) (readerAt s j)))
+      go : (j : ℕ) → scanned (s .sizes) (cond (eqb (s .turn) j) (cond (goes (s .sizes) (readerAt s j)) (onward (readerAt s j)) (readerAt s j)) (readerAt s j))
+          ≡ cond (eqb (s .turn) j) (advance (scanned (s .sizes) (readerAt s j))) (scanned (s .sizes) (readerAt s j))
+      go j = key (s .turn) j (λ b. scanned (s .sizes) (cond b (cond (goes (s .sizes) (readerAt s j)) (onward (readerAt s j)) (readerAt s j)) (readerAt s j)) ≡ cond b (advance (scanned (s .sizes) (readerAt s j))) (scanned (s .sizes) (readerAt s j)))
           (λ _. slot-on (s .sizes) (readerAt s j) (position-in j)) (λ _. refl)
 
   -- the premises are kept where no other page is in fetch

@@ -16,11 +16,11 @@ use Rattle.rules.proofs.laws.Tests.{less, is-true, is-false, and-second
 use Rattle.rules.proofs.laws.Counting.{empty, plus, swap, count-empty, num-out, in-self, same-count, old, added-one, has-key, but-key}
 use Rattle.rules.proofs.calls.Changes.{counted}
 use Rattle.rules.proofs.calls.Kept.{turn-kept}
-use Rattle.rules.proofs.third.Belady.{Requests, nextUse, reads, Furthest, over, idle, hit, fill, evict, optimal}
+use Rattle.rules.proofs.third.Belady.{Requests, nextUse, readsIn, Furthest, over, idle, hit, fill, evict, optimal}
 use Rattle.rules.proofs.third.Scan.{pageAt, after, requests}
 use Rattle.rules.proofs.third.Bridge.{slots, victim-last}
 use Rattle.rules.proofs.third.Moves.{nowAt, goesNow, keyNow, left, page-now, position-in, slots-left, premises-left}
-use Rattle.rules.proofs.third.Turns.{Step, passes, finds, fills, evicts, View, view, none-in-fetch, turn-view}
+use Rattle.rules.proofs.third.Turns.{Step, passes, finds, fills, evicts, TurnCase, turn-case, none-in-fetch, turn-is}
 use Rattle.rules.specs.declared.State.{State}
 use Rattle.rules.specs.declared.Reply.{Reply}
 use Rattle.rules.specs.declared.Answer.the-variants.{Ran}
@@ -30,7 +30,7 @@ record Whole (n : ℕ) (s : State) (hits : List ℕ) (sets : List Set) (fetches 
   reads-laid : hits ≡ laid n s
   serves : Serves 8192 (s .frames) hits sets
   cost : fetchesIn 8192 (cached s) sets ≡ fetches
-  requested : laid n s ≡ reads (requests n (slots s) (s .turn))
+  requested : laid n s ≡ readsIn (requests n (slots s) (s .turn))
   furthest : Furthest 8192 (s .frames) (requests n (slots s) (s .turn)) (cached s) fetches
 
 -- ---- one turn more
@@ -75,8 +75,8 @@ asked : (s : State) → Valid s → pageAt (slots s (s .turn)) 0 ≡ cond (goesN
 unfolding slots
 asked s v = page-now (s .sizes) (nowAt s) (position-in s v (s .turn))
 
-reads-one : (t : Bool) (k : ℕ) (rs : Requests) → cond t (k ∷ []) [] ++ reads rs ≡ reads (cond t (some k) none ∷ rs)
-unfolding reads
+reads-one : (t : Bool) (k : ℕ) (rs : Requests) → cond t (k ∷ []) [] ++ readsIn rs ≡ readsIn (cond t (some k) none ∷ rs)
+unfolding readsIn
 reads-one true k rs = refl
 reads-one false k rs = refl
 
@@ -103,30 +103,30 @@ module _ (n : ℕ) (s : State) (v : Valid s) (w : ℕ) (p : Premises s w) where
       rw (asks g) (cost-as (suc d) (1 + d) (omega arith) (evict low a f i li ai last (set-as e r)))
 
   -- the whole from the turn and what follows it
-  step : (t : Turn) → View s t → Valid (t .after) → (hits : List ℕ) (sets : List Set) (fetches : ℕ) → Whole n (t .after) hits sets fetches
+  step : (t : Turn) → TurnCase s t → Valid (t .after) → (hits : List ℕ) (sets : List Set) (fetches : ℕ) → Whole n (t .after) hits sets fetches
       → Whole (suc n) s (t .hit ++ hits) (onHit (t .hit) (cached (t .after)) sets) (t .fetched + fetches)
   unfolding laidDown requests
-  step t (view {held} {fetching} same d) after-valid hits sets fetches r =
+  step t (turn-case {held} {fetching} same d) after-valid hits sets fetches r =
       let e : slots (left s held fetching) ≡ after (slots s) (s .turn) = slots-left s v held fetching in
       let next : Furthest 8192 (s .frames) more (cached (left s held fetching)) fetches = subst (λ σ. Furthest 8192 (s .frames) (requests n σ ((s .turn + 1) % 16)) (cached (left s held fetching)) fetches) e (r .furthest) in
       record {
         reads-laid = ap₂ _++_ (hit-laid s d) (r .reads-laid);
         serves = serves-on s hits sets d (counted (left s held fetching) after-valid) (r .serves);
         cost = cost-on s sets fetches d (r .cost);
-        requested = ap (λ l. cond (goesNow s) (keyNow s ∷ []) [] ++ l) (r .requested ∙ ap (λ σ. reads (requests n σ ((s .turn + 1) % 16))) e)
-            ∙ reads-one (goesNow s) (keyNow s) more ∙ ap (λ o. reads (o ∷ more)) (sym (asked s v));
+        requested = ap (λ l. cond (goesNow s) (keyNow s ∷ []) [] ++ l) (r .requested ∙ ap (λ σ. readsIn (requests n σ ((s .turn + 1) % 16))) e)
+            ∙ reads-one (goesNow s) (keyNow s) more ∙ ap (λ o. readsIn (o ∷ more)) (sym (asked s v));
         furthest = furthest-on d next;
       }
 
 -- the premises after a turn
-premises-kept : (s : State) → Valid s → (w : ℕ) → Premises s w → (t : Turn) → View s t → Premises (t .after) w
-premises-kept s v w p t (view {held} {fetching} same d) = premises-left s v w p held fetching same
+premises-kept : (s : State) → Valid s → (w : ℕ) → Premises s w → (t : Turn) → TurnCase s t → Premises (t .after) w
+premises-kept s v w p t (turn-case {held} {fetching} same d) = premises-left s v w p held fetching same
 
 whole : (n : ℕ) (s : State) → Valid s → (w : ℕ) → Premises s w → Whole n s (hitPages n s) (hitSets n s) (turnsOf n s .fetches)
-unfolding hitPages hitSets turnsOf laidDown requests reads Serves fetchesIn
+unfolding hitPages hitSets turnsOf laidDown requests readsIn Serves fetchesIn
 whole zero s v w p = record { reads-laid = refl; serves = tt; cost = refl; requested = refl; furthest = over }
 whole (suc n) s v w p =
-    let d : View s (turnOf s) = turn-view s v (none-in-fetch s v (p .none-open)) in
+    let d : TurnCase s (turnOf s) = turn-is s v (none-in-fetch s v (p .none-open)) in
     let v′ : Valid (turnOf s .after) = turn-kept s v in
     step n s v w p (turnOf s) d v′ _ _ _ (whole n (turnOf s .after) v′ w (premises-kept s v w p (turnOf s) d))
 

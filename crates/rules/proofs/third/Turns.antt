@@ -53,9 +53,9 @@ pub data Step (s : State) (A : Set) : ℕ → List ℕ → Type 0 where
       → (v : ℕ) → victim s ≡ some v → v < 8192 → T (cached s v) → A ≡ swap (cached s) v (keyNow s) → Step s A 1 (keyNow s ∷ [])
 
 -- a turn from s: the maps that it leaves, the pages in fetch as before
-pub data View (s : State) : Turn → Type 0 where
-  view : {held fetching : List ℕ} {fetched : ℕ} {hits : List ℕ} → on fetching ≡ inFetch s → Step s (on held) fetched hits
-      → View s (record { after = left s held fetching; fetched = fetched; hit = hits })
+pub data TurnCase (s : State) : Turn → Type 0 where
+  turn-case : {held fetching : List ℕ} {fetched : ℕ} {hits : List ℕ} → on fetching ≡ inFetch s → Step s (on held) fetched hits
+      → TurnCase s (record { after = left s held fetching; fetched = fetched; hit = hits })
 
 -- ---- no page is in fetch
 
@@ -157,9 +157,9 @@ module _ (s : State) (v : Valid s) (closed : (k : ℕ) → T (inFetch s k) → �
       by (inl a) = turn-by s (reply s End) a (read-end s (s .turn) (v .turn-high) (awake (s .turn) a) (goes-not (s .sizes) (nowAt s) a off))
       by (inr a) = rw (is-false (attached (nowAt s)) a)
 
-  idle-view : T (not (goesNow s)) → View s (turnOf s)
-  idle-view off =
-      subst (View s) (sym (idle-turn off ∙ rw (is-false (goesNow s) off))) (view refl (passes off refl))
+  idle-case : T (not (goesNow s)) → TurnCase s (turnOf s)
+  idle-case off =
+      subst (TurnCase s) (sym (idle-turn off ∙ rw (is-false (goesNow s) off))) (turn-case refl (passes off refl))
 
   -- a turn whose reader goes on
   module _ (on-goes : T (goesNow s)) where
@@ -179,11 +179,11 @@ module _ (s : State) (v : Valid s) (closed : (k : ℕ) → T (inFetch s k) → �
     low = next-page s v (nowAt s) placed inside .low
 
     -- H
-    hit-view : T (cached s (keyNow s)) → View s (turnOf s)
-    hit-view c = subst (View s)
+    hit-case : T (cached s (keyNow s)) → TurnCase s (turnOf s)
+    hit-case c = subst (TurnCase s)
         (sym (turn-by s (reply (withReader s (s .turn) (onward (nowAt s))) (Hit (nowAt s .file) (nowAt s .position + 1))) here
         (read-hit s (s .turn) (v .turn-high) (awake (s .turn) here) short (is-true (cached s (keyNow s)) c)) ∙ rw (is-true (goesNow s) on-goes)))
-        (view refl (finds on-goes c refl))
+        (turn-case refl (finds on-goes c refl))
 
     -- the readers after Arrive are those before the turn
     woken-all : (k : ℕ) → map (woken k) (s .readers) ≡ s .readers
@@ -264,17 +264,17 @@ module _ (s : State) (v : Valid s) (closed : (k : ℕ) → T (inFetch s k) → �
       fetch-step none e = fill-step (omega (arith, dropped-none s v e, cached-count s (v .sizes-high) (v .cached-in)))
       fetch-step (some k) e = evict-step k e
 
-      fetch-view : View s (turnOf s)
-      fetch-view = subst (View s) (sym (fetch-turn ∙ rw (is-true (goesNow s) on-goes))) (view emptied-same (fetch-step (dropped s) refl))
+      fetch-case : TurnCase s (turnOf s)
+      fetch-case = subst (TurnCase s) (sym (fetch-turn ∙ rw (is-true (goesNow s) on-goes))) (turn-case emptied-same (fetch-step (dropped s) refl))
 
-  by-goes : T (goesNow s) ⊎ T (not (goesNow s)) → View s (turnOf s)
+  by-goes : T (goesNow s) ⊎ T (not (goesNow s)) → TurnCase s (turnOf s)
   by-goes (inl g) = by (side (cached s (keyNow s)))
     where
-      by : T (cached s (keyNow s)) ⊎ T (not (cached s (keyNow s))) → View s (turnOf s)
-      by (inl c) = hit-view g c
-      by (inr c) = fetch-view g c
-  by-goes (inr g) = idle-view g
+      by : T (cached s (keyNow s)) ⊎ T (not (cached s (keyNow s))) → TurnCase s (turnOf s)
+      by (inl c) = hit-case g c
+      by (inr c) = fetch-case g c
+  by-goes (inr g) = idle-case g
 
   -- every turn is one of these
-  pub turn-view : View s (turnOf s)
-  turn-view = by-goes (side (goesNow s))
+  pub turn-is : TurnCase s (turnOf s)
+  turn-is = by-goes (side (goesNow s))

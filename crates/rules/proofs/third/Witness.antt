@@ -10,7 +10,7 @@ use Rattle.rules.specs.Lists.{range, each, only, every, put, sorted, lea
 use Rattle.rules.specs.Pages.{pages, cached, cachedPages, fetchingPages}
 use Rattle.rules.specs.Readers.{noReader, readerAt, attached}
 use Rattle.rules.specs.Valid.{Valid, Placed, ReaderIn}
-use Rattle.rules.specs.UseTimes.{before, present, missing, cut, sees, timeFor, useFor, useKey, ahead, seen}
+use Rattle.rules.specs.UseTimes.{before, present, missing, pruned, sees, timeFor, useFor, useKey, ahead, seen}
 use Rattle.rules.specs.Orders.{behindLast, notSeen, useTime, stealOrder, victim}
 use Rattle.rules.specs.Calls.{withReader, fresh, settingsIn, setupOf, readRunning, readOf, full, dropped, woken, landed, forFetch, arriveOf}
 use Rattle.rules.specs.Run.{fetchOpen, readTurn, turnOf, turnsOf, runOf}
@@ -61,7 +61,7 @@ lead-premises = record {
 
 -- 16,384 turns, the most that are permitted, fetch seven times for two frames and six pages: pages are given up, and one is fetched twice
 pub lead-answer : runOf lead 16384 .answer ≡ Ran 7 9
-unfolding bit putBit range each only put sorted least some-of pages cachedPages fetchingPages before present missing cut sees timeFor useFor useKey ahead seen behindLast notSeen useTime stealOrder victim readRunning readOf full dropped woken landed forFetch arriveOf fetchOpen readTurn turnOf turnsOf runOf
+unfolding bit putBit range each only put sorted least some-of pages cachedPages fetchingPages before present missing pruned sees timeFor useFor useKey ahead seen behindLast notSeen useTime stealOrder victim readRunning readOf full dropped woken landed forFetch arriveOf fetchOpen readTurn turnOf turnsOf runOf
 lead-answer = refl
 
 -- the first reader's six pages, and the second's three between them
@@ -74,10 +74,10 @@ unfolding laidDown goes
 lead-reads = refl
 
 lead-best : Best 16384 lead 7 9
-lead-best = let r = third lead 16384 .best lead-valid 10 lead-premises (omega arith) in told (r .0) (r .1) (r .2) (r .3)
+lead-best = let r = third lead 16384 .best lead-valid 10 lead-premises (omega arith) in in-numbers (r .0) (r .1) (r .2) (r .3)
   where
-    told : (fetches reads : ℕ) → runOf lead 16384 .answer ≡ Ran fetches reads → Best 16384 lead fetches reads → Best 16384 lead 7 9
-    told fetches reads e b =
+    in-numbers : (fetches reads : ℕ) → runOf lead 16384 .answer ≡ Ran fetches reads → Best 16384 lead fetches reads → Best 16384 lead 7 9
+    in-numbers fetches reads e b =
         let h = lead-answer in
         let f : fetches ≡ 7 = cc in
         let r : reads ≡ 9 = cc in

@@ -24,18 +24,18 @@ returns c =
 get-u8-requires : tie.Need-get-u8-requires
 get-u8-requires c κs = search needs
 
-cast-is-within : tie.Need-cast-is-within
-cast-is-within c = search needs
+cast-within : tie.Need-cast-within
+cast-within c = search needs
 
-is-within-requires : tie.Need-is-within-requires
-is-within-requires c κs = search needs
+within-requires : tie.Need-within-requires
+within-requires c κs = search needs
 
 returns-2 : tie.Need-returns-2
 returns-2 c =
     let read = c .before .before .before .before .before .before in
     let start = read .before .before in
     verdict-is (start .args .image .now) _ _ _ (read .sizes-in .ensures) (start .pre .1) (start .pre .2) _
-    (search (and-later, call-stop, c .before .is-within .ensures ∙ ap (within 0 15) (c .before .before .get-u8 .ensures), c .if2 .taken) depth 9)
+    (search (and-later, call-stop, c .before .within .ensures ∙ ap (within 0 15) (c .before .before .get-u8 .ensures), c .if2 .taken) depth 9)
 
 slots-hold-requires : tie.Need-slots-hold-requires
 slots-hold-requires c κs =
@@ -107,7 +107,7 @@ returns-7 c =
     let start = read .before .before in
     verdict-is (start .args .image .now) _ _ _ (read .sizes-in .ensures) (start .pre .1) (start .pre .2) _
     (call-pass _ _ _ _ (e₁ .before .settings-hold .ensures) (e₁ .if1 .left)
-    (call-pass _ _ _ _ (e₂ .before .is-within .ensures ∙ ap (within 0 15) (e₂ .before .before .get-u8 .ensures)) (e₂ .if2 .left)
+    (call-pass _ _ _ _ (e₂ .before .within .ensures ∙ ap (within 0 15) (e₂ .before .before .get-u8 .ensures)) (e₂ .if2 .left)
     (call-pass _ _ _ _ (e₃ .before .slots-hold .ensures) (e₃ .if3 .left)
     (call-pass _ _ _ _ (e₄ .before .is-apart .ensures) (e₄ .if4 .left)
     (call-pass _ _ _ _ (e₅ .before .files-hold .ensures) (e₅ .if5 .left)
@@ -121,8 +121,8 @@ accepted-spec =
     settings-hold-requires
     returns
     get-u8-requires
-    cast-is-within
-    is-within-requires
+    cast-within
+    within-requires
     returns-2
     slots-hold-requires
     returns-3

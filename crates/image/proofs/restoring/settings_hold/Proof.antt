@@ -11,38 +11,44 @@ use Rattle.image.proofs.restoring.settings_hold.Tie as tie
 get-u16-requires : tie.Need-get-u16-requires
 get-u16-requires c κs = search needs
 
-cast-is-within : tie.Need-cast-is-within
-cast-is-within c = search needs
+cast-within : tie.Need-cast-within
+cast-within c = search needs
 
-is-within-requires : tie.Need-is-within-requires
-is-within-requires c κs = search needs
+within-requires : tie.Need-within-requires
+within-requires c κs = search needs
 
 returns : tie.Need-returns
 unfolding settingsIn
 returns c =
-    search (call-stop, c .before .is-within .ensures ∙ ap (within 1 1024) (c .before .before .get-u16 .ensures), c .if1 .taken)
+    search (call-stop, c .before .within .ensures ∙ ap (within 1 1024) (c .before .before .get-u16 .ensures), c .if1 .taken)
 
 get-u32-requires : tie.Need-get-u32-requires
 get-u32-requires c κs = search needs
 
-is-within-requires-2 : tie.Need-is-within-requires-2
-is-within-requires-2 c κs = search needs
+cast-within-2 : tie.Need-cast-within-2
+cast-within-2 c = search needs
+
+within-requires-2 : tie.Need-within-requires-2
+within-requires-2 c κs = search needs
 
 returns-2 : tie.Need-returns-2
 unfolding settingsIn
 returns-2 c =
-    search (and-later, call-stop, c .before .is-within2 .ensures ∙ ap (within 1 2000000) (c .before .before .get-u32 .ensures), c .if2 .taken)
+    search (and-later, call-stop, c .before .within2 .ensures ∙ ap (within 1 2000000) (c .before .before .get-u32 .ensures), c .if2 .taken)
 
 get-u32-requires-2 : tie.Need-get-u32-requires-2
 get-u32-requires-2 c κs = search needs
 
-is-within-requires-3 : tie.Need-is-within-requires-3
-is-within-requires-3 c κs = search needs
+cast-within-3 : tie.Need-cast-within-3
+cast-within-3 c = search needs
+
+within-requires-3 : tie.Need-within-requires-3
+within-requires-3 c κs = search needs
 
 returns-3 : tie.Need-returns-3
 unfolding settingsIn
 returns-3 c =
-    search (and-later, call-stop, c .before .is-within3 .ensures ∙ ap (within 0 2000000) (c .before .before .get-u322 .ensures), c .if3 .taken)
+    search (and-later, call-stop, c .before .within3 .ensures ∙ ap (within 0 2000000) (c .before .before .get-u322 .ensures), c .if3 .taken)
 
 sizes-hold-requires : tie.Need-sizes-hold-requires
 sizes-hold-requires c κs = search needs
@@ -56,11 +62,11 @@ returns-4 c =
     search (
       call-pass,
       c .sizes-hold .ensures,
-      p₃ .before .is-within3 .ensures ∙ ap (within 0 2000000) (p₃ .before .before .get-u322 .ensures),
+      p₃ .before .within3 .ensures ∙ ap (within 0 2000000) (p₃ .before .before .get-u322 .ensures),
       p₃ .if3 .left,
-      p₂ .before .is-within2 .ensures ∙ ap (within 1 2000000) (p₂ .before .before .get-u32 .ensures),
+      p₂ .before .within2 .ensures ∙ ap (within 1 2000000) (p₂ .before .before .get-u32 .ensures),
       p₂ .if2 .left,
-      p₁ .before .is-within .ensures ∙ ap (within 1 1024) (p₁ .before .before .get-u16 .ensures),
+      p₁ .before .within .ensures ∙ ap (within 1 1024) (p₁ .before .before .get-u16 .ensures),
       p₁ .if1 .left,
     ) depth 9
 
@@ -69,14 +75,16 @@ settings-hold-spec =
     tie.close
     (tie.spec
     get-u16-requires
-    cast-is-within
-    is-within-requires
+    cast-within
+    within-requires
     returns
     get-u32-requires
-    is-within-requires-2
+    cast-within-2
+    within-requires-2
     returns-2
     get-u32-requires-2
-    is-within-requires-3
+    cast-within-3
+    within-requires-3
     returns-3
     sizes-hold-requires
     returns-4)

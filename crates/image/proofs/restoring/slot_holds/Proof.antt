@@ -13,11 +13,11 @@ add-at c = search needs
 get-u8-requires : tie.Need-get-u8-requires
 get-u8-requires c κs = search needs
 
-cast-is-within : tie.Need-cast-is-within
-cast-is-within c = search needs
+cast-within : tie.Need-cast-within
+cast-within c = search needs
 
-is-within-requires : tie.Need-is-within-requires
-is-within-requires c κs = search needs
+within-requires : tie.Need-within-requires
+within-requires c κs = search needs
 
 returns : tie.Need-returns
 returns c = search (slot-stop, needs)
@@ -47,8 +47,8 @@ slot-holds-spec =
     mul-at
     add-at
     get-u8-requires
-    cast-is-within
-    is-within-requires
+    cast-within
+    within-requires
     returns
     reader-in-requires
     reader-holds-requires

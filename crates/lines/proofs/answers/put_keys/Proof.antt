@@ -4,8 +4,8 @@ use mathlib.Core.Path.{_≡_, refl}
 use native.Mathlib.Omega.{arith}
 use borrow.Author.Needs.{needs}
 use lib.ListN.{length}
+use Rattle.rules.specs.Lines.{pairOf}
 use Rattle.text.specs.Written.{Put}
-use Rattle.lines.specs.Responses.{pairOf}
 use Rattle.lines.proofs.Rows.{rowOf, row-none, row-room, row-step, keys-room, keys-end}
 use Rattle.lines.proofs.answers.put_keys.Statement.{statement}
 use Rattle.lines.proofs.answers.put_keys.Tie as tie

@@ -10,7 +10,7 @@ put-byte-requires : tie.Need-put-byte-requires
 put-byte-requires c κs = search needs
 
 put-field-requires : tie.Need-put-field-requires
-put-field-requires c κs = (search needs, omega (arith, c .before .before .before .put-byte .ensures .place, digits-length 10 (c .before .before .before .before .before .before .args .n)))
+put-field-requires c κs = (search needs, omega (arith, c .before .before .before .put-byte .ensures .next-is, digits-length 10 (c .before .before .before .before .before .before .args .n)))
 
 same-length : tie.Need-same-length
 same-length c = search needs

@@ -13,7 +13,7 @@ put-field-requires c κs =
 put-field-requires-2 : tie.Need-put-field-requires-2
 put-field-requires-2 c κs =
     let s = c .before .before .before .before .before .before in
-    (search needs, omega (arith, pair-length (s .args .a) (s .args .b), c .before .before .before .put-field .ensures .place))
+    (search needs, omega (arith, pair-length (s .args .a) (s .args .b), c .before .before .before .put-field .ensures .next-is))
 
 same-length : tie.Need-same-length
 same-length c = search needs

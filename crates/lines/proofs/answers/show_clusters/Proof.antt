@@ -36,7 +36,7 @@ put-clusters-requires : tie.Need-put-clusters-requires
 put-clusters-requires c κs = let k = paired (c .before .before .before) in (k .1 .room, (search needs, omega (arith, clusters-line (stateOf (c .before .before .before .before .before .before .before .before .before .args .v) (c .before .before .before .before .before .before .before .before .before .args .cached .now) (c .before .before .before .before .before .before .before .before .before .args .fetching .now)) (c .before .before .before .before .before .before .before .before .before .pre .0) _ _ (c .before .before .before .before .before .before .before .before .before .args .file) (k .1))))
 
 put-byte-requires : tie.Need-put-byte-requires
-put-byte-requires c κs = omega (arith, c .before .before .before .put-clusters .ensures .place, clusters-line (stateOf (c .before .before .before .before .before .before .before .before .before .before .before .before .before .args .v) (c .before .before .before .before .before .before .before .before .before .before .before .before .before .args .cached .now) (c .before .before .before .before .before .before .before .before .before .before .before .before .before .args .fetching .now)) (c .before .before .before .before .before .before .before .before .before .before .before .before .before .pre .0) _ _ (c .before .before .before .before .before .before .before .before .before .before .before .before .before .args .file) ((paired (c .before .before .before .before .before .before .before)) .1))
+put-byte-requires c κs = omega (arith, c .before .before .before .put-clusters .ensures .next-is, clusters-line (stateOf (c .before .before .before .before .before .before .before .before .before .before .before .before .before .args .v) (c .before .before .before .before .before .before .before .before .before .before .before .before .before .args .cached .now) (c .before .before .before .before .before .before .before .before .before .before .before .before .before .args .fetching .now)) (c .before .before .before .before .before .before .before .before .before .before .before .before .before .pre .0) _ _ (c .before .before .before .before .before .before .before .before .before .before .before .before .before .args .file) ((paired (c .before .before .before .before .before .before .before)) .1))
 
 enum-known-listing-2 : tie.Need-enum-known-listing-2
 enum-known-listing-2 c = search needs

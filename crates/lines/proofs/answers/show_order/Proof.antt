@@ -21,7 +21,7 @@ put-keys-requires : tie.Need-put-keys-requires
 put-keys-requires c κs = let f = c .before .before .before .list-order .ensures in (f .room, (search needs, omega (arith, order-line (stateOf (c .before .before .before .before .before .before .args .v) (c .before .before .before .before .before .before .args .cached .now) (c .before .before .before .before .before .before .args .fetching .now)) (c .before .before .before .before .before .before .pre .0) _ _ (c .before .before .before .before .before .before .args .letter) (c .before .before .before .before .before .before .args .stealing) (f))))
 
 put-byte-requires : tie.Need-put-byte-requires
-put-byte-requires c κs = omega (arith, c .before .before .before .put-keys .ensures .place, order-line (stateOf (c .before .before .before .before .before .before .before .before .before .before .args .v) (c .before .before .before .before .before .before .before .before .before .before .args .cached .now) (c .before .before .before .before .before .before .before .before .before .before .args .fetching .now)) (c .before .before .before .before .before .before .before .before .before .before .pre .0) _ _ (c .before .before .before .before .before .before .before .before .before .before .args .letter) (c .before .before .before .before .before .before .before .before .before .before .args .stealing) (c .before .before .before .before .before .before .before .list-order .ensures))
+put-byte-requires c κs = omega (arith, c .before .before .before .put-keys .ensures .next-is, order-line (stateOf (c .before .before .before .before .before .before .before .before .before .before .args .v) (c .before .before .before .before .before .before .before .before .before .before .args .cached .now) (c .before .before .before .before .before .before .before .before .before .before .args .fetching .now)) (c .before .before .before .before .before .before .before .before .before .before .pre .0) _ _ (c .before .before .before .before .before .before .before .before .before .before .args .letter) (c .before .before .before .before .before .before .before .before .before .before .args .stealing) (c .before .before .before .before .before .before .before .list-order .ensures))
 
 same-length : tie.Need-same-length
 same-length c = search needs

@@ -9,7 +9,7 @@ put-case-requires : tie.Need-put-case-requires
 put-case-requires c κs = search needs
 
 put-byte-requires : tie.Need-put-byte-requires
-put-byte-requires c κs = omega (arith, c .before .before .before .put-case .ensures .place, answer-length (c .before .before .before .before .before .before .args .answer))
+put-byte-requires c κs = omega (arith, c .before .before .before .put-case .ensures .next-is, answer-length (c .before .before .before .before .before .before .args .answer))
 
 same-length : tie.Need-same-length
 same-length c = search needs

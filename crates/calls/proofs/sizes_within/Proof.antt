@@ -5,8 +5,8 @@ use borrow.Author.Needs.{needs}
 use lib.ListN.{length, drop}
 use Rattle.rules.specs.Lists.{within, every}
 use Rattle.calls.proofs.Walks.{every-more, every-fails, every-end}
-use Rattle.calls.proofs.sizes_in.Statement.{statement}
-use Rattle.calls.proofs.sizes_in.Tie as tie
+use Rattle.calls.proofs.sizes_within.Statement.{statement}
+use Rattle.calls.proofs.sizes_within.Tie as tie
 
 abbrev Inv-loop : tie.InvT-loop
 Inv-loop sizes i₀ i = (i ≤ 8) × (length sizes ≡ 8) × (every (within 0 1024) sizes ≡ every (within 0 1024) (drop i sizes))
@@ -41,8 +41,8 @@ loop-again c = search (every-more (within 0 1024), needs)
 returns-2 : tie.Need-returns-2 Inv-loop μ-loop
 returns-2 c = search (every-end (within 0 1024), needs)
 
-pub sizes-in-spec : {M : Type 1} → statement M
-sizes-in-spec =
+pub sizes-within-spec : {M : Type 1} → statement M
+sizes-within-spec =
     tie.close
     (tie.spec
     Inv-loop

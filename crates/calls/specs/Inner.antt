@@ -5,12 +5,10 @@ use mathlib.Core.Bool.{cond}
 use mathlib.Core.List.{List}
 use mathlib.Core.Logic.{_≢_}
 use mathlib.Core.Option.{Option, some}
-use lib.ListN.{getD}
-use lib.Dec.{eqb}
-use Rattle.bits.specs.Map.{bit, putBit}
+use Rattle.bits.specs.Map.{on, putBit}
 use Rattle.rules.specs.Lists.{onOption}
 use Rattle.rules.specs.Pages.{fileOf, pageOf, keyOf}
-use Rattle.rules.specs.Readers.{noReader}
+use Rattle.rules.specs.Readers.{readerIn}
 use Rattle.rules.specs.Calls.{withCached, without, closed}
 use Rattle.parts.specs.Files.{noFileIn, noPageIn}
 use Rattle.rules.specs.declared.State.{State}
@@ -18,6 +16,8 @@ use Rattle.rules.specs.declared.Answer.{Answer}
 use Rattle.rules.specs.declared.View.{View}
 use Rattle.rules.specs.declared.Outcome.{Outcome}
 use Rattle.rules.specs.declared.Answer.the-variants.{Refused, Arrived, Replaced}
+use Rattle.calls.specs.declared.Fetched.{Fetched}
+use Rattle.calls.specs.declared.Fetched.the-variants.{Open, Refused as NotOpen}
 
 -- a view and an answer
 abbrev pub outcomeOf : View → Answer → Outcome
@@ -27,14 +27,16 @@ outcomeOf v a = record { view = v; answer = a }
 abbrev pub refusal : View → ℕ → Outcome
 refusal v number = outcomeOf v (Refused number)
 
--- with what Arrive and Lost refuse a page: 3, 8 or 9; 0 where it is in fetch
-unfoldable pub fetchRefusal : List ℕ → List ℕ → ℕ → ℕ → ℕ
-fetchRefusal sizes fetching file page =
-    cond (noFileIn sizes file) 3 (cond (noPageIn sizes file page) 8 (cond (eqb (bit fetching (keyOf file page)) 1) 0 9))
+-- what Arrive and Lost find of a page: its key where it is in fetch, else 3, 8 or 9
+unfoldable pub openFetch : List ℕ → List ℕ → ℕ → ℕ → Fetched
+openFetch sizes fetching file page =
+    cond (noFileIn sizes file) (NotOpen 3)
+    (cond (noPageIn sizes file page) (NotOpen 8)
+    (cond (on fetching (keyOf file page)) (Open (keyOf file page)) (NotOpen 9)))
 
 -- every slot but this one has the record that it had
 abbrev pub OthersStay : View → ℕ → View → Type 0
-OthersStay v slot w = (j : ℕ) → j ≢ slot → getD (w .readers) j noReader ≡ getD (v .readers) j noReader
+OthersStay v slot w = (j : ℕ) → j ≢ slot → readerIn (w .readers) j ≡ readerIn (v .readers) j
 
 -- the key of the page chosen, if any, is one of a map's
 abbrev pub InMap : Option ℕ → Type 0

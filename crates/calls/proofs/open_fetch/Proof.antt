@@ -1,23 +1,23 @@
 -- File, page and fetch are tested one after the other, up to the first that fails.
 use borrow.Author.Needs.{needs}
-use Rattle.calls.specs.Parts.{fetchRefusal}
+use Rattle.calls.specs.Inner.{openFetch}
 use Rattle.calls.proofs.Outcomes.{keyed}
 use Rattle.parts.proofs.Files.{file-high, there-small, there-low}
-use Rattle.calls.proofs.fetch_refusal.Statement.{statement}
-use Rattle.calls.proofs.fetch_refusal.Tie as tie
+use Rattle.calls.proofs.open_fetch.Statement.{statement}
+use Rattle.calls.proofs.open_fetch.Tie as tie
 
 no-file-requires : tie.Need-no-file-requires
 no-file-requires c κs = search needs
 
 returns : tie.Need-returns
-unfolding fetchRefusal
+unfolding openFetch
 returns c = search keyed depth 12
 
 no-page-requires : tie.Need-no-page-requires
 no-page-requires c κs = search (file-high, needs)
 
 returns-2 : tie.Need-returns-2
-unfolding fetchRefusal
+unfolding openFetch
 returns-2 c = search keyed depth 12
 
 page-key-requires : tie.Need-page-key-requires
@@ -27,15 +27,17 @@ has-bit-requires : tie.Need-has-bit-requires
 has-bit-requires c κs = search (there-low, needs)
 
 returns-3 : tie.Need-returns-3
-unfolding fetchRefusal
-returns-3 c = search keyed depth 12
+unfolding openFetch
+returns-3 c =
+    let at-bit = c .before in
+    rw (at-bit .before .page-key .ensures) (search keyed depth 12)
 
 returns-4 : tie.Need-returns-4
-unfolding fetchRefusal
+unfolding openFetch
 returns-4 c = search keyed depth 12
 
-pub fetch-refusal-spec : {M : Type 1} → statement M
-fetch-refusal-spec =
+pub open-fetch-spec : {M : Type 1} → statement M
+open-fetch-spec =
     tie.close
     (tie.spec
     no-file-requires
