@@ -1,27 +1,33 @@
 -- The searches for the heads of the two orders, page by page. Assumes nothing.
 use mathlib.Core.Path.{_≡_, refl, sym, ap, ap₂, _∙_, subst}
-use mathlib.Core.Bool.{Bool, not, _&&_}
-use mathlib.Core.Option.{none, some}
-use Prim.Native.Nat.{ℕ, zero, suc, _+_, _-_, _*_, _≤_, _<_}
+use mathlib.Core.Bool.{Bool, true, false, not, cond, _&&_}
+use mathlib.Core.List.{[], _∷_}
+use mathlib.Core.Logic.{_⊎_, inl, inr}
+use mathlib.Core.Option.{Option, none, some}
+use Prim.Native.Nat.{ℕ, zero, suc, _+_, _-_, _*_, _/_, _%_, _^_, _≤_, _<_}
 use native.Mathlib.Decide.{decLt}
 use native.Mathlib.Omega.{arith}
-use borrow.Author.Tests.{eq-eqb}
+use borrow.Author.Tests.{eq-eqb, ne-eqb}
+use lib.Bits.{bitAnd}
 use lib.Dec.{T, eqb, eqb→eq}
 use Rattle.bits.specs.Map.{bit}
-use Rattle.bits.proofs.Bits.{bit-le}
-use Rattle.bits.proofs.Finds.{Next, next-is}
+use Rattle.bits.proofs.Bits.{bit-le, and-is}
+use Rattle.bits.proofs.Finds.{Next, next-is, last-is}
 use Rattle.rules.specs.Lists.{head}
-use Rattle.rules.specs.Pages.{cached}
+use Rattle.rules.specs.Pages.{fileOf, cached}
 use Rattle.rules.specs.Readers.{readerAt, attached, lastPage}
 use Rattle.rules.specs.Valid.{Valid}
 use Rattle.rules.specs.UseTimes.{before, never, useFor}
 use Rattle.rules.specs.Orders.{absent, fetchOrder, victim}
+use Rattle.rules.proofs.laws.Tests.{side, is-true, is-false, and-both}
 use Rattle.rules.proofs.laws.Cases.{passed}
+use Rattle.rules.proofs.orders.Distinct.{among-all}
 use Rattle.rules.proofs.orders.LookAheads.{before-is, is-before, use-least}
-use Rattle.rules.specs.Ranks.{rank, lastCached, AtMost, FirstAbsent, NoneBelow, AtLeast, Before}
+use Rattle.rules.specs.Ranks.{rank, cachedAmong, victimAmong, lastCached, AtMost, FirstAbsent, NoneBelow, AtLeast, Before}
 use Rattle.rules.proofs.orders.Candidates.{candidate-cached, NoneAbove, best-candidate, no-candidate, none-below, slot-below, absent-least, absent-wanted, best-wanted, no-wanted}
 use Rattle.rules.specs.declared.State.{State}
 use Rattle.rules.specs.declared.Reader.{Reader}
+use Rattle.order.specs.Choices.{inSet}
 use Rattle.order.specs.Absent.{nextAbsent}
 use Rattle.order.specs.Searches.{lower, Over, Ranked, Raised, Highest, Soonest}
 use Rattle.order.specs.declared.Pick.{Pick}
@@ -29,67 +35,122 @@ use Rattle.order.proofs.Slots.{lower-least}
 use Rattle.bits.proofs.Joins.{joined, joined-clear}
 use Rattle.order.proofs.Lacks.{absent-joined}
 
--- ---- the victim
+-- ---- the page to give up
 
-module _ (s : State) where
-  module _ (f n page : ℕ) (e : page ≡ lastCached s f n) (p : Pick) where
+-- a file is in a set where its digit is set
+digit-is : (files f : ℕ) → f < 8 → bitAnd (files / 2 ^ f) 1 ≡ bit (files ∷ []) f
+digit-is files f l =
+    let z : f / 64 ≡ 0 = omega arith in
+    let m : f % 64 ≡ f = omega arith in
+    rw (z, m) at (and-is (files ∷ []) f)
+
+-- the file is in the set
+pub of-file-in : (files f n : ℕ) → f < 8 → bitAnd (files / 2 ^ f) 1 ≡ 1 → n ≡ cond (inSet files f) n 0
+of-file-in files f n l e = rw (eq-eqb (bit (files ∷ []) f) 1 (sym (digit-is files f l) ∙ e)) refl
+
+-- the file is not
+pub of-file-out : (files f n : ℕ) → f < 8 → (bitAnd (files / 2 ^ f) 1 ≡ 1 → ⊥) → 0 ≡ cond (inSet files f) n 0
+of-file-out files f n l e = rw (ne-eqb (bit (files ∷ []) f) 1 (λ z. e (digit-is files f l ∙ z))) refl
+
+-- at most n pages either way
+pub set-most : (files : ℕ → Bool) (f n m : ℕ) → m ≡ cond (files f) n 0 → m ≤ n
+set-most files f n m e = rw e (go (files f))
+  where
+    go : (b : Bool) → cond b n 0 ≤ n
+    go true = omega arith
+    go false = omega arith
+
+module _ (s : State) (files : ℕ → Bool) where
+  module _ (f n m page : ℕ) (small : n ≤ 1024) (c : m ≡ cond (files f) n 0) (e : page ≡ lastCached s f m) (p : Pick) where
+    -- of a file of the set all n pages are looked at
+    whole : T (files f) → m ≡ n
+    whole h = rw (is-true (files f) h) at c
+
+    -- a page that is found is of the set
+    of-set : (page ≡ 0 → ⊥) → T (files f)
+    of-set z = go (side (files f))
+      where
+        go : T (files f) ⊎ T (not (files f)) → T (files f)
+        go (inl h) = h
+        go (inr h) = let o : m ≡ 0 = rw (is-false (files f) h) at c in absurd (z (omega (arith, last-is (s .cached) (f * 1024) m .high)))
+
     -- there is no candidate
-    pub raised-none : Ranked s p → page ≡ 0 → Raised s f n p p
-    raised-none k z = record { page = k; up = omega arith; most = λ h. absurd (omega arith) }
+    pub raised-none : Ranked s files p → page ≡ 0 → Raised s files f n p p
+    raised-none k z = record { page = k; up = omega arith; most = λ h l. absurd (omega (arith, ap (lastCached s f) (whole h))) }
 
     module _ (value : ℕ) (o : Over s (f * 1024 + page - 1) (p .value) value) where
-      most : (b : ℕ) → value ≤ b → AtMost s b f n
-      most b l _ = omega (arith, o .least, ap (λ i. rank s (f * 1024 + i - 1)) e)
+      most : (b : ℕ) → value ≤ b → T (files f) → AtMost s b f n
+      most b l h _ = omega (arith, o .least, ap (λ i. rank s (f * 1024 + i - 1)) (e ∙ ap (lastCached s f) (whole h)))
 
       -- a candidate that is kept
-      pub raised-take : (page ≡ 0 → ⊥) → p .value < value → Raised s f n p (record { key = f * 1024 + page - 1; value = value })
-      raised-take z l = record {
-        page = record { held = λ _. subst (λ i. T (cached s (f * 1024 + i - 1))) (sym e) (candidate-cached s f n (omega arith)); its = λ _. sym (o .exact l) };
-        up = omega arith;
-        most = most value (omega arith);
-      }
+      pub raised-take : (page ≡ 0 → ⊥) → p .value < value → Raised s files f n p (record { key = f * 1024 + page - 1; value = value })
+      raised-take z l = record { page = record { held = λ _. held; its = λ _. sym (o .exact l) }; up = omega arith; most = most value (omega arith) }
+        where
+          held : T (cachedAmong files s (f * 1024 + page - 1))
+          held =
+              let k : ℕ = f * 1024 + page - 1 in
+              let g : f ≡ fileOf k = omega (arith, last-is (s .cached) (f * 1024) m .high, whole (of-set z)) in
+              and-both (cached s k) _ (subst (λ i. T (cached s (f * 1024 + i - 1))) (sym e) (candidate-cached s f m (omega arith))) (subst (λ i. T (files i)) g (of-set z))
 
       -- a candidate of no higher rank
-      pub raised-keep : Ranked s p → value ≤ p .value → Raised s f n p p
+      pub raised-keep : Ranked s files p → value ≤ p .value → Raised s files f n p p
       raised-keep k l = record { page = k; up = omega arith; most = most (p .value) l }
 
   -- a search starts with none of the candidates
-  pub highest-none : Highest s 24 (record { key = 0; value = 0 })
+  pub highest-none : Highest s files 24 (record { key = 0; value = 0 })
   highest-none = record {
     page = record { held = λ h. absurd (omega arith); its = λ h. absurd (omega arith) };
-    files = λ f l u. absurd (omega arith);
-    slots = λ j l u. absurd (omega arith);
+    by-file = λ f l u. absurd (omega arith);
+    by-slot = λ j l u. absurd (omega arith);
   }
 
   -- one candidate more, of a file or of a slot
-  pub highest-more : (i : ℕ) (p q : Pick) (f n : ℕ) → Highest s (i + 1) p → Raised s f n p q
+  pub highest-more : (i : ℕ) (p q : Pick) (f n : ℕ) → Highest s files (i + 1) p → Raised s files f n p q
       → (i < 8 → (f ≡ i) × (n ≡ 1024))
       → ((j : ℕ) → i ≡ 8 + j → T (attached (readerAt s j)) → (f ≡ readerAt s j .file) × (n ≡ readerAt s j .position))
-      → Highest s i q
-  highest-more i p q f n a r of-file of-slot = record { page = r .page; files = λ g l u. files g l u (decLt i g); slots = λ j l u h. slots j l u h (decLt i (8 + j)) }
+      → Highest s files i q
+  highest-more i p q f n a r of-file of-slot = record { page = r .page; by-file = λ g l u o. by-file g l u o (decLt i g); by-slot = λ j l u h o. by-slot j l u h o (decLt i (8 + j)) }
     where
       raised : (g m : ℕ) → AtMost s (p .value) g m → AtMost s (q .value) g m
       raised g m h t = omega (arith, h t, r .up)
 
-      files : (g : ℕ) → i ≤ g → g < 8 → Dec (i < g) → AtMost s (q .value) g 1024
-      files g l u (yes m) = raised g 1024 (a .files g (omega arith) u)
-      files g l u (no m) = let t = of-file (omega arith) in let e : f ≡ g = omega (arith, t .0) in rw (e, t .1) at (r .most)
+      by-file : (g : ℕ) → i ≤ g → g < 8 → T (files g) → Dec (i < g) → AtMost s (q .value) g 1024
+      by-file g l u o (yes m) = raised g 1024 (a .by-file g (omega arith) u o)
+      by-file g l u o (no m) = let t = of-file (omega arith) in let e : f ≡ g = omega (arith, t .0) in (rw (e, t .1) at (r .most)) o
 
-      slots : (j : ℕ) → i ≤ 8 + j → j < 16 → T (attached (readerAt s j)) → Dec (i < 8 + j) → AtMost s (q .value) (readerAt s j .file) (readerAt s j .position)
-      slots j l u h (yes m) = raised (readerAt s j .file) (readerAt s j .position) (a .slots j (omega arith) u h)
-      slots j l u h (no m) = let t = of-slot j (omega arith) h in rw (t .0, t .1) at (r .most)
+      by-slot : (j : ℕ) → i ≤ 8 + j → j < 16 → T (attached (readerAt s j)) → T (files (readerAt s j .file)) → Dec (i < 8 + j)
+          → AtMost s (q .value) (readerAt s j .file) (readerAt s j .position)
+      by-slot j l u h o (yes m) = raised (readerAt s j .file) (readerAt s j .position) (a .by-slot j (omega arith) u h o)
+      by-slot j l u h o (no m) = let t = of-slot j (omega arith) h in (rw (t .0, t .1) at (r .most)) o
 
-  module _ (w : Valid s) (p : Pick) (a : Highest s 0 p) where
-    above : NoneAbove s 8 16 (p .value)
-    above = record { files = λ f l. a .files f (omega arith) l; slots = λ j l. a .slots j (omega arith) l }
+  module _ (w : Valid s) (p : Pick) (a : Highest s files 0 p) where
+    above : NoneAbove s files 8 16 (p .value)
+    above = record { by-file = λ f l. a .by-file f (omega arith) l; by-slot = λ j l. a .by-slot j (omega arith) l }
 
-    -- the page kept is the victim
-    pub highest-victim : 0 < p .value → victim s ≡ some (p .key)
-    highest-victim h = best-candidate s w (p .key) (a .page .held h) (subst (NoneAbove s 8 16) (sym (a .page .its h)) above)
+    -- the page kept is the one to give up
+    pub highest-victim : 0 < p .value → victimAmong files s ≡ some (p .key)
+    highest-victim h = best-candidate s w files (p .key) (a .page .held h) (subst (NoneAbove s files 8 16) (sym (a .page .its h)) above)
 
     -- none is kept, and there is none
-    pub highest-nothing : p .value ≡ 0 → victim s ≡ none
-    highest-nothing e = no-candidate s w 16 (subst (NoneAbove s 8 16) e above)
+    pub highest-nothing : p .value ≡ 0 → victimAmong files s ≡ none
+    highest-nothing e = no-candidate s w files 16 (subst (NoneAbove s files 8 16) e above)
+
+-- every file is in the set of all
+in-all : (f : ℕ) → f < 8 → T (inSet 255 f)
+unfolding bit
+in-all zero l = tt
+in-all (suc zero) l = tt
+in-all (suc (suc zero)) l = tt
+in-all (suc (suc (suc zero))) l = tt
+in-all (suc (suc (suc (suc zero)))) l = tt
+in-all (suc (suc (suc (suc (suc zero))))) l = tt
+in-all (suc (suc (suc (suc (suc (suc zero)))))) l = tt
+in-all (suc (suc (suc (suc (suc (suc (suc zero))))))) l = tt
+in-all (suc (suc (suc (suc (suc (suc (suc (suc f)))))))) l = absurd (omega arith)
+
+-- of all files the page to give up is the box's
+pub victim-of-all : (s : State) → Valid s → (o : Option ℕ) → o ≡ victimAmong (inSet 255) s → o ≡ victim s
+victim-of-all s w o e = e ∙ among-all s w (inSet 255) in-all
 
 -- ---- the next fetch
 

@@ -1,8 +1,10 @@
 -- The page chosen, and what the searches rest on: the ranges of a view, and that cached pages are pages. Assumes nothing: these are definitions.
 use Prim.Native.Nat.{ℕ, _≤_, _<_}
-use mathlib.Core.List.{List, []}
+use mathlib.Core.Bool.{Bool}
+use mathlib.Core.List.{List, [], _∷_}
 use mathlib.Core.Option.{Option, none, some}
 use lib.Dec.{T}
+use Rattle.bits.specs.Map.{on}
 use Rattle.rules.specs.Pages.{cached, Page}
 use Rattle.rules.specs.Readers.{readerIn, attached}
 use Rattle.rules.specs.Views.{stateOf}
@@ -14,6 +16,10 @@ use Rattle.order.specs.declared.Choice.the-variants.{Key, Nothing}
 abbrev pub chosen : Choice → Option ℕ
 chosen (Key k) = some k
 chosen Nothing = none
+
+-- the files of a set: the digits of a word
+abbrev pub inSet : ℕ → ℕ → Bool
+inSet files = on (files ∷ [])
 
 -- the ranges that the searches rest on; every valid state has them
 pub record Ranged (v : View) : Type 0 where

@@ -1,5 +1,5 @@
 // The heads of the two orders, and a page's rank and use key, by which the lists are sorted. The orders themselves are not made here: of a few pages that
-// can come first, the searches keep the best.
+// can come first, the searches keep the best. What q takes for cached is a map of its own, `present`: today the cached map, which the two heads lend for it.
 
 use rules::Reader;
 use rules::View;
@@ -15,9 +15,9 @@ ghost use Rattle.rules.specs.Readers.{readerIn, attached};
 ghost use Rattle.rules.specs.Valid.{Valid};
 ghost use Rattle.rules.specs.UseTimes.{missing, useKey};
 ghost use Rattle.rules.specs.Orders.{fetchOrder, victim};
-ghost use Rattle.rules.specs.Ranks.{rank, Before};
+ghost use Rattle.rules.specs.Ranks.{rank, victimAmong, Presents, Before};
 ghost use Rattle.rules.specs.Views.{stateOf};
-ghost use Rattle.order.specs.Choices.{chosen, Ranged, Housed};
+ghost use Rattle.order.specs.Choices.{chosen, inSet, Ranged, Housed};
 ghost use Rattle.order.specs.Seats.{Seated};
 ghost use Rattle.order.specs.Absent.{nextAbsent};
 ghost use Rattle.order.specs.Searches.{lower, Over, Ranked, Raised, Soonest};
@@ -37,6 +37,9 @@ struct Pick {
 // Above every use key: the page is in no look-ahead.
 pub const NEVER: u64 = 67108864;
 
+// The set of the files 0 to 7.
+const ALL_FILES: u64 = 255;
+
 // The smaller of two numbers.
 fn lesser(a: u64, b: u64) -> u64
     ensures { λ r. ⌜ r ≡ min a b ⌝ }
@@ -47,12 +50,13 @@ fn lesser(a: u64, b: u64) -> u64
     b
 }
 
-// How many of the pages from + 1 to from + n of the file are not cached.
-fn missing(cached: &[u64; 128], file: usize, from: usize, n: usize) -> u64
+// How many of the pages from + 1 to from + n of the file are not present.
+fn missing(present: &[u64; 128], file: usize, from: usize, n: usize) -> u64
     requires { ⌜ (file < 8) × (from + n ≤ 1024) ⌝ }
-    ensures { λ r. ⌜ ((s : State) → s .cached ≡ now (cached .entry) → r ≡ missing s file from n) ⌝ }
+    ensures { λ r. ⌜ ((s : State) → Presents s (now (present .entry)) → r ≡ missing s file from n) ⌝ }
+    ensures few { λ r. ⌜ r ≤ n ⌝ }
 {
-    (n as u64) - (bits::count(cached, file * 1024 + from, n) as u64)
+    (n as u64) - (bits::count(present, file * 1024 + from, n) as u64)
 }
 
 // The seat distance of a slot.
@@ -66,7 +70,7 @@ fn seat(turn: u8, slot: usize) -> u64
 // The least number so far, or the slot's use key where that is less. The pages between are counted only if the reader can still come first.
 fn lowered(
     v: View,
-    cached: &[u64; 128],
+    present: &[u64; 128],
     slot: usize,
     position: u16,
     pace: u16,
@@ -77,7 +81,7 @@ fn lowered(
     requires { ⌜ (slot < 16) × (key < 8192) ⌝ }
     requires { ⌜ (position ≡ readerIn (v .readers) slot .position) × (pace ≡ readerIn (v .readers) slot .pace) ⌝ }
     requires { ⌜ Before (stateOf v [] []) (readerIn (v .readers) slot) key ⌝ }
-    ensures { λ r. ⌜ ((m : List ℕ) → r ≡ lower (stateOf v (now (cached .entry)) m) key slot low) ⌝ }
+    ensures { λ r. ⌜ ((c f : List ℕ) → Presents (stateOf v c f) (now (present .entry)) → r ≡ lower (stateOf v c f) key slot low) ⌝ }
 {
     let from = position as usize;
     let steps = key % 1024 + 1 - from;
@@ -95,7 +99,7 @@ fn lowered(
     if time == 0 {
         return earliest;
     }
-    let q = missing(cached, key / 1024, from, steps - 1);
+    let q = missing(present, key / 1024, from, steps - 1);
     if look < (q + 1) * time {
         return low;
     }
@@ -126,10 +130,10 @@ pub fn seats_of(readers: [Reader; 16]) -> [u16; 56]
 
 // The rank of a page of its file, or, where that is no higher than the floor, a number that is no higher either: one pass over the file's readers,
 // from the last slot down, that stops as soon as the page cannot rank above the floor.
-fn rank_over(v: View, seats: &[u16; 56], cached: &[u64; 128], key: usize, floor: u64) -> u64
+fn rank_over(v: View, seats: &[u16; 56], present: &[u64; 128], key: usize, floor: u64) -> u64
     requires { ⌜ Ranged v × Seated (v .readers) 16 (now seats) ⌝ }
     requires { ⌜ Page (stateOf v [] []) key ⌝ }
-    ensures { λ r. ⌜ ((m : List ℕ) → Over (stateOf v (now (cached .entry)) m) key floor r) ⌝ }
+    ensures { λ r. ⌜ ((c f : List ℕ) → Presents (stateOf v c f) (now (present .entry)) → Over (stateOf v c f) key floor r) ⌝ }
 {
     let page = key % 1024 + 1;
     let place = (page * 8 + key / 1024) as u64;
@@ -140,7 +144,7 @@ fn rank_over(v: View, seats: &[u16; 56], cached: &[u64; 128], key: usize, floor:
         let position = seats[slot];
         if (position as usize) < page {
             let low = lesser(top, NEVER + place);
-            top = lowered(v, cached, slot, position, seats[16 + slot], key, low);
+            top = lowered(v, present, slot, position, seats[16 + slot], key, low);
             if top <= floor {
                 return top;
             }
@@ -151,28 +155,41 @@ fn rank_over(v: View, seats: &[u16; 56], cached: &[u64; 128], key: usize, floor:
 }
 
 // A page's rank: the higher, the sooner it is given up. The seats are lent, so that a list of pages has them made once.
-pub fn rank(v: View, seats: &[u16; 56], cached: &[u64; 128], key: usize) -> u64
+pub fn rank(v: View, seats: &[u16; 56], present: &[u64; 128], key: usize) -> u64
     requires { ⌜ Ranged v × Seated (v .readers) 16 (now seats) ⌝ }
     requires { ⌜ Page (stateOf v [] []) key ⌝ }
-    ensures { λ r. ⌜ ((m : List ℕ) → r ≡ rank (stateOf v (now (cached .entry)) m) key) ⌝ }
+    ensures { λ r. ⌜ ((c f : List ℕ) → Presents (stateOf v c f) (now (present .entry)) → r ≡ rank (stateOf v c f) key) ⌝ }
 {
-    rank_over(v, seats, cached, key, 0)
+    rank_over(v, seats, present, key, 0)
 }
 
 // A page's use key; NEVER where the page is in no look-ahead.
-pub fn use_key(v: View, seats: &[u16; 56], cached: &[u64; 128], key: usize) -> u64
+pub fn use_key(v: View, seats: &[u16; 56], present: &[u64; 128], key: usize) -> u64
     requires { ⌜ Ranged v × Seated (v .readers) 16 (now seats) ⌝ }
     requires { ⌜ Page (stateOf v [] []) key ⌝ }
-    ensures { λ r. ⌜ ((m : List ℕ) → r ≡ useKey (stateOf v (now (cached .entry)) m) key) ⌝ }
+    ensures { λ r. ⌜ ((c f : List ℕ) → Presents (stateOf v c f) (now (present .entry)) → r ≡ useKey (stateOf v c f) key) ⌝ }
 {
-    lesser(rank(v, seats, cached, key), NEVER)
+    lesser(rank(v, seats, present, key), NEVER)
 }
 
-// The last cached one of the file's first n pages, if there is one and its rank is higher than the best.
-fn higher(
+// So many pages of a file that is in the set; none of any other.
+fn pages_of(files: u64, file: usize, n: usize) -> usize
+    requires { ⌜ file < 8 ⌝ }
+    ensures { λ r. ⌜ r ≡ cond (inSet files file) n 0 ⌝ }
+{
+    if (files >> file) & 1 == 1 {
+        return n;
+    }
+    0
+}
+
+// The last cached one of the file's first n pages, if the file is of the set, there is one, and its rank is higher than the best.
+fn higher<'a>(
     v: View,
     seats: &[u16; 56],
-    cached: &[u64; 128],
+    present: &'a [u64; 128],
+    cached: &'a [u64; 128],
+    files: u64,
     file: usize,
     n: usize,
     best: Pick,
@@ -180,15 +197,16 @@ fn higher(
     requires { ⌜ Ranged v × Seated (v .readers) 16 (now seats) ⌝ }
     requires { ⌜ Housed v (now cached) ⌝ }
     requires { ⌜ (file < 8) × (n ≤ 1024) ⌝ }
-    requires { ⌜ ((m : List ℕ) → Ranked (stateOf v (now cached) m) best) ⌝ }
-    ensures { λ r. ⌜ ((m : List ℕ) → Raised (stateOf v (now (cached .entry)) m) file n best r) ⌝ }
+    requires { ⌜ ((f : List ℕ) → Ranked (stateOf v (now cached) f) (inSet files) best) ⌝ }
+    ensures { λ r.
+        ⌜ ((f : List ℕ) → Presents (stateOf v (now (cached .entry)) f) (now (present .entry)) → Raised (stateOf v (now (cached .entry)) f) (inSet files) file n best r) ⌝ }
 {
-    let page = bits::last_set(cached, file * 1024, n);
+    let page = bits::last_set(cached, file * 1024, pages_of(files, file, n));
     if page == 0 {
         return best;
     }
     let key = file * 1024 + page - 1;
-    let value = rank_over(v, seats, cached, key, best.value);
+    let value = rank_over(v, seats, present, key, best.value);
     if best.value < value {
         return Pick {
             key: key as u16,
@@ -208,12 +226,16 @@ fn behind(r: Reader) -> usize
     0
 }
 
-// The page to give up: of a file's cached pages with no reader between, only the last can be of the highest rank. So 24 pages are looked at: the last
-// at or before each slot's position, then the last of each file.
-// The fetch map is not read: it is lent so that the contract can speak of a whole state.
-pub fn victim<'a>(v: View, cached: &'a [u64; 128], fetching: &'a [u64; 128]) -> Choice
+// The page to give up among the files of a set, which is a word with a digit for each file. Of a file's cached pages with no reader between, only the last
+// can be of the highest rank. So 24 pages are looked at: the last at or before each slot's position, then the last of each file.
+pub fn victim_among<'a>(
+    v: View,
+    cached: &'a [u64; 128],
+    fetching: &'a [u64; 128],
+    files: u64,
+) -> Choice
     requires { ⌜ Valid (stateOf v (now cached) (now fetching)) ⌝ }
-    ensures { λ r. ⌜ chosen r ≡ victim (stateOf v (now (cached .entry)) (now (fetching .entry))) ⌝ }
+    ensures { λ r. ⌜ chosen r ≡ victimAmong (inSet files) (stateOf v (now (cached .entry)) (now (fetching .entry))) ⌝ }
 {
     let readers = v.readers;
     let seats = seats_of(readers);
@@ -228,12 +250,20 @@ pub fn victim<'a>(v: View, cached: &'a [u64; 128], fetching: &'a [u64; 128]) -> 
             file = r.file as usize;
             n = behind(r);
         }
-        best = higher(v, &seats, cached, file, n, best);
+        best = higher(v, &seats, cached, cached, files, file, n, best);
     }
     if best.value == 0 {
         return Choice::Nothing;
     }
     Choice::Key(best.key)
+}
+
+// The page to give up: that of all files.
+pub fn victim<'a>(v: View, cached: &'a [u64; 128], fetching: &'a [u64; 128]) -> Choice
+    requires { ⌜ Valid (stateOf v (now cached) (now fetching)) ⌝ }
+    ensures { λ r. ⌜ chosen r ≡ victim (stateOf v (now (cached .entry)) (now (fetching .entry))) ⌝ }
+{
+    victim_among(v, cached, fetching, ALL_FILES)
 }
 
 // The first digit from digit s on that is 0 in both words, or 64: the first 1 of the complement of both together.
@@ -269,12 +299,14 @@ fn next_absent<'a>(cached: &'a [u64; 128], fetching: &'a [u64; 128], from: usize
 // The slot's first absent page after its position, if that is used sooner than the best.
 fn sooner<'a>(
     v: View,
+    present: &'a [u64; 128],
     cached: &'a [u64; 128],
     fetching: &'a [u64; 128],
     slot: usize,
     best: Pick,
 ) -> Pick
     requires { ⌜ Valid (stateOf v (now cached) (now fetching)) ⌝ }
+    requires { ⌜ Presents (stateOf v (now cached) (now fetching)) (now present) ⌝ }
     requires { ⌜ slot < 16 ⌝ }
     requires { ⌜ Soonest (stateOf v (now cached) (now fetching)) slot best ⌝ }
     ensures { λ r. ⌜ Soonest (stateOf v (now (cached .entry)) (now (fetching .entry))) (slot + 1) r ⌝ }
@@ -291,7 +323,7 @@ fn sooner<'a>(
     if key == file * 1024 + last {
         return best;
     }
-    let value = lowered(v, cached, slot, r.position, r.pace, key, best.value);
+    let value = lowered(v, present, slot, r.position, r.pace, key, best.value);
     if value < best.value {
         return Pick {
             key: key as u16,
@@ -312,7 +344,7 @@ pub fn next_fetch<'a>(v: View, cached: &'a [u64; 128], fetching: &'a [u64; 128])
     };
     let mut slot: usize = 0;
     while slot < 16 {
-        best = sooner(v, cached, fetching, slot, best);
+        best = sooner(v, cached, cached, fetching, slot, best);
         slot += 1;
     }
     if best.value == NEVER {

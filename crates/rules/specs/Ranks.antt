@@ -2,17 +2,24 @@
 -- proofs/orders/Ranks.antt and Candidates.antt show that these are the orders. Assumes nothing: these are definitions.
 use Prim.Native.Nat.{ℕ, _+_, _*_, _≤_, _<_}
 use mathlib.Core.Path.{_≡_}
-use mathlib.Core.Bool.{Bool, not, cond, _&&_}
+use mathlib.Core.Bool.{Bool, cond, _&&_}
+use mathlib.Core.List.{List}
+use mathlib.Core.Option.{Option}
 use lib.Dec.{T}
-use Rattle.bits.specs.Map.{lastBit}
-use Rattle.rules.specs.Pages.{fileOf, pageOf, keyOf, cached, inFetch}
+use Rattle.bits.specs.Map.{on, lastBit}
+use Rattle.rules.specs.Lists.{only, head}
+use Rattle.rules.specs.Pages.{fileOf, pageOf, keyOf, cached}
 use Rattle.rules.specs.Readers.{readerAt, attached, lastPage}
-use Rattle.rules.specs.UseTimes.{before, sees, never, useFor, useKey, ahead, seen}
-use Rattle.rules.specs.Orders.{place, absent}
+use Rattle.rules.specs.UseTimes.{before, present, sees, never, useFor, useKey, ahead, seen}
+use Rattle.rules.specs.Orders.{place, stealOrder, absent}
 use Rattle.rules.specs.declared.State.{State}
 use Rattle.rules.specs.declared.Reader.{Reader}
 
--- ---- what a reader has before it
+-- ---- what q takes for cached, and what a reader has before it
+
+-- the map has a bit for each page that q takes for cached
+abbrev pub Presents : State → List ℕ → Type 0
+Presents s words = (k : ℕ) → present s k ≡ on words k
 
 -- `before`, in its parts
 pub record Before (s : State) (r : Reader) (k : ℕ) : Type 0 where
@@ -26,6 +33,14 @@ pub record Before (s : State) (r : Reader) (k : ℕ) : Type 0 where
 -- the rank of a page: the higher, the sooner it goes
 unfoldable pub rank : State → ℕ → ℕ
 rank s k = cond (ahead s k) (cond (seen s k) (useKey s k) (never + place k)) (2 * never + place k)
+
+-- a cached page of the files of a set
+abbrev pub cachedAmong : (ℕ → Bool) → State → ℕ → Bool
+cachedAmong files s k = cached s k && files (fileOf k)
+
+-- the page to give up among the files of a set: the first of their pages in the steal order. The box's own is that of all files
+unfoldable pub victimAmong : (ℕ → Bool) → State → Option ℕ
+victimAmong files s = head (only (λ k. files (fileOf k)) (stealOrder s))
 
 -- a key's number, then the key
 abbrev pub pack : (ℕ → ℕ) → ℕ → ℕ

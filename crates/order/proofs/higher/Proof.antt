@@ -10,7 +10,8 @@ use Rattle.rules.specs.Pages.{cached}
 use Rattle.rules.proofs.orders.Candidates.{candidate-cached}
 use Rattle.rules.specs.declared.State.{State}
 use Rattle.rules.specs.Views.{stateOf}
-use Rattle.order.proofs.Searching.{raised-none, raised-take, raised-keep}
+use Rattle.order.specs.Choices.{inSet}
+use Rattle.order.proofs.Searching.{set-most, raised-none, raised-take, raised-keep}
 use Rattle.order.proofs.higher.Statement.{statement}
 use Rattle.order.proofs.higher.Tie as tie
 
@@ -18,21 +19,35 @@ use Rattle.order.proofs.higher.Tie as tie
 abbrev at : tie.Start → List ℕ → State
 at c m = stateOf (c .args .v) (c .args .cached .now) m
 
--- the candidate is one of the n pages
-within : (c : tie.After-last-set) → c .last-set .result ≤ c .before .args .n
-within c = let a = c .before .args in omega (arith, c .last-set .ensures, last-is (a .cached .now) (a .file * 1024) (a .n) .high)
+abbrev at-start : tie.After-last-set → tie.Start
+at-start c = c .before .before
+
+-- at most the n pages are looked at
+most : (c : tie.After-pages-of) → c .pages-of .result ≤ c .before .args .n
+most c = let a = c .before .args in set-most (inSet (a .files)) (a .file) (a .n) (c .pages-of .result) (c .pages-of .ensures)
+
+-- the candidate is one of them
+within : (c : tie.After-last-set) → c .last-set .result ≤ at-start c .args .n
+within c =
+    let a = at-start c .args in
+    omega (arith, c .last-set .ensures, most (c .before), last-is (a .cached .now) (a .file * 1024) (c .before .pages-of .result) .high)
 
 mul-last-set : tie.Need-mul-last-set
 mul-last-set c = search needs
 
+pages-of-requires : tie.Need-pages-of-requires
+pages-of-requires c κs = search needs
+
 last-set-requires : tie.Need-last-set-requires
-last-set-requires c κs = search needs
+last-set-requires c κs = omega (arith, most c)
 
 returns : tie.Need-returns
-returns c m =
+returns c m shows =
     let l = c .before in
-    let a = l .before .args in
-    raised-none (at (l .before) m) (a .file) (a .n) (l .last-set .result) (l .last-set .ensures) (a .best) (l .before .pre .1 .1 .1 m) (c .if1 .taken)
+    let s = at-start l in
+    let a = s .args in
+    raised-none (at s m) (inSet (a .files)) (a .file) (a .n) (l .before .pages-of .result) (l .last-set .result) (s .pre .1 .1 .0 .1)
+    (l .before .pages-of .ensures) (l .last-set .ensures) (a .best) (s .pre .1 .1 .1 m) (c .if1 .taken)
 
 mul-key : tie.Need-mul-key
 mul-key c = search needs
@@ -46,38 +61,48 @@ sub-key c = search needs
 rank-over-requires : tie.Need-rank-over-requires
 rank-over-requires c κs =
     let l = c .before in
-    let a = l .before .args in
-    let h : T (cached (at (l .before) []) (a .file * 1024 + l .last-set .result - 1)) = subst (λ i. T (cached (at (l .before) []) (a .file * 1024 + i - 1))) (sym (l .last-set .ensures)) (candidate-cached (at (l .before) []) (a .file) (a .n) (omega (arith, l .last-set .ensures, c .if1 .left))) in
-    (l .before .pre .0, l .before .pre .1 .0 (a .file * 1024 + l .last-set .result - 1) h)
+    let s = at-start l in
+    let a = s .args in
+    let h : T (cached (at s []) (a .file * 1024 + l .last-set .result - 1))
+    = subst (λ i. T (cached (at s []) (a .file * 1024 + i - 1))) (sym (l .last-set .ensures))
+    (candidate-cached (at s []) (a .file) (l .before .pages-of .result) (omega (arith, l .last-set .ensures, c .if1 .left))) in
+    (s .pre .0, s .pre .1 .0 (a .file * 1024 + l .last-set .result - 1) h)
 
-cast-t13 : tie.Need-cast-t13
-cast-t13 c = omega (arith, within (c .before .before .before .before))
+cast-t15 : tie.Need-cast-t15
+cast-t15 c = omega (arith, within (c .before .before .before .before))
 
 returns-2 : tie.Need-returns-2
-returns-2 c m =
+returns-2 c m shows =
     let k = c .before .before in
     let l = k .before .before in
-    let a = l .before .args in
-    raised-take (at (l .before) m) (a .file) (a .n) (l .last-set .result) (l .last-set .ensures) (a .best) (k .rank-over .result) (k .rank-over .ensures m) (k .before .if1 .left) (c .if2 .taken)
+    let s = at-start l in
+    let a = s .args in
+    raised-take (at s m) (inSet (a .files)) (a .file) (a .n) (l .before .pages-of .result) (l .last-set .result) (s .pre .1 .1 .0 .1)
+    (l .before .pages-of .ensures) (l .last-set .ensures) (a .best) (k .rank-over .result)
+    (k .rank-over .ensures (a .cached .now) m shows) (k .before .if1 .left) (c .if2 .taken)
 
 returns-3 : tie.Need-returns-3
-returns-3 c m =
+returns-3 c m shows =
     let k = c .before .before in
     let l = k .before .before in
-    let a = l .before .args in
-    raised-keep (at (l .before) m) (a .file) (a .n) (l .last-set .result) (l .last-set .ensures) (a .best) (k .rank-over .result) (k .rank-over .ensures m) (l .before .pre .1 .1 .1 m) (c .if2 .left)
+    let s = at-start l in
+    let a = s .args in
+    raised-keep (at s m) (inSet (a .files)) (a .file) (a .n) (l .before .pages-of .result) (l .last-set .result) (s .pre .1 .1 .0 .1)
+    (l .before .pages-of .ensures) (l .last-set .ensures) (a .best) (k .rank-over .result)
+    (k .rank-over .ensures (a .cached .now) m shows) (s .pre .1 .1 .1 m) (c .if2 .left)
 
 pub higher-spec : {M : Type 1} → statement M
 higher-spec =
     tie.close
     (tie.spec
     mul-last-set
+    pages-of-requires
     last-set-requires
     returns
     mul-key
     add-key
     sub-key
     rank-over-requires
-    cast-t13
+    cast-t15
     returns-2
     returns-3)

@@ -5,6 +5,7 @@ use native.Mathlib.Omega.{arith}
 use borrow.Author.Needs.{needs}
 use Rattle.rules.specs.Views.{stateOf}
 use Rattle.order.specs.Searches.{Soonest}
+use Rattle.order.proofs.Between.{cached-presents}
 use Rattle.order.proofs.Searching.{soonest-none, soonest-fetch, soonest-nothing}
 use Rattle.order.proofs.next_fetch.Statement.{statement}
 use Rattle.order.proofs.next_fetch.Tie as tie
@@ -26,7 +27,7 @@ loop-holds : tie.Need-loop-holds Inv-loop μ-loop
 loop-holds c = search (soonest-none, needs)
 
 sooner-requires : tie.Need-sooner-requires Inv-loop μ-loop
-sooner-requires c κs = search needs
+sooner-requires c κs = search (cached-presents, needs)
 
 add-slot : tie.Need-add-slot Inv-loop μ-loop
 add-slot c = search needs

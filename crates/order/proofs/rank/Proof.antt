@@ -9,9 +9,9 @@ rank-over-requires : tie.Need-rank-over-requires
 rank-over-requires c κs = search needs
 
 returns : tie.Need-returns
-returns c m =
+returns c p q shows =
     let a = c .before .args in
-    over-none (stateOf (a .v) (a .cached .now) m) (a .key) (c .rank-over .result) (c .rank-over .ensures m)
+    over-none (stateOf (a .v) p q) (a .key) (c .rank-over .result) (c .rank-over .ensures p q shows)
 
 pub rank-spec : {M : Type 1} → statement M
 rank-spec = tie.close (tie.spec rank-over-requires returns)

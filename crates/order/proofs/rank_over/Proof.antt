@@ -10,7 +10,7 @@ use lib.ListN.{getD}
 use Rattle.rules.specs.Readers.{readerAt, attached, readerIn, readsFile}
 use Rattle.rules.specs.UseTimes.{before, never}
 use Rattle.rules.proofs.laws.Tests.{and-first, and-second}
-use Rattle.rules.specs.Ranks.{Before}
+use Rattle.rules.specs.Ranks.{Presents, Before}
 use Rattle.rules.proofs.orders.LookAheads.{before-is, is-before}
 use Rattle.rules.specs.declared.Reader.{Reader}
 use Rattle.rules.specs.Views.{stateOf}
@@ -23,15 +23,15 @@ use Rattle.order.proofs.rank_over.Statement.{statement}
 use Rattle.order.proofs.rank_over.Tie as tie
 
 abbrev Inv-loop : tie.InvT-loop
-Inv-loop v seats cached key floor page place top₀ at₀ top at =
+Inv-loop v seats present key floor page place top₀ at₀ top at =
     (page ≡ key % 1024 + 1)
     × (place ≡ page * 8 + key / 1024)
     × (at ≤ 16)
     × (0 < at → T (readsFile (key / 1024) (readerIn (v .readers) (at - 1))))
-    × ((m : List ℕ) → Swept (stateOf v cached m) key at top)
+    × ((a b : List ℕ) → Presents (stateOf v a b) present → Swept (stateOf v a b) key at top)
 
 abbrev μ-loop : tie.MeasureT-loop
-μ-loop v seats cached key floor page place top₀ at₀ top at = at
+μ-loop v seats present key floor page place top₀ at₀ top at = at
 
 abbrev start : tie.After-position Inv-loop μ-loop → tie.Start Inv-loop μ-loop
 start c = c .before .before .before .before
@@ -78,24 +78,27 @@ ahead c =
     }
 
 -- what the slots from the turn's on leave
-lower-is : (c : tie.After-lowered Inv-loop μ-loop) (m : List ℕ) → Swept (stateOf (start (c .before .before .before .before) .args .v) (start (c .before .before .before .before) .args .cached .now) m) (start (c .before .before .before .before) .args .key) (slot (c .before .before .before .before)) (c .lowered .result)
-lower-is c m =
+lower-is : (c : tie.After-lowered Inv-loop μ-loop) (p q : List ℕ)
+    → Presents (stateOf (start (c .before .before .before .before) .args .v) p q) (start (c .before .before .before .before) .args .present .now)
+    → Swept (stateOf (start (c .before .before .before .before) .args .v) p q) (start (c .before .before .before .before) .args .key) (slot (c .before .before .before .before)) (c .lowered .result)
+lower-is c p q shows =
     let h = c .before .before .before in
     let t = h .before in
     let a = start t .args in
-    let S = stateOf (a .v) (a .cached .now) m in
+    let S = stateOf (a .v) p q in
     let e : slot t + 1 ≡ turn t .loop .at = omega (arith, t .before .loop-test .taken) in
-    swept-before S (a .key) (slot t) (turn t .loop .top) (c .lowered .result) (rw e (turn t .loop .inv .4 m)) (low t) (is-before S (reader t) (a .key) (before-any (a .v) (reader t) (a .key) [] [] (a .cached .now) m (ahead h)))
-    (c .lowered .ensures m ∙ ap (λ x. lower S (a .key) (slot t) x) (c .before .before .lesser .ensures ∙ ap (λ x. min (turn t .loop .top) (never + x)) (turn t .loop .inv .1 ∙ ap (λ x. x * 8 + a .key / 1024) (turn t .loop .inv .0))))
+    swept-before S (a .key) (slot t) (turn t .loop .top) (c .lowered .result) (rw e (turn t .loop .inv .4 p q shows)) (low t) (is-before S (reader t) (a .key) (before-any (a .v) (reader t) (a .key) [] [] p q (ahead h)))
+    (c .lowered .ensures p q shows ∙ ap (λ x. lower S (a .key) (slot t) x) (c .before .before .lesser .ensures ∙ ap (λ x. min (turn t .loop .top) (never + x)) (turn t .loop .inv .1 ∙ ap (λ x. x * 8 + a .key / 1024) (turn t .loop .inv .0))))
 
-left : (c : tie.Joined1 Inv-loop μ-loop) (m : List ℕ) → Swept (stateOf (start (c .before) .args .v) (start (c .before) .args .cached .now) m) (start (c .before) .args .key) (slot (c .before)) (c .if1 .top)
-left c m =
+left : (c : tie.Joined1 Inv-loop μ-loop) (p q : List ℕ) → Presents (stateOf (start (c .before) .args .v) p q) (start (c .before) .args .present .now)
+    → Swept (stateOf (start (c .before) .args .v) p q) (start (c .before) .args .key) (slot (c .before)) (c .if1 .top)
+left c p q shows =
     let t = c .before in
     let a = start t .args in
-    let S = stateOf (a .v) (a .cached .now) m in
+    let S = stateOf (a .v) p q in
     ⊎-elim
-    (λ w. rw (w .5) (lower-is record { before = record { before = record { before = record { before = t; if1 = w .0 }; lesser = w .1 }; lowered-arg = w .2 }; lowered = w .3 } m))
-    (λ w. rw (w .1) (swept-not S (a .key) (turn t .loop .at) (slot t) (turn t .loop .top) (turn t .loop .inv .4 m) (λ i l u b.
+    (λ w. rw (w .5) (lower-is record { before = record { before = record { before = record { before = t; if1 = w .0 }; lesser = w .1 }; lowered-arg = w .2 }; lowered = w .3 } p q shows))
+    (λ w. rw (w .1) (swept-not S (a .key) (turn t .loop .at) (slot t) (turn t .loop .top) (turn t .loop .inv .4 p q shows) (λ i l u b.
     let e : i ≡ slot t = omega arith in
     omega (arith, before-is S (reader t) (a .key) (subst (λ i. T (before S (readerAt S i) (a .key))) e b) .past, w .0 .left, position-is t, turn t .loop .inv .0))))
     (c .if1 .came)
@@ -135,7 +138,7 @@ loop-holds : tie.Need-loop-holds Inv-loop μ-loop
 loop-holds c =
     let a = c .before .args in
     let t = seat-is (a .v .readers) (a .key / 1024) 16 in
-    (refl, refl, omega (arith, first-is c, t .high), rw (first-is c) (t .found), λ m. swept-seat (stateOf (a .v) (a .cached .now) m) (a .key) 16 _ _ (swept-none (stateOf (a .v) (a .cached .now) m) (a .key)) (first-is c))
+    (refl, refl, omega (arith, first-is c, t .high), rw (first-is c) (t .found), λ p q shows. swept-seat (stateOf (a .v) p q) (a .key) 16 _ _ (swept-none (stateOf (a .v) p q) (a .key)) (first-is c))
 
 sub-slot : tie.Need-sub-slot Inv-loop μ-loop
 sub-slot c = search needs
@@ -170,7 +173,7 @@ lowered-requires c κs =
     (start (t .before) .pre .0 .0, ((low (t .before), start (t .before) .pre .1 .low), ((position-is (t .before), start (t .before) .pre .0 .1 .pace (slot (t .before)) (low (t .before)) (here (t .before))), ahead t)))
 
 returns : tie.Need-returns Inv-loop μ-loop
-returns c m = record { least = lower-is (c .before) m .low; exact = λ h. absurd (omega (arith, c .if2 .taken)) }
+returns c p q shows = record { least = lower-is (c .before) p q shows .low; exact = λ h. absurd (omega (arith, c .if2 .taken)) }
 
 add-at-2 : tie.Need-add-at-2 Inv-loop μ-loop
 add-at-2 c = search needs
@@ -196,15 +199,15 @@ loop-again c =
     let t = c .before .before in
     let a = start t .args in
     let n = seat-is (a .v .readers) (a .key / 1024) (slot t) in
-    (turn t .loop .inv .0, turn t .loop .inv .1, omega (arith, next-is t, n .high, low t), rw (next-is t) (n .found), λ m. swept-seat (stateOf (a .v) (a .cached .now) m) (a .key) (slot t) (c .before .if1 .top) _ (left (c .before) m) (next-is t))
+    (turn t .loop .inv .0, turn t .loop .inv .1, omega (arith, next-is t, n .high, low t), rw (next-is t) (n .found), λ p q shows. swept-seat (stateOf (a .v) p q) (a .key) (slot t) (c .before .if1 .top) _ (left (c .before) p q shows) (next-is t))
 
 returns-2 : tie.Need-returns-2 Inv-loop μ-loop
-returns-2 c m =
+returns-2 c p q shows =
     let l = c .before .loop in
     let a = c .before .before .before .args in
     let e : l .at ≡ 0 = omega (arith, c .loop-test .left) in
-    let q = swept-all (stateOf (a .v) (a .cached .now) m) (a .key) (l .top) (c .before .before .before .pre .0 .0 .look-high) (rw e at (l .inv .4 m)) in
-    record { least = omega arith; exact = λ _. q }
+    let r = swept-all (stateOf (a .v) p q) (a .key) (l .top) (c .before .before .before .pre .0 .0 .look-high) (rw e at (l .inv .4 p q shows)) in
+    record { least = omega arith; exact = λ _. r }
 
 pub rank-over-spec : {M : Type 1} → statement M
 rank-over-spec =

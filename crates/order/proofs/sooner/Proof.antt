@@ -78,7 +78,7 @@ is-attached-requires c κs = search needs
 returns : tie.Need-returns
 returns c =
     let s = c .before .before .before in
-    soonest-keep (at s) (s .args .slot) (s .args .best) (s .pre .1 .1) (λ h. absurd (failed _ (sym (c .before .is-attached .ensures) ∙ not-true _ (c .if1 .taken)) h))
+    soonest-keep (at s) (s .args .slot) (s .args .best) (s .pre .1 .1 .1) (λ h. absurd (failed _ (sym (c .before .is-attached .ensures) ∙ not-true _ (c .if1 .taken)) h))
 
 cast-file : tie.Need-cast-file
 cast-file c = search needs
@@ -114,7 +114,7 @@ returns-2 : tie.Need-returns-2
 returns-2 c =
     let l = c .before .before in
     let s = start l in
-    soonest-keep (at s) (s .args .slot) (s .args .best) (s .pre .1 .1)
+    soonest-keep (at s) (s .args .slot) (s .args .best) (s .pre .1 .1 .1)
     (λ h k _ a. absurd (none-absent (at s) (s .pre .0) (reader l) h (c .before .next-absent .result) (found (c .before)) (rw (l .last-page .ensures) at (c .if2 .taken)) k a))
 
 lowered-requires : tie.Need-lowered-requires
@@ -123,28 +123,28 @@ lowered-requires c κs =
     let s = start l in (
       valid-ranged (at s) (s .pre .0),
       (
-        (s .pre .1 .0, small c),
+        (s .pre .1 .1 .0, small c),
         ((refl, refl), before-any (s .args .t1) (reader l) (c .before .next-absent .result) (s .args .cached .now) (s .args .fetching .now) [] [] (ahead c)),
       ),
     )
 
-cast-t24 : tie.Need-cast-t24
-cast-t24 c = omega (arith, small (c .before .before .before))
+cast-t25 : tie.Need-cast-t25
+cast-t25 c = omega (arith, small (c .before .before .before))
 
 returns-3 : tie.Need-returns-3
 returns-3 c =
     let e = c .before .before .before in
     let s = start (e .before .before) in
-    soonest-take (at s) (s .args .slot) (s .args .best) (s .pre .1 .1) (e .before .next-absent .result) (c .before .before .lowered .result) (s .pre .1 .0) (lacks e)
-    (c .before .before .lowered .ensures (s .args .fetching .now)) (c .if3 .taken)
+    soonest-take (at s) (s .args .slot) (s .args .best) (s .pre .1 .1 .1) (e .before .next-absent .result) (c .before .before .lowered .result) (s .pre .1 .1 .0) (lacks e)
+    (c .before .before .lowered .ensures (s .args .cached .now) (s .args .fetching .now) (s .pre .1 .0)) (c .if3 .taken)
 
 returns-4 : tie.Need-returns-4
 returns-4 c =
     let e = c .before .before .before in
     let s = start (e .before .before) in
     let k = e .before .next-absent .result in
-    soonest-keep (at s) (s .args .slot) (s .args .best) (s .pre .1 .1)
-    (λ _. absent-least (at s) (s .args .best .value) (s .args .slot) k (lacks e) (omega (arith, c .before .before .lowered .ensures (s .args .fetching .now), lower-least (at s) k (s .args .slot) (s .args .best .value) (s .pre .1 .1 .low))))
+    soonest-keep (at s) (s .args .slot) (s .args .best) (s .pre .1 .1 .1)
+    (λ _. absent-least (at s) (s .args .best .value) (s .args .slot) k (lacks e) (omega (arith, c .before .before .lowered .ensures (s .args .cached .now) (s .args .fetching .now) (s .pre .1 .0), lower-least (at s) k (s .args .slot) (s .args .best .value) (s .pre .1 .1 .1 .low))))
 
 pub sooner-spec : {M : Type 1} → statement M
 sooner-spec =
@@ -166,6 +166,6 @@ sooner-spec =
     add-if2
     returns-2
     lowered-requires
-    cast-t24
+    cast-t25
     returns-3
     returns-4)

@@ -15,9 +15,10 @@ lesser-requires : tie.Need-lesser-requires
 lesser-requires c κs = search needs
 
 returns : tie.Need-returns
-returns c m =
-    let s = c .before .before in
-    c .lesser .ensures ∙ ap (λ x. min x never) (c .before .rank .ensures m) ∙ use-ranked (stateOf (s .args .v) (s .args .cached .now) m) (s .args .key) (s .pre .0 .0 .look-high)
+returns c p q shows =
+    let at-start = c .before .before in
+    c .lesser .ensures ∙ ap (λ x. min x never) (c .before .rank .ensures p q shows)
+    ∙ use-ranked (stateOf (at-start .args .v) p q) (at-start .args .key) (at-start .pre .0 .0 .look-high)
 
 pub use-key-spec : {M : Type 1} → statement M
 use-key-spec = tie.close (tie.spec rank-requires lesser-requires returns)

@@ -21,8 +21,7 @@ use Rattle.rules.specs.declared.Reader.{Reader}
 use Rattle.rules.specs.declared.Condition.{Condition}
 use Rattle.rules.specs.declared.Condition.the-variants.{Empty, Running, Waiting}
 use Rattle.rules.proofs.laws.Tests.{and-second}
-use Rattle.rules.proofs.orders.Distinct.{victim-cached}
-use Rattle.rules.proofs.orders.Candidates.{empty-orders}
+use Rattle.rules.proofs.orders.Distinct.{victim-cached, no-victim}
 use Rattle.rules.proofs.laws.Cases.{cond-all, condition-all, option-all}
 use Rattle.bits.specs.Map.{on}
 use Rattle.rules.proofs.calls.Marks.{off-put, put-off}
@@ -77,7 +76,7 @@ module _ (s : State) (v : Valid s) where
   -- where all frames are taken there is one
   pub full-victim : full s ≡ true → victim s ≡ none → ⊥
   unfolding full
-  full-victim e n = omega (arith, leb-true (s .frames) (length (cachedPages s)) e, none-cached s (v .sizes-high) (empty-orders s v .0 .0 n), v .frames-low)
+  full-victim e n = omega (arith, leb-true (s .frames) (length (cachedPages s)) e, none-cached s (v .sizes-high) (no-victim s v .0 n), v .frames-low)
 
   -- a page is dropped where all frames are taken, and is the one to give up
   pub full-dropped : (k : ℕ) → dropped s ≡ some k → (full s ≡ true) × (victim s ≡ some k)

@@ -41,6 +41,11 @@ module _ (P : ℕ → Bool) (Q : ℕ → Type 0) where
   only-all (x ∷ l) h₀ = both (P x) (λ t. All Q (cond t (x ∷ only P l) (only P l)) → (T t → Q x) × All (λ k. T (P k) → Q k) l)
       (λ _ h. (λ _. h .0, only-all l (h .1))) (λ _ h. (λ a. absurd a, only-all l h)) h₀
 
+pub only-true : (l : List ℕ) → only (λ _. true) l ≡ l
+unfolding only
+only-true [] = refl
+only-true (x ∷ l) = ap (λ m. x ∷ m) (only-true l)
+
 pub only-only : (P R : ℕ → Bool) (l : List ℕ) → only R (only P l) ≡ only (λ k. P k && R k) l
 unfolding only
 only-only P R [] = refl

@@ -1,6 +1,6 @@
 -- Where the heads of the two orders are found: a page for each file and slot, a page for each slot. Assumes nothing.
 use mathlib.Core.Path.{_≡_, refl, sym, _∙_, subst}
-use mathlib.Core.Bool.{not}
+use mathlib.Core.Bool.{Bool, not}
 use mathlib.Core.Option.{Option, none, some}
 use mathlib.Core.Logic.{_⊎_, inl, inr, _↔_}
 use Prim.Native.Nat.{ℕ, _+_, _-_, _*_, _≤_, _<_}
@@ -15,29 +15,23 @@ use Rattle.rules.specs.Pages.{fileOf, pageOf, keyOf, cached}
 use Rattle.rules.specs.Readers.{readerAt, attached}
 use Rattle.rules.specs.Valid.{Valid}
 use Rattle.rules.specs.UseTimes.{before, sees, never, useFor, useKey, ahead, seen}
-use Rattle.rules.specs.Orders.{absent, wanted, fetchOrder, victim}
+use Rattle.rules.specs.Orders.{absent, wanted, fetchOrder}
 use Rattle.rules.proofs.laws.Tests.{less, side, and-both, and-first, and-second}
 use Rattle.rules.proofs.laws.Below.{one-more, one-or-all}
 use Rattle.rules.proofs.laws.Leasts.{some-at, some-in}
-use Rattle.rules.specs.Ranks.{rank, lastCached, AtMost, FirstAbsent, AtLeast, NoneBelow}
+use Rattle.rules.specs.Ranks.{rank, cachedAmong, victimAmong, lastCached, AtMost, FirstAbsent, AtLeast, NoneBelow}
 use Rattle.rules.proofs.orders.Ranks.{seen-ahead, seen-small}
 use Rattle.rules.proofs.orders.LookAheads.{before-is, is-before, sees-before, sees-earlier, seen-by, use-sees, use-least, use-rises, met-by}
-use Rattle.rules.proofs.laws.Numbered.{larger-first, smaller-first, none-in, none-of}
-use Rattle.rules.proofs.orders.Distinct.{Stretch, behind, unseen, in-use, stretch, rank-positive, victim-ranked, victim-cached, victim-top, head-is, wanted-page, fetch-wanted, fetch-first, fetch-head-is}
+use Rattle.rules.proofs.laws.Numbered.{smaller-first, none-in, none-of}
+use Rattle.rules.proofs.orders.Distinct.{Stretch, behind, unseen, in-use, stretch, rank-positive, among-cached, among-top, among-none, head-is, wanted-page, fetch-wanted, fetch-first, fetch-head-is}
 use Rattle.rules.specs.declared.State.{State}
 use Rattle.rules.specs.declared.Reader.{Reader}
 
 module _ (s : State) (w : Valid s) where
-  -- there is no victim exactly where nothing is cached, and nothing to fetch exactly where nothing is wanted
-  pub empty-orders : ((victim s ≡ none) ↔ ((k : ℕ) → T (cached s k) → ⊥)) × ((head (fetchOrder s) ≡ none) ↔ ((k : ℕ) → T (wanted s k) → ⊥))
+  -- there is nothing to fetch exactly where nothing is wanted
+  no-fetch : (head (fetchOrder s) ≡ none) ↔ ((k : ℕ) → T (wanted s k) → ⊥)
   unfolding fetchOrder
-  empty-orders = (
-    (
-      λ e. none-in s w (cached s) (w .cached-in) _ larger-first (rank s) (sym (victim-ranked s w) ∙ e),
-      λ h. victim-ranked s w ∙ none-of s w (cached s) (w .cached-in) _ larger-first (rank s) h,
-    ),
-    (none-in s w (wanted s) (wanted-page s w) _ smaller-first (useKey s), none-of s w (wanted s) (wanted-page s w) _ smaller-first (useKey s)),
-  )
+  no-fetch = (none-in s w (wanted s) (wanted-page s w) _ smaller-first (useKey s), none-of s w (wanted s) (wanted-page s w) _ smaller-first (useKey s))
 
 -- ---- the steal order
 
@@ -133,13 +127,16 @@ stops-or-clear s k i = one-or-all (Stops s k i) (ClearAt s k i) slot 16
         go (inl h) (no e) _ _ = inr (λ _ q. absurd (e q))
         go (inr h) _ _ _ = inr (λ a. absurd (T-not (attached r) h a))
 
-module _ (s : State) (w : Valid s) where
-  -- the victim is a candidate
-  pub victim-candidate : (k : ℕ) → victim s ≡ some k → Candidate s k
+module _ (s : State) (w : Valid s) (files : ℕ → Bool) where
+  -- the page to give up among the files of a set is a candidate
+  pub victim-candidate : (k : ℕ) → victimAmong files s ≡ some k → Candidate s k
   victim-candidate k e = go (decLt i (fileOf k * 1024 + 1024)) (stops-or-clear s k i)
     where
-      c : T (cached s k)
-      c = victim-cached s w k e
+      c : T (cachedAmong files s k)
+      c = among-cached s w files k e
+
+      held : T (cached s k)
+      held = and-first (cached s k) _ c
 
       -- the next cached page of the file, if any
       i : ℕ
@@ -149,50 +146,62 @@ module _ (s : State) (w : Valid s) where
       n = next-is (s .cached) 1 (k + 1) (1024 - pageOf k)
 
       go : Dec (i < fileOf k * 1024 + 1024) → ((j : ℕ) × (j < 16) × Stops s k i j) ⊎ Clear s k i → Candidate s k
-      go (no l) _ = last-of-file (last-here s k 1024 c (omega arith) (λ m a b. n .before m (omega arith) (omega (arith, n .low, n .high))))
-      go (yes l) (inl x) = last-by-slot (x .0) (x .1) (x .2 .here) (x .2 .same-file) (last-here s k (readerAt s (x .0) .position) c (x .2 .low) (λ m a b. n .before m (omega arith) (omega (arith, n .low, x .2 .high))))
+      go (no l) _ = last-of-file (last-here s k 1024 held (omega arith) (λ m a b. n .before m (omega arith) (omega (arith, n .low, n .high))))
+      go (yes l) (inl x) =
+          last-by-slot (x .0) (x .1) (x .2 .here) (x .2 .same-file)
+          (last-here s k (readerAt s (x .0) .position) held (x .2 .low) (λ m a b. n .before m (omega arith) (omega (arith, n .low, x .2 .high))))
       go (yes l) (inr clear) =
           let ci : T (cached s i) = set-cached s i (n .found (omega arith)) in
-          absurd (omega (arith, later-higher s w k i (omega (arith, n .low)) (omega (arith, n .low)) clear (w .cached-in i ci .low), victim-top s w k e i ci))
+          let f : fileOf k ≡ fileOf i = omega (arith, n .low) in
+          let ai : T (cachedAmong files s i) = and-both (cached s i) _ ci (subst (λ g. T (files g)) f (and-second (cached s k) _ c)) in
+          absurd (omega (arith, later-higher s w k i f (omega (arith, n .low)) clear (w .cached-in i ci .low), among-top s w files k e i ai))
 
--- no candidate of the first n files and the first m slots has a rank above b
-pub record NoneAbove (s : State) (n m b : ℕ) : Type 0 where
-  pub files : (f : ℕ) → f < n → AtMost s b f 1024
-  pub slots : (j : ℕ) → j < m → T (attached (readerAt s j)) → AtMost s b (readerAt s j .file) (readerAt s j .position)
+-- no candidate of the first n files and the first m slots whose file is of the set has a rank above b
+pub record NoneAbove (s : State) (files : ℕ → Bool) (n m b : ℕ) : Type 0 where
+  pub by-file : (f : ℕ) → f < n → T (files f) → AtMost s b f 1024
+  pub by-slot : (j : ℕ) → j < m → T (attached (readerAt s j)) → T (files (readerAt s j .file)) → AtMost s b (readerAt s j .file) (readerAt s j .position)
 
 -- a candidate is cached
 pub candidate-cached : (s : State) (f n : ℕ) → 0 < lastCached s f n → T (cached s (keyOf f (lastCached s f n)))
 candidate-cached s f n h = set-cached s (keyOf f (lastCached s f n)) (last-is (s .cached) (f * 1024) n .found h)
 
-module _ (s : State) (w : Valid s) where
-  candidate-most : (k b : ℕ) → k < 8192 → NoneAbove s 8 16 b → Candidate s k → rank s k ≤ b
-  candidate-most k b l a c = go c
+module _ (s : State) (w : Valid s) (files : ℕ → Bool) where
+  candidate-most : (k b : ℕ) → k < 8192 → T (files (fileOf k)) → NoneAbove s files 8 16 b → Candidate s k → rank s k ≤ b
+  candidate-most k b l of-set a c = go c
     where
       most : (n : ℕ) → pageOf k ≡ lastCached s (fileOf k) n → AtMost s b (fileOf k) n → rank s k ≤ b
       most n e h = let q : keyOf (fileOf k) (lastCached s (fileOf k) n) ≡ k = omega arith in subst (λ i. rank s i ≤ b) q (h (omega arith))
 
       go : Candidate s k → rank s k ≤ b
-      go (last-of-file e) = most 1024 e (a .files (fileOf k) (omega arith))
-      go (last-by-slot j p h f e) = most (readerAt s j .position) e (subst (λ i. AtMost s b i (readerAt s j .position)) f (a .slots j p h))
+      go (last-of-file e) = most 1024 e (a .by-file (fileOf k) (omega arith) of-set)
+      go (last-by-slot j p h f e) =
+          most (readerAt s j .position) e
+          (subst (λ i. AtMost s b i (readerAt s j .position)) f (a .by-slot j p h (subst (λ i. T (files i)) (sym f) of-set)))
 
-  -- a cached page whose rank no candidate is above is the victim
-  pub best-candidate : (v : ℕ) → T (cached s v) → NoneAbove s 8 16 (rank s v) → victim s ≡ some v
-  best-candidate v c a = go (victim s) refl
+  -- a cached page of the set whose rank no candidate is above is the one to give up
+  pub best-candidate : (v : ℕ) → T (cachedAmong files s v) → NoneAbove s files 8 16 (rank s v) → victimAmong files s ≡ some v
+  best-candidate v c a = go (victimAmong files s) refl
     where
-      go : (o : Option ℕ) → victim s ≡ o → victim s ≡ some v
-      go none e = absurd (empty-orders s w .0 .0 e v c)
-      go (some h) e = head-is s w v c (λ k d. omega (arith, victim-top s w h e k d, candidate-most h (rank s v) (w .cached-in h (victim-cached s w h e) .low) a (victim-candidate s w h e)))
+      most : (h : ℕ) → victimAmong files s ≡ some h → rank s h ≤ rank s v
+      most h e =
+          let d = among-cached s w files h e in
+          candidate-most h (rank s v) (w .cached-in h (and-first (cached s h) _ d) .low) (and-second (cached s h) _ d) a (victim-candidate s w files h e)
 
-  -- there is no victim where no file's candidate has a rank above 0
-  pub no-candidate : (m : ℕ) → NoneAbove s 8 m 0 → victim s ≡ none
-  no-candidate m a = empty-orders s w .0 .1 (λ k c. go k c (w .cached-in k c .low))
+      go : (o : Option ℕ) → victimAmong files s ≡ o → victimAmong files s ≡ some v
+      go none e = absurd (among-none s w files .0 e v c)
+      go (some h) e = head-is s w files v c (λ k d. omega (arith, among-top s w files h e k d, most h e))
+
+  -- there is none where no file's candidate has a rank above 0
+  pub no-candidate : (m : ℕ) → NoneAbove s files 8 m 0 → victimAmong files s ≡ none
+  no-candidate m a = among-none s w files .1 (λ k c. go k (and-first (cached s k) _ c) (and-second (cached s k) _ c))
     where
-      go : (k : ℕ) → T (cached s k) → k < 8192 → ⊥
-      go k c l =
+      go : (k : ℕ) → T (cached s k) → T (files (fileOf k)) → ⊥
+      go k c of-set =
+          let l = w .cached-in k c .low in
           let f : ℕ = fileOf k in
           let t = last-is (s .cached) (f * 1024) 1024 in
           less 0 (lastCached s f 1024) (λ _. ⊥)
-          (λ h. omega (arith, a .files f (omega arith) h, rank-positive s w (keyOf f (lastCached s f 1024))))
+          (λ h. omega (arith, a .by-file f (omega arith) of-set h, rank-positive s w (keyOf f (lastCached s f 1024))))
           (λ h. omega (arith, t .after k (omega arith) (omega arith), cached-set s k c))
 
 -- ---- the fetch order
@@ -247,7 +256,7 @@ module _ (s : State) (w : Valid s) where
   best-wanted v b h l a = go (head (fetchOrder s)) refl
     where
       go : (o : Option ℕ) → head (fetchOrder s) ≡ o → head (fetchOrder s) ≡ some v
-      go none e = absurd (empty-orders s w .1 .0 e v h)
+      go none e = absurd (no-fetch s w .0 e v h)
       go (some k) e = let x = first-wanted k e in fetch-head-is s w v h (λ i g. omega (arith, fetch-first s w k e i g, x .3, a (x .0) (x .1) k (x .2) (x .4)))
 
   -- there is no head where no slot sees its first absent page

@@ -1,24 +1,26 @@
 -- No two pages have one rank or one use key, so each order is one of packed numbers, and a search finds its head. Assumes nothing.
-use mathlib.Core.Path.{_≡_, sym, ap, _∙_, subst}
-use mathlib.Core.Bool.{not}
+use mathlib.Core.Path.{_≡_, refl, sym, ap, _∙_, subst}
+use mathlib.Core.Bool.{Bool, true, not}
 use mathlib.Core.List.{map}
-use mathlib.Core.Option.{some}
-use mathlib.Core.Logic.{_⊎_, inl, inr}
+use mathlib.Core.Option.{Option, none, some}
+use mathlib.Core.Logic.{_⊎_, inl, inr, _↔_}
 use Prim.Native.Nat.{ℕ, _+_, _-_, _*_, _%_, _≤_, _<_}
 use native.Mathlib.Omega.{arith}
-use lib.Dec.{T, leb→le, le→leb}
+use lib.Dec.{T, leb, leb→le, le→leb}
 use Rattle.rules.specs.Lists.{only, falling, rising, head}
-use Rattle.rules.specs.Pages.{pageOf, cached, Page, pages, cachedPages}
+use Rattle.rules.specs.Pages.{fileOf, pageOf, cached, Page, pages, cachedPages}
 use Rattle.rules.specs.Readers.{readerAt}
 use Rattle.rules.specs.Valid.{Valid}
 use Rattle.rules.specs.UseTimes.{sees, timeFor, seat, never, useKey, ahead, seen}
 use Rattle.rules.specs.Orders.{place, stealOrder, wanted, fetchOrder, victim}
-use Rattle.rules.proofs.laws.Tests.{less, side, and-first, sixteen}
+use Rattle.rules.proofs.laws.Tests.{less, side, and-both, and-first, sixteen}
+use Rattle.rules.proofs.laws.Members.{only-true, only-only}
+use Rattle.rules.proofs.laws.Sorts.{by-falling, only-sorted}
 use Rattle.rules.proofs.calls.Valids.{placed-at}
-use Rattle.rules.specs.Ranks.{rank, pack}
+use Rattle.rules.specs.Ranks.{rank, cachedAmong, victimAmong, pack}
 use Rattle.rules.proofs.orders.Ranks.{seen-small, rank-behind, rank-unseen, rank-seen, steal-ranked}
 use Rattle.rules.proofs.orders.LookAheads.{before-is, sees-before, time-rises, use-for, seen-page, met-by, use-positive}
-use Rattle.rules.proofs.laws.Numbered.{larger-first, smaller-first, first-in, first-of, first-is, by-sort}
+use Rattle.rules.proofs.laws.Numbered.{larger-first, smaller-first, first-in, first-of, first-is, none-in, none-of, by-sort}
 use Rattle.rules.specs.declared.State.{State}
 use Rattle.rules.specs.declared.Reader.{Reader}
 
@@ -110,22 +112,80 @@ module _ (s : State) (w : Valid s) where
   unfolding cachedPages
   steal-by-sort = steal-ranked s w ∙ by-sort s w (cached s) (w .cached-in) _ larger-first (rank s) cached-one
 
-  -- the victim is the first of the cached pages by rank
-  pub victim-ranked : victim s ≡ head (falling (rank s) (only (cached s) (pages s)))
-  unfolding victim cachedPages
-  victim-ranked = ap head (steal-ranked s w)
+  -- ---- the page to give up, among the files of a set
+
+  module _ (files : ℕ → Bool) where
+    among-in : (k : ℕ) → T (cachedAmong files s k) → Page s k
+    among-in k h = w .cached-in k (and-first (cached s k) _ h)
+
+    among-one : (k i : ℕ) → T (cachedAmong files s k) → T (cachedAmong files s i) → rank s k ≡ rank s i → k ≡ i
+    among-one k i a b = rank-one k i (among-in k a) (among-in i b)
+
+    -- it is the first of the set's cached pages by rank
+    among-ranked : victimAmong files s ≡ head (falling (rank s) (only (cachedAmong files s) (pages s)))
+    unfolding victimAmong cachedPages
+    among-ranked =
+        ap (λ l. head (only (λ k. files (fileOf k)) l)) (steal-ranked s w)
+        ∙ ap head (only-sorted (λ x y. leb (rank s y) (rank s x)) (by-falling (rank s)) (λ k. files (fileOf k)) (only (cached s) (pages s)))
+        ∙ ap (λ l. head (falling (rank s) l)) (only-only (cached s) (λ k. files (fileOf k)) (pages s))
+
+    -- it is cached, and of the set
+    pub among-cached : (v : ℕ) → victimAmong files s ≡ some v → T (cachedAmong files s v)
+    among-cached v e = first-in s w (cachedAmong files s) among-in _ larger-first (rank s) v (sym among-ranked ∙ e)
+
+    -- it has the largest rank
+    pub among-top : (v : ℕ) → victimAmong files s ≡ some v → (k : ℕ) → T (cachedAmong files s k) → rank s k ≤ rank s v
+    among-top v e k h = leb→le (rank s k) (rank s v) (first-of s w (cachedAmong files s) among-in _ larger-first (rank s) v (sym among-ranked ∙ e) k h)
+
+    -- a cached page of the set with the largest rank is the one
+    pub head-is : (v : ℕ) → T (cachedAmong files s v) → ((k : ℕ) → T (cachedAmong files s k) → rank s k ≤ rank s v) → victimAmong files s ≡ some v
+    head-is v c top =
+        among-ranked
+        ∙ first-is s w (cachedAmong files s) among-in _ larger-first (rank s) among-one v c (λ k h. le→leb (rank s k) (rank s v) (top k h))
+
+    -- there is none exactly where the set has no cached page
+    pub among-none : (victimAmong files s ≡ none) ↔ ((k : ℕ) → T (cachedAmong files s k) → ⊥)
+    among-none = (
+      λ e. none-in s w (cachedAmong files s) among-in _ larger-first (rank s) (sym among-ranked ∙ e),
+      λ h. among-ranked ∙ none-of s w (cachedAmong files s) among-in _ larger-first (rank s) h,
+    )
+
+  -- ---- the box's own, of all files
+
+  abbrev all : ℕ → Bool
+  all f = true
+
+  of-all : (k : ℕ) → T (cached s k) → T (cachedAmong all s k)
+  of-all k h = and-both (cached s k) true h tt
+
+  victim-all : victim s ≡ victimAmong all s
+  unfolding victim victimAmong
+  victim-all = ap head (sym (only-true (stealOrder s)))
 
   -- the victim is cached
   pub victim-cached : (v : ℕ) → victim s ≡ some v → T (cached s v)
-  victim-cached v e = first-in s w (cached s) (w .cached-in) _ larger-first (rank s) v (sym victim-ranked ∙ e)
+  victim-cached v e = and-first (cached s v) _ (among-cached all v (sym victim-all ∙ e))
 
   -- the victim has the largest rank
   pub victim-top : (v : ℕ) → victim s ≡ some v → (k : ℕ) → T (cached s k) → rank s k ≤ rank s v
-  victim-top v e k h = leb→le (rank s k) (rank s v) (first-of s w (cached s) (w .cached-in) _ larger-first (rank s) v (sym victim-ranked ∙ e) k h)
+  victim-top v e k h = among-top all v (sym victim-all ∙ e) k (of-all k h)
 
-  -- a cached page of the largest rank is the victim
-  pub head-is : (v : ℕ) → T (cached s v) → ((k : ℕ) → T (cached s k) → rank s k ≤ rank s v) → victim s ≡ some v
-  head-is v c top = victim-ranked ∙ first-is s w (cached s) (w .cached-in) _ larger-first (rank s) cached-one v c (λ k h. le→leb (rank s k) (rank s v) (top k h))
+  -- there is no victim exactly where nothing is cached
+  pub no-victim : (victim s ≡ none) ↔ ((k : ℕ) → T (cached s k) → ⊥)
+  no-victim = (
+    λ e k c. among-none all .0 (sym victim-all ∙ e) k (of-all k c),
+    λ h. victim-all ∙ among-none all .1 (λ k c. h k (and-first (cached s k) _ c)),
+  )
+
+  -- a set that has every file gives the victim
+  pub among-all : (files : ℕ → Bool) → ((f : ℕ) → f < 8 → T (files f)) → victimAmong files s ≡ victim s
+  among-all files has = go (victim s) refl
+    where
+      go : (o : Option ℕ) → victim s ≡ o → victimAmong files s ≡ victim s
+      go none e = among-none files .1 (λ k c. no-victim .0 e k (and-first (cached s k) _ c)) ∙ sym e
+      go (some v) e =
+          let c = victim-cached v e in
+          head-is files v (and-both (cached s v) _ c (has (fileOf v) (omega (arith, w .cached-in v c .low)))) (λ k h. victim-top v e k (and-first (cached s k) _ h)) ∙ sym e
 
   -- ---- the fetch order
 
