@@ -1,12 +1,19 @@
 /* quay.h: the quay box, for a server in C.
  *
  * The box decides which page of a passage file keeps its frame in the shared cache and which page is fetched early. Its whole
- * state is an image of QUAY_IMAGE_SIZE bytes that the caller owns. Each call below takes the image, carries the call out and
- * leaves the image of the new state in the same buffer. There is no other state, nothing is allocated, and a call on one image
- * does not touch another.
+ * state is an image of QUAY_IMAGE_SIZE bytes that the caller owns. quay_first_image writes the first one; each of the other calls
+ * takes the image, carries the call out and leaves the image of the new state in the same buffer. Link with -lquay.
  *
- * Every call may be made with any numbers and any bytes; `image` must point to `length` of them. It is carried out, or refused under one number; a refusal leaves the
- * buffer byte for byte as it was. Link with -lquay. */
+ * Numbers. Every call may be made with any numbers. It is carried out, or refused under one number.
+ *
+ * Buffers. `image` points to `length` bytes that the call may read and write; it is not NULL, also where the length is 0. The buffer
+ * is the caller's: it may lie anywhere, at any alignment, and hold any bytes. The call keeps no pointer to it, allocates nothing and
+ * touches no byte outside it. A refusal leaves the buffer byte for byte as it was; after any other answer all of it is the new
+ * image. So it may be copied, kept in a file and taken up again by another process.
+ *
+ * Threads. A call touches its image and its own stack; there is no other state, no lock and no global. Threads may make calls on
+ * different images at the same time. Two threads that share one image need a lock of the caller's, held for the whole of each
+ * call. */
 #ifndef QUAY_H
 #define QUAY_H
 
@@ -17,10 +24,20 @@
 extern "C" {
 #endif
 
+/* ---- the version --------------------------------------------------------------------------------------------------------
+ *
+ * MAJOR grows when a server has to change or its images do: a call takes other numbers, an answer or a refusal means something
+ * else, or the image is longer. MINOR grows when something is added, a call for instance, and all that was stays. PATCH grows
+ * when this header says the same as before. */
+#define QUAY_VERSION "1.0.0"
+#define QUAY_VERSION_MAJOR 1
+#define QUAY_VERSION_MINOR 0
+#define QUAY_VERSION_PATCH 0
+
 /* ---- the image ---------------------------------------------------------------------------------------------------------
  *
- * Little-endian. A first image (no readers, no pages, no fetches) is QUAY_IMAGE_SIZE zero bytes with frames, look-ahead, fetch
- * time and sizes filled in.
+ * Numbers of several bytes are little-endian. A server needs none of these places: quay_first_image writes a first image, and the
+ * calls do the rest. They are here for whoever looks into an image.
  *
  *   offset  bytes  what                                                     in range
  *        0      2  frames                                                   1 to 1,024
@@ -49,6 +66,7 @@ extern "C" {
 
 /* ---- refusals -----------------------------------------------------------------------------------------------------------
  * Where several apply, the one that stands first at the call below is given. */
+#define QUAY_BAD_SETTINGS 1     /* first image: a value out of range */
 #define QUAY_NO_SLOT 2          /* slot above 15 */
 #define QUAY_NO_FILE 3          /* file above 7 or of size 0 */
 #define QUAY_BAD_PACE 4         /* pace not 1 to 1,000 */
@@ -64,7 +82,7 @@ extern "C" {
 /* ---- answers ------------------------------------------------------------------------------------------------------------
  * A refusal's number is below 65,536. Any other answer has a letter, and some name a page. Run's answer has no letter but two
  * counts. */
-#define QUAY_DONE 'O'     /* attach, detach, lost: done */
+#define QUAY_DONE 'O'     /* first image, attach, detach, lost: done */
 #define QUAY_HIT 'H'      /* read: the page was cached, and is read */
 #define QUAY_WAIT 'W'     /* read: the page is in fetch; the reader waits for it */
 #define QUAY_FETCH 'F'    /* read, prefetch: fetch this page now; a reader that asked waits for it */
@@ -86,6 +104,35 @@ static inline unsigned quay_page(uint64_t answer) { return (unsigned)(((answer &
 /* The counts of Run's answer. */
 static inline unsigned quay_fetches(uint64_t answer) { return (unsigned)(answer >> 16 & 0xffff); }
 static inline unsigned quay_reads(uint64_t answer) { return (unsigned)(answer & 0xffff); }
+
+/* ---- a first image ------------------------------------------------------------------------------------------------------ */
+
+/* Writes the image of a box without readers, cached pages or fetches, over whatever the buffer holds. Frames are 1 to 1,024, the
+ * look-ahead 1 to 2,000,000 ticks, the fetch time 0 to 2,000,000 ticks; `sizes` points to eight numbers, the pages of the files 0 to
+ * 7, each 0 to 1,024 (0: no such file).
+ * QUAY_DONE. Refusals: 13 for a length that is not QUAY_IMAGE_SIZE, 1. */
+static inline uint64_t quay_first_image(uint8_t *image, size_t length, uint64_t frames, uint64_t look_ahead, uint64_t fetch_time,
+                                        const uint64_t sizes[8])
+{
+    if (length != QUAY_IMAGE_SIZE)
+        return QUAY_BAD_IMAGE;
+    if (frames < 1 || frames > 1024 || look_ahead < 1 || look_ahead > 2000000 || fetch_time > 2000000)
+        return QUAY_BAD_SETTINGS;
+    for (size_t file = 0; file < 8; file++)
+        if (sizes[file] > 1024)
+            return QUAY_BAD_SETTINGS;
+    for (size_t i = 0; i < QUAY_IMAGE_SIZE; i++)
+        image[i] = 0;
+    for (size_t i = 0; i < 2; i++)
+        image[QUAY_AT_FRAMES + i] = (uint8_t)(frames >> (8 * i));
+    for (size_t i = 0; i < 4; i++) {
+        image[QUAY_AT_LOOK_AHEAD + i] = (uint8_t)(look_ahead >> (8 * i));
+        image[QUAY_AT_FETCH_TIME + i] = (uint8_t)(fetch_time >> (8 * i));
+    }
+    for (size_t i = 0; i < 16; i++)
+        image[QUAY_AT_SIZES + i] = (uint8_t)(sizes[i / 2] >> (8 * (i % 2)));
+    return (uint64_t)QUAY_DONE << 16;
+}
 
 /* ---- the calls ----------------------------------------------------------------------------------------------------------
  * Each takes the image and its length, which must be QUAY_IMAGE_SIZE. */

@@ -52,6 +52,56 @@ static void start(void)
     put(QUAY_AT_SIZES + 2 * 7, 2, 1024);
 }
 
+static void version(void)
+{
+    char parts[32];
+    snprintf(parts, sizeof parts, "%d.%d.%d", QUAY_VERSION_MAJOR, QUAY_VERSION_MINOR, QUAY_VERSION_PATCH);
+    IS(strcmp(parts, QUAY_VERSION), 0);
+}
+
+/* A first image of other settings, over a buffer of other bytes: whether number and image are those of such a start. */
+static void first_image(void)
+{
+    static uint8_t wanted[sizeof image];
+    const uint64_t sizes[8] = {5, 0, 0, 0, 0, 0, 0, 1024}, none[8] = {0};
+    start();
+    put(QUAY_AT_FRAMES, 2, 300);
+    put(QUAY_AT_LOOK_AHEAD, 4, 0x10203);
+    put(QUAY_AT_FETCH_TIME, 4, 2000000);
+    image[QUAY_IMAGE_SIZE] = 0xa5;
+    memcpy(wanted, image, sizeof image);
+    memset(image, 0xa5, sizeof image);
+    SAYS(quay_first_image(BOX, 300, 0x10203, 2000000, sizes), QUAY_DONE, 0, 0);
+    IS(memcmp(image, wanted, sizeof image), 0);
+    SAYS(quay_prefetch(BOX), QUAY_NOTHING, 0, 0);
+    SAYS(quay_first_image(BOX, 1, 1, 0, none), QUAY_DONE, 0, 0);
+    IS(quay_attach(BOX, 0, 0, 10), QUAY_NO_FILE);
+}
+
+/* Settings out of range, also ones that only their high half puts there, and other lengths; the buffer stays. */
+static void refused_first_images(void)
+{
+    static uint8_t before[sizeof image];
+    const uint64_t wide = (uint64_t)1 << 32, sizes[8] = {5}, large[8] = {0, 0, 0, 0, 0, 0, 0, 1025}, huge[8] = {wide};
+    start();
+    memset(image, 0xa5, sizeof image);
+    memcpy(before, image, sizeof image);
+    IS(quay_first_image(BOX, 0, 100, 20, sizes), QUAY_BAD_SETTINGS);
+    IS(quay_first_image(BOX, 1025, 100, 20, sizes), QUAY_BAD_SETTINGS);
+    IS(quay_first_image(BOX, wide + 2, 100, 20, sizes), QUAY_BAD_SETTINGS);
+    IS(quay_first_image(BOX, 2, 0, 20, sizes), QUAY_BAD_SETTINGS);
+    IS(quay_first_image(BOX, 2, 2000001, 20, sizes), QUAY_BAD_SETTINGS);
+    IS(quay_first_image(BOX, 2, wide + 100, 20, sizes), QUAY_BAD_SETTINGS);
+    IS(quay_first_image(BOX, 2, 100, 2000001, sizes), QUAY_BAD_SETTINGS);
+    IS(quay_first_image(BOX, 2, 100, wide, sizes), QUAY_BAD_SETTINGS);
+    IS(quay_first_image(BOX, 2, 100, 20, large), QUAY_BAD_SETTINGS);
+    IS(quay_first_image(BOX, 2, 100, 20, huge), QUAY_BAD_SETTINGS);
+    IS(quay_first_image(image, 0, 2, 100, 20, sizes), QUAY_BAD_IMAGE);
+    IS(quay_first_image(image, QUAY_IMAGE_SIZE - 1, 2, 100, 20, sizes), QUAY_BAD_IMAGE);
+    IS(quay_first_image(image, QUAY_IMAGE_SIZE + 1, 0, 100, 20, sizes), QUAY_BAD_IMAGE);
+    IS(memcmp(image, before, sizeof image), 0);
+}
+
 static void refusals(void)
 {
     start();
@@ -195,6 +245,9 @@ static void limits(void)
 
 int main(void)
 {
+    version();
+    first_image();
+    refused_first_images();
     refusals();
     wide_numbers();
     answers();
