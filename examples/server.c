@@ -11,7 +11,8 @@
 
 #include "quay.h"
 
-enum { FILE_PAGES = 12, FRAMES = 4, PACE = 10, LINK_DELAY = 2, LINK_DEPTH = 8, LOSS_TICK = 11, STOP_TICK = 16, LAST_TICK = 100 };
+enum { FILE_PAGES = 12, FRAMES = 4, LOOK_AHEAD = 200, FETCH_TIME = 5, PACE = 10 };
+enum { LINK_DELAY = 2, LINK_DEPTH = 8, LOSS_TICK = 11, STOP_TICK = 16, LAST_TICK = 100 };
 
 struct fetch {
     unsigned file, page, due;
@@ -23,20 +24,12 @@ struct server {
     unsigned on_link;
 };
 
-static void put(uint8_t *at, unsigned width, uint32_t value)
+/* A first image: nothing docked, cached or in fetch, and file 0 alone has pages. */
+static int start(struct server *s)
 {
-    for (unsigned i = 0; i < width; i++)
-        at[i] = (uint8_t)(value >> (8 * i));
-}
-
-/* A first image, by the layout: nothing docked, cached or in fetch. */
-static void start(struct server *s)
-{
+    const uint64_t sizes[8] = {FILE_PAGES};
     memset(s, 0, sizeof *s);
-    put(s->image + QUAY_AT_FRAMES, 2, FRAMES);
-    put(s->image + QUAY_AT_LOOK_AHEAD, 4, 200);
-    put(s->image + QUAY_AT_FETCH_TIME, 4, 5);
-    put(s->image + QUAY_AT_SIZES, 2, FILE_PAGES);
+    return !quay_refused(quay_first_image(s->image, sizeof s->image, FRAMES, LOOK_AHEAD, FETCH_TIME, sizes));
 }
 
 static void show(unsigned tick, const char *what, uint64_t answer)
@@ -88,6 +81,16 @@ static int serve(struct server *s, unsigned tick, unsigned slot)
     return quay_letter(answer) == QUAY_END;
 }
 
+/* The link is idle: the box may want a page early. */
+static void fetch_early(struct server *s, unsigned tick)
+{
+    uint64_t answer = quay_prefetch(s->image, sizeof s->image);
+    if (quay_letter(answer) != QUAY_FETCH)
+        return;
+    show(tick, "early", answer);
+    ask(s, tick, answer);
+}
+
 static int keep(const struct server *s, const char *path)
 {
     FILE *f = fopen(path, "wb");
@@ -126,7 +129,10 @@ int main(int argc, char **argv)
         fprintf(stderr, "usage: server IMAGE-FILE\n");
         return 2;
     }
-    start(&s);
+    if (!start(&s)) {
+        fprintf(stderr, "server: the settings are out of range\n");
+        return 1;
+    }
     show(0, "dock 0", quay_attach(s.image, sizeof s.image, 0, 0, PACE));
     show(0, "dock 0", quay_attach(s.image, sizeof s.image, 0, 0, PACE));
     for (unsigned tick = 1; tick < LAST_TICK && !(done[0] && done[1]); tick++) {
@@ -145,13 +151,8 @@ int main(int argc, char **argv)
                 done[slot] = 1;
                 show(tick, slot ? "undock 1" : "undock 0", quay_detach(s.image, sizeof s.image, slot));
             }
-        if (s.on_link == 0) {
-            uint64_t answer = quay_prefetch(s.image, sizeof s.image);
-            if (quay_letter(answer) == QUAY_FETCH) {
-                show(tick, "early", answer);
-                ask(&s, tick, answer);
-            }
-        }
+        if (s.on_link == 0)
+            fetch_early(&s, tick);
     }
     show(LAST_TICK, "steal", quay_steal(s.image, sizeof s.image));
     return done[0] && done[1] ? 0 : 1;
