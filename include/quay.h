@@ -110,7 +110,8 @@ static inline unsigned quay_reads(uint64_t answer) { return (unsigned)(answer & 
 /* Writes the image of a box without readers, cached pages or fetches, over whatever the buffer holds. Frames are 1 to 1,024, the
  * look-ahead 1 to 2,000,000 ticks, the fetch time 0 to 2,000,000 ticks; `sizes` points to eight numbers, the pages of the files 0 to
  * 7, each 0 to 1,024 (0: no such file).
- * QUAY_DONE. Refusals: 13 for a length that is not QUAY_IMAGE_SIZE, 1. */
+ * QUAY_DONE. Refusals: 13 for a length that is not QUAY_IMAGE_SIZE, 1. It is plain C outside the proofs; tests hold it to the rule of
+ * Setup. */
 static inline uint64_t quay_first_image(uint8_t *image, size_t length, uint64_t frames, uint64_t look_ahead, uint64_t fetch_time,
                                         const uint64_t sizes[8])
 {

@@ -1,4 +1,6 @@
-//! The eight calls of the C boundary.
+//! The eight calls of the C boundary, and the settings of a first image.
+
+use crate::limits::FILES;
 
 /// "The server is in C and calls the box on numbers and an image buffer:
 /// Attach, Detach, Read, Arrive, Lost, Prefetch, Steal, Run". The numbers are
@@ -19,6 +21,20 @@ pub enum Call {
 /// Something that takes calls on an image buffer: the box, or what stands for
 /// it. It changes the buffer and returns the number.
 pub type Entry = fn(&mut [u8], Call) -> u64;
+
+/// What Setup takes: "frames, L, T, eight sizes". The numbers are as they come.
+#[derive(Clone, Copy, Debug, PartialEq, Eq)]
+#[allow(missing_docs)] // the fields are the paper's own words
+pub struct Settings {
+    pub frames: u64,
+    pub look_ahead: u64,
+    pub fetch_time: u64,
+    pub sizes: [u64; FILES as usize],
+}
+
+/// Something that writes a first image into a buffer: the header's function, or
+/// what stands for it. It changes the buffer and returns the number.
+pub type First = fn(&mut [u8], &Settings) -> u64;
 
 impl Call {
     /// The call's name in the paper.

@@ -1,9 +1,9 @@
 //! The box itself, through its C entries: "calls the box on numbers and an
-//! image buffer".
+//! image buffer"; and the header's first image, through `ffi.c`.
 
 #![allow(unsafe_code)]
 
-use crate::call::Call;
+use crate::call::{Call, Settings};
 
 extern "C" {
     fn quay_attach(image: *mut u8, len: usize, slot: u64, file: u64, pace: u64) -> u64;
@@ -14,6 +14,14 @@ extern "C" {
     fn quay_prefetch(image: *mut u8, len: usize) -> u64;
     fn quay_steal(image: *mut u8, len: usize) -> u64;
     fn quay_run(image: *mut u8, len: usize, turns: u64) -> u64;
+    fn header_first_image(
+        image: *mut u8,
+        len: usize,
+        frames: u64,
+        look_ahead: u64,
+        fetch_time: u64,
+        sizes: *const u64,
+    ) -> u64;
 }
 
 /// One call through the box's C entry of that name.
@@ -33,4 +41,17 @@ pub fn entry(image: &mut [u8], call: Call) -> u64 {
             Call::Run { turns } => quay_run(at, len, turns),
         }
     }
+}
+
+/// A first image by the inline function of `quay.h`.
+pub fn first_image(image: &mut [u8], settings: &Settings) -> u64 {
+    let Settings {
+        frames,
+        look_ahead,
+        fetch_time,
+        ref sizes,
+    } = *settings;
+    let (at, len) = (image.as_mut_ptr(), image.len());
+    // SAFETY: as for an entry; and it may read the eight sizes.
+    unsafe { header_first_image(at, len, frames, look_ahead, fetch_time, sizes.as_ptr()) }
 }

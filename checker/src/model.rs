@@ -14,7 +14,7 @@ mod program;
 mod state;
 
 pub use answer::{Answer, Refusal};
-pub use entry::entry;
+pub use entry::{entry, first_image};
 pub use orders::UseKey;
 pub use program::{follow, respond, run_program};
 pub use state::{Page, Reader, State};

@@ -5,6 +5,7 @@
 pub mod calls;
 pub mod damage;
 pub mod fewest;
+pub mod first;
 mod hold;
 pub mod named;
 mod options;
@@ -16,3 +17,8 @@ pub mod streams;
 pub use hold::{hold, CALL_OUTCOMES};
 pub use options::seed_and_rounds;
 pub use report::{Outcomes, Report};
+
+use crate::limits::IMAGE_BYTES;
+
+/// "The buffer must be exactly 2,208 bytes, else 13".
+const WRONG_LENGTHS: [usize; 5] = [0, 1, IMAGE_BYTES - 1, IMAGE_BYTES + 1, 4_096];

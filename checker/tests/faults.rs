@@ -1,14 +1,16 @@
 //! The trials find faults: each of these stand-ins is wrong in one way only.
 
-use checker::call::{Call, Entry};
+use checker::call::{Call, Entry, First, Settings};
 use checker::feed::{Feed, Program};
 use checker::limits::{IMAGE_BYTES, LINE_BYTES, MOST_TURNS, PACE};
-use checker::model::{respond, run_program, Answer, Page, State};
+use checker::model::{first_image, respond, run_program, Answer, Page, State};
 use checker::quick;
 use checker::random::Dice;
+use checker::trial::first::first_images;
 use checker::trial::named::{self, Named};
 use checker::trial::{calls, damage, fewest, rules, soundings, Report, CALL_OUTCOMES};
 use std::collections::BTreeSet;
+use std::ops::Range;
 
 fn failed(trial: impl FnOnce(&mut Report, &mut Dice)) -> u64 {
     let mut report = Report::default();
@@ -97,6 +99,41 @@ fn a_length_tested_late_is_found() {
 }
 
 #[test]
+fn a_wrong_first_image_is_found() {
+    let firsts: [(&str, First); 11] = [
+        ("one byte of L", one_byte_of_l),
+        ("two bytes of T", two_bytes_of_t),
+        ("frames and sizes cut to 16 bits", cut_to::<16>),
+        ("frames and sizes cut to 32 bits", cut_to::<32>),
+        ("ticks cut to 32 bits", ticks_of_32_bits),
+        ("the last size not tested", last_size_untested),
+        ("1,024 pages refused", full_file_refused),
+        ("the maps left as they were", maps_left),
+        ("the buffer cleared before a refusal", cleared_first),
+        ("1 before 13", length_last),
+        ("a longer buffer taken", longer_taken),
+    ];
+    for (name, first) in firsts {
+        let trial = |report: &mut Report, dice: &mut Dice| {
+            first_images(report, first, quick::entry, dice, 100);
+        };
+        assert!(failed(trial) > 0, "{name}");
+    }
+}
+
+#[test]
+fn a_first_image_that_no_call_takes_is_found() {
+    let entry: Entry = |image, call| match image[0] {
+        0 => 13, // 256 frames, say, by their low byte
+        _ => quick::entry(image, call),
+    };
+    let trial = |report: &mut Report, dice: &mut Dice| {
+        first_images(report, right_first, entry, dice, 100);
+    };
+    assert!(failed(trial) > 0);
+}
+
+#[test]
 fn each_trial_by_name_finds_its_faults() {
     let entries: [(&str, Entry); 36] = [
         ("each refusal has its number", another_number::<2>),
@@ -175,6 +212,89 @@ fn trial(name: &str) -> Named {
 fn restored(image: &[u8]) -> Option<State> {
     let (state, restored) = State::restore(image);
     restored.ok().map(|()| state)
+}
+
+/// A first image by the model.
+fn right_first(buffer: &mut [u8], settings: &Settings) -> u64 {
+    let (number, bytes) = first_image(buffer, settings);
+    buffer.copy_from_slice(&bytes);
+    number
+}
+
+/// A first image in which these bytes keep what the buffer held, or 0.
+fn without(buffer: &mut [u8], settings: &Settings, bytes: Range<usize>, keep: bool) -> u64 {
+    let before = buffer.to_vec();
+    let number = right_first(buffer, settings);
+    if number >= 65_536 {
+        for at in bytes {
+            buffer[at] = if keep { before[at] } else { 0 };
+        }
+    }
+    number
+}
+
+fn one_byte_of_l(buffer: &mut [u8], settings: &Settings) -> u64 {
+    without(buffer, settings, 5..8, false)
+}
+
+fn two_bytes_of_t(buffer: &mut [u8], settings: &Settings) -> u64 {
+    without(buffer, settings, 10..12, false)
+}
+
+fn maps_left(buffer: &mut [u8], settings: &Settings) -> u64 {
+    without(buffer, settings, 160..IMAGE_BYTES, true)
+}
+
+fn cut_to<const BITS: u32>(buffer: &mut [u8], settings: &Settings) -> u64 {
+    let cut = |number: u64| number & ((1 << BITS) - 1);
+    let settings = Settings {
+        frames: cut(settings.frames),
+        sizes: settings.sizes.map(cut),
+        ..*settings
+    };
+    right_first(buffer, &settings)
+}
+
+fn ticks_of_32_bits(buffer: &mut [u8], settings: &Settings) -> u64 {
+    let settings = Settings {
+        look_ahead: u64::from(settings.look_ahead as u32),
+        fetch_time: u64::from(settings.fetch_time as u32),
+        ..*settings
+    };
+    right_first(buffer, &settings)
+}
+
+fn last_size_untested(buffer: &mut [u8], settings: &Settings) -> u64 {
+    let mut settings = *settings;
+    settings.sizes[7] = settings.sizes[7].min(1_024);
+    right_first(buffer, &settings)
+}
+
+fn full_file_refused(buffer: &mut [u8], settings: &Settings) -> u64 {
+    match settings.sizes.contains(&1_024) && buffer.len() == IMAGE_BYTES {
+        true => 1,
+        false => right_first(buffer, settings),
+    }
+}
+
+fn cleared_first(buffer: &mut [u8], settings: &Settings) -> u64 {
+    let number = right_first(buffer, settings);
+    if number == 1 {
+        buffer.fill(0);
+    }
+    number
+}
+
+fn length_last(buffer: &mut [u8], settings: &Settings) -> u64 {
+    match right_first(&mut [0; IMAGE_BYTES], settings) {
+        1 => 1,
+        _ => right_first(buffer, settings),
+    }
+}
+
+fn longer_taken(buffer: &mut [u8], settings: &Settings) -> u64 {
+    let length = buffer.len().min(IMAGE_BYTES);
+    right_first(&mut buffer[..length], settings)
 }
 
 /// Of several refusals that apply, the one listed last.

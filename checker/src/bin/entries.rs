@@ -1,4 +1,5 @@
-//! Holds the box's C entries to the model and to the paper.
+//! Holds the box's C entries, and the header's first image, to the model and to
+//! the paper.
 //!
 //!     QUAY_LIB=folder cargo run --release --features box --bin entries
 //!     ... -- --seed 7 --rounds 20
@@ -6,9 +7,10 @@
 //! One round is the default run; more rounds go on with the same dice. The last
 //! line is `entries: N passed, 0 failed`, or the exit status is not 0.
 
-use checker::ffi::entry;
+use checker::ffi::{entry, first_image};
 use checker::model::run_program;
 use checker::random::Dice;
+use checker::trial::first::{first_images, FIRST_OUTCOMES};
 use checker::trial::{calls, damage, fewest, named, rules, seed_and_rounds, soundings};
 use checker::trial::{Report, CALL_OUTCOMES};
 use std::process::ExitCode;
@@ -23,7 +25,16 @@ fn main() -> ExitCode {
     println!("entries: seed {seed}, rounds {rounds}");
     let mut report = Report::default();
     let mut dice = Dice::new(seed);
+    fixed(&mut report);
+    for _ in 0..rounds {
+        round(&mut report, &mut dice);
+    }
+    let outcomes = [CALL_OUTCOMES, FIRST_OUTCOMES].concat();
+    report.close("entries", "calls", &outcomes)
+}
 
+/// What is the same for every seed.
+fn fixed(report: &mut Report) {
     report.part("soundings and listing", |report| {
         soundings::by_model(report);
         soundings::by_entry(report, entry);
@@ -37,27 +48,31 @@ fn main() -> ExitCode {
     report.part("each rule of Restore", |report| {
         rules::rules(report, entry);
     });
-    for _ in 0..rounds {
-        report.part("random calls", |report| {
-            calls::random_calls(report, entry, &mut dice, 5_000);
-        });
-        report.part("calls at every bound", |report| {
-            calls::bounds(report, entry, &mut dice, 30);
-        });
-        report.part("runs of 16,384 turns", |report| {
-            calls::long_runs(report, entry, &mut dice);
-        });
-        report.part("every byte damaged", |report| {
-            damage::every_byte(report, entry, &mut dice);
-        });
-        report.part("random bytes, wrong lengths", |report| {
-            damage::noise(report, entry, &mut dice, 3_000);
-            damage::lengths(report, entry, &mut dice);
-        });
-        report.part("fewest fetches of any schedule", |report| {
-            let with_evictions = fewest::fewest(report, entry, &mut dice, INSTANCES);
-            println!("{with_evictions} of {INSTANCES} small instances had evictions");
-        });
-    }
-    report.close("entries", "calls", CALL_OUTCOMES)
+}
+
+/// What the dice decide.
+fn round(report: &mut Report, dice: &mut Dice) {
+    report.part("random calls", |report| {
+        calls::random_calls(report, entry, dice, 5_000);
+    });
+    report.part("calls at every bound", |report| {
+        calls::bounds(report, entry, dice, 30);
+    });
+    report.part("runs of 16,384 turns", |report| {
+        calls::long_runs(report, entry, dice);
+    });
+    report.part("every byte damaged", |report| {
+        damage::every_byte(report, entry, dice);
+    });
+    report.part("random bytes, wrong lengths", |report| {
+        damage::noise(report, entry, dice, 3_000);
+        damage::lengths(report, entry, dice);
+    });
+    report.part("first images", |report| {
+        first_images(report, first_image, entry, dice, 10_000);
+    });
+    report.part("fewest fetches of any schedule", |report| {
+        let with_evictions = fewest::fewest(report, entry, dice, INSTANCES);
+        println!("{with_evictions} of {INSTANCES} small instances had evictions");
+    });
 }

@@ -1,7 +1,7 @@
 //! Damaged images: changed bytes, random bytes, wrong lengths. Some damage
 //! leaves an image that Restore accepts; the model decides.
 
-use super::{hold, Report};
+use super::{hold, Report, WRONG_LENGTHS};
 use crate::call::Entry;
 use crate::layout::{CACHED, END, FOUR_ZEROS, IN_FETCH, READERS, SIZES};
 use crate::limits::IMAGE_BYTES;
@@ -18,9 +18,6 @@ const PIECES: [Range<usize>; 6] = [
     CACHED..IN_FETCH,
     IN_FETCH..END,
 ];
-
-/// "The buffer must be exactly 2,208 bytes, else 13".
-const WRONG_LENGTHS: [usize; 5] = [0, 1, IMAGE_BYTES - 1, IMAGE_BYTES + 1, 4_096];
 
 /// Every byte changed, each in some valid images: one bit of it, or several.
 pub fn every_byte(report: &mut Report, entry: Entry, dice: &mut Dice) {

@@ -22,30 +22,44 @@ pub const CALL_OUTCOMES: &Outcomes = &[
 const GUARD: usize = 96;
 const GUARD_BYTE: u8 = 0xA5;
 
-/// Makes the call on a copy of the image, with guard bytes on both sides and at
-/// every alignment in turn. Number and image must be the model's, and the guards
-/// must stand. Returns number and image by the model.
+/// Makes the call on a copy of the image. Returns number and image by the model.
 pub fn hold(report: &mut Report, entry: Entry, image: &[u8], call: Call) -> (u64, Vec<u8>) {
-    let shift = report.compared() as usize % 8;
-    let inside = GUARD + shift..GUARD + shift + image.len();
-    let mut memory = vec![GUARD_BYTE; inside.end + GUARD];
-    memory[inside.clone()].copy_from_slice(image);
-    let number = entry(&mut memory[inside.clone()], call);
+    let expected = model::entry(image, call);
+    report.note(call.name(), outcome(expected.0));
+    let act = |buffer: &mut [u8]| entry(buffer, call);
+    hold_buffer(report, image, &expected, act, || {
+        format!("{call:?}, {}", describe(image))
+    });
+    expected
+}
 
-    let (expected_number, expected_image) = model::entry(image, call);
+/// Acts on a copy of the bytes, with guard bytes on both sides and at every
+/// alignment in turn. Number and bytes must be the expected ones, and the guards
+/// must stand.
+pub(super) fn hold_buffer(
+    report: &mut Report,
+    bytes: &[u8],
+    (expected_number, expected_bytes): &(u64, Vec<u8>),
+    act: impl FnOnce(&mut [u8]) -> u64,
+    what: impl FnOnce() -> String,
+) {
+    let shift = report.compared() as usize % 8;
+    let inside = GUARD + shift..GUARD + shift + bytes.len();
+    let mut memory = vec![GUARD_BYTE; inside.end + GUARD];
+    memory[inside.clone()].copy_from_slice(bytes);
+    let number = act(&mut memory[inside.clone()]);
+
     report.count(1);
-    report.note(call.name(), outcome(expected_number));
-    let wrong_byte = (0..image.len()).find(|&at| memory[inside.start + at] != expected_image[at]);
+    let wrong_byte = (0..bytes.len()).find(|&at| memory[inside.start + at] != expected_bytes[at]);
     let guarded = guards_stand(&memory, &inside);
-    let good = number == expected_number && wrong_byte.is_none() && guarded;
+    let good = number == *expected_number && wrong_byte.is_none() && guarded;
     report.check(good, || {
         format!(
-            "{call:?} answered {number}, the model {expected_number}; \
-             first wrong byte of the image: {wrong_byte:?}; guards stand: {guarded}; {}",
-            describe(image)
+            "{}: {number}, the model {expected_number}; \
+             first wrong byte of the buffer: {wrong_byte:?}; guards stand: {guarded}",
+            what()
         )
     });
-    (expected_number, expected_image)
 }
 
 fn guards_stand(memory: &[u8], inside: &Range<usize>) -> bool {
