@@ -73,6 +73,62 @@ fn setup_takes_exactly_its_ranges() {
     assert!(!good(u64::MAX, 1, 0, 0) && !good(1, u64::MAX, 0, 0));
 }
 
+/// Bytes written over an image, each piece with its place, and the rule that they
+/// break.
+const BROKEN: [(usize, &[u8], &str); 17] = [
+    (0, &[0, 0], "the number of frames is 0, not 1 to 1024"),
+    (2, &[16], "the turn is 16, not 0 to 15"),
+    (3, &[1], "a byte behind the turn is not 0"),
+    (4, &[0; 4], "the look-ahead is 0, not 1 to 2000000"),
+    (10, &[0xFF], "the fetch time is 16711700, not 0 to 2000000"),
+    (26, &[1, 4], "the size of file 7 is 1025, not 0 to 1024"),
+    (28, &[3], "slot 0 has condition 3, not 0 to 2"),
+    (28, &[0], "a byte in the empty slot 0 is not 0"),
+    (29, &[1], "slot 0 reads file 1, which has no pages"),
+    (30, &[0], "the pace of slot 0 is 0, not 1 to 1000"),
+    (32, &[4], "slot 0 is at page 4 of 3"),
+    (32, &[2], "slot 0 waits, but its next page is not in fetch"),
+    (34, &[1], "a byte behind the reader in slot 0 is not 0"),
+    (156, &[1], "a byte behind the readers is not 0"),
+    (
+        160,
+        &[9],
+        "page 4 of file 0 is in a map, but the file has 3",
+    ),
+    (
+        1_184 + 128,
+        &[1],
+        "page 1 of file 1 is in a map, but the file has 0",
+    ),
+    (160, &[3], "page 2 of file 0 is in both maps"),
+];
+
+/// Two frames, three pages in file 0; page 1 is cached, page 2 in fetch, and slot
+/// 0 waits for it.
+#[test]
+fn a_refused_image_says_why() {
+    let (mut state, _) = State::setup(2, 100, 20, [3, 0, 0, 0, 0, 0, 0, 0]);
+    let page = |number| Page { file: 0, number };
+    state.cached.insert(page(1));
+    state.attach(0, 0, 10).unwrap();
+    state.read(0).unwrap();
+    state.read(0).unwrap();
+    for (at, bytes, why) in BROKEN {
+        let mut image = state.image();
+        image[at..at + bytes.len()].copy_from_slice(bytes);
+        assert_eq!(State::of_image(&image), Err(why.to_string()));
+    }
+    state.cached.insert(page(3));
+    state.frames = 1;
+    let said = State::of_image(&state.image());
+    assert_eq!(
+        said,
+        Err("more cached pages (2) than frames (1)".to_string())
+    );
+    let said = State::of_image(&[0; 5]);
+    assert_eq!(said, Err("5 bytes, not 2208".to_string()));
+}
+
 #[test]
 fn each_rule_of_restore_is_kept() {
     let mut report = Report::default();

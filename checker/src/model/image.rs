@@ -2,8 +2,9 @@
 
 use super::answer::Refusal;
 use super::state::{Page, Reader, State};
-use crate::limits::{setup_fits, FILES, IMAGE_BYTES, PACE, SLOTS};
+use crate::limits::{FETCH_TIME, FILES, FRAMES, IMAGE_BYTES, LOOK_AHEAD, PACE, SIZE, SLOTS};
 use std::collections::{BTreeMap, BTreeSet};
+use std::ops::RangeInclusive;
 
 /// "A file has 128 map bytes".
 const FILE_MAP_BYTES: u64 = 128;
@@ -54,64 +55,118 @@ impl State {
 
     /// **Restore**. "13: [...] The idle state comes back."
     pub fn restore(image: &[u8]) -> (State, Result<(), Refusal>) {
-        match read_image(image).filter(State::is_sound) {
-            Some(state) => (state, Ok(())),
-            None => (State::idle(), Err(Refusal::Image)),
+        match State::of_image(image) {
+            Ok(state) => (state, Ok(())),
+            Err(_) => (State::idle(), Err(Refusal::Image)),
         }
     }
 
-    /// Restore's rules about a whole state: no "value out of range", no "bit
-    /// above the size", no "page in both maps", not "more cached pages than
-    /// frames", and the rules about each reader.
-    fn is_sound(&self) -> bool {
-        let within_size = |page: &Page| page.number <= self.size(page.file);
-        let mut readers = self.readers.values();
-        setup_fits(self.frames, self.look_ahead, self.fetch_time, &self.sizes)
-            && self.turn < SLOTS
-            && readers.all(|reader| self.is_sound_reader(reader))
-            && self.cached.iter().all(within_size)
-            && self.in_fetch.iter().all(within_size)
-            && self.cached.is_disjoint(&self.in_fetch)
-            && self.cached.len() as u64 <= self.frames
+    /// The state of an image, or in words the first rule of Restore that is found
+    /// broken.
+    pub fn of_image(image: &[u8]) -> Result<State, String> {
+        let state = read_image(image)?;
+        state.check_numbers()?;
+        for (&slot, reader) in &state.readers {
+            state.check_reader(slot, reader)?;
+        }
+        state.check_pages()?;
+        Ok(state)
+    }
+
+    /// No "value out of range" among the settings and the turn.
+    fn check_numbers(&self) -> Result<(), String> {
+        in_range("number of frames", self.frames, FRAMES)?;
+        in_range("turn", self.turn, 0..=SLOTS - 1)?;
+        in_range("look-ahead", self.look_ahead, LOOK_AHEAD)?;
+        in_range("fetch time", self.fetch_time, FETCH_TIME)?;
+        for (file, size) in (0..).zip(self.sizes) {
+            in_range(&format!("size of file {file}"), size, SIZE)?;
+        }
+        Ok(())
     }
 
     /// Restore's rules about one reader: no "value out of range", no "file of
     /// size 0", no "position above the size", and no "waiting reader whose next
     /// page is not in fetch". At its last page a reader has no next page, so it
     /// cannot be waiting there.
-    fn is_sound_reader(&self, reader: &Reader) -> bool {
-        let size = self.size(reader.file);
-        let may_wait = reader.position < size && self.in_fetch.contains(&reader.next_page());
-        PACE.contains(&reader.pace)
-            && size > 0
-            && reader.position <= size
-            && (!reader.waiting || may_wait)
+    fn check_reader(&self, slot: u64, reader: &Reader) -> Result<(), String> {
+        let &Reader { file, position, .. } = reader;
+        let size = self.size(file);
+        let may_wait = position < size && self.in_fetch.contains(&reader.next_page());
+        in_range(&format!("pace of slot {slot}"), reader.pace, PACE)?;
+        rule(size > 0, || {
+            format!("slot {slot} reads file {file}, which has no pages")
+        })?;
+        rule(position <= size, || {
+            format!("slot {slot} is at page {position} of {size}")
+        })?;
+        rule(!reader.waiting || may_wait, || {
+            format!("slot {slot} waits, but its next page is not in fetch")
+        })
+    }
+
+    /// Restore's rules about the maps: no "bit above the size", no "page in both
+    /// maps", not "more cached pages than frames".
+    fn check_pages(&self) -> Result<(), String> {
+        for page in self.cached.iter().chain(&self.in_fetch) {
+            let &Page { file, number } = page;
+            let size = self.size(file);
+            rule(number <= size, || {
+                format!("page {number} of file {file} is in a map, but the file has {size}")
+            })?;
+        }
+        if let Some(Page { file, number }) = self.cached.intersection(&self.in_fetch).next() {
+            return Err(format!("page {number} of file {file} is in both maps"));
+        }
+        let (cached, frames) = (self.cached.len() as u64, self.frames);
+        rule(cached <= frames, || {
+            format!("more cached pages ({cached}) than frames ({frames})")
+        })
     }
 }
 
-/// Reads what an image says, sound or not. Nothing comes of "another length",
-/// of a condition that is none of the three, of "an empty slot not all 0" and
-/// of "a 0 byte that is not 0".
-fn read_image(image: &[u8]) -> Option<State> {
-    if image.len() != IMAGE_BYTES {
-        return None;
+/// What a rule that is broken says.
+fn rule(kept: bool, words: impl FnOnce() -> String) -> Result<(), String> {
+    if kept {
+        return Ok(());
     }
+    Err(words())
+}
+
+fn in_range(name: &str, value: u64, range: RangeInclusive<u64>) -> Result<(), String> {
+    rule(range.contains(&value), || {
+        format!(
+            "the {name} is {value}, not {} to {}",
+            range.start(),
+            range.end()
+        )
+    })
+}
+
+/// Reads what an image says, sound or not. Refused are "another length", a
+/// condition that is none of the three, "an empty slot not all 0" and "a 0 byte
+/// that is not 0".
+fn read_image(image: &[u8]) -> Result<State, String> {
+    let length = image.len();
+    rule(length == IMAGE_BYTES, || {
+        format!("{length} bytes, not {IMAGE_BYTES}")
+    })?;
     let mut rest = image;
     let frames = take(&mut rest, 2);
     let turn = take(&mut rest, 1);
-    take_zero(&mut rest, 1)?;
+    take_zero(&mut rest, 1, "behind the turn")?;
     let look_ahead = take(&mut rest, 4);
     let fetch_time = take(&mut rest, 4);
     let sizes = std::array::from_fn(|_| take(&mut rest, 2));
     let mut readers = BTreeMap::new();
     for slot in 0..SLOTS {
-        if let Some(reader) = take_reader(&mut rest)? {
+        if let Some(reader) = take_reader(&mut rest, slot)? {
             readers.insert(slot, reader);
         }
     }
-    take_zero(&mut rest, 4)?;
+    take_zero(&mut rest, 4, "behind the readers")?;
     let (cached, in_fetch) = rest.split_at(MAP_BYTES);
-    Some(State {
+    Ok(State {
         frames,
         look_ahead,
         fetch_time,
@@ -124,15 +179,15 @@ fn read_image(image: &[u8]) -> Option<State> {
 }
 
 /// One record of 8 bytes: "condition [...]; file; pace 2; position 2; two of 0".
-fn take_reader(rest: &mut &[u8]) -> Option<Option<Reader>> {
+fn take_reader(rest: &mut &[u8], slot: u64) -> Result<Option<Reader>, String> {
     let waiting = match take(rest, 1) {
         EMPTY => {
-            take_zero(rest, 7)?;
-            return Some(None);
+            take_zero(rest, 7, &format!("in the empty slot {slot}"))?;
+            return Ok(None);
         }
         RUNNING => false,
         WAITING => true,
-        _ => return None,
+        other => return Err(format!("slot {slot} has condition {other}, not 0 to 2")),
     };
     let reader = Reader {
         file: take(rest, 1),
@@ -140,8 +195,8 @@ fn take_reader(rest: &mut &[u8]) -> Option<Option<Reader>> {
         position: take(rest, 2),
         waiting,
     };
-    take_zero(rest, 2)?;
-    Some(Some(reader))
+    take_zero(rest, 2, &format!("behind the reader in slot {slot}"))?;
+    Ok(Some(reader))
 }
 
 /// Puts a number in so many bytes, "little-endian".
@@ -158,8 +213,10 @@ fn take(rest: &mut &[u8], bytes: usize) -> u64 {
 }
 
 /// Takes so many bytes off the front, all of which must be 0.
-fn take_zero(rest: &mut &[u8], bytes: usize) -> Option<()> {
-    (take(rest, bytes) == 0).then_some(())
+fn take_zero(rest: &mut &[u8], bytes: usize, place: &str) -> Result<(), String> {
+    rule(take(rest, bytes) == 0, || {
+        format!("a byte {place} is not 0")
+    })
 }
 
 /// A map: "A file has 128 map bytes, page 1 in the lowest bit of the first."
