@@ -9,7 +9,7 @@ mod svg;
 mod tables;
 mod text;
 
-pub use picture::{Mark, ReaderMark, Strip};
+pub use picture::{Mark, PageRow, ReaderMark, Shown, Strip};
 pub use tables::{Row, Stretch, Use};
 
 use crate::model::{follow, Page, State};
@@ -19,8 +19,19 @@ const TITLE: &str = "The quay box, explained";
 const NOTE: &str = "An aid outside the proofs.";
 const TIES: &str = "The seat distance is shown where use times are equal: there it decides.";
 
+/// The ruler's part of a legend.
+const RULED: &str = "+8 over rows: 8 pages after the first of its row";
+
+/// Words for rows that are left out.
+fn alike_words(count: usize, last: u64) -> String {
+    format!(".. {count} more rows like this one, up to page {last}")
+}
+
 /// Refused lines that are named one by one.
 const REFUSED_NAMED: usize = 6;
+
+/// Rows of an order that are shown, if not all are asked for.
+const MOST_ROWS: usize = 40;
 
 /// A state, explained.
 #[derive(Clone, Debug)]
@@ -33,6 +44,8 @@ pub struct Explained {
     pub steal: Vec<Row>,
     /// The fetch order.
     pub fetch: Vec<Row>,
+    /// Whether every row is shown, of the files and of the orders.
+    pub every_row: bool,
 }
 
 impl Explained {
@@ -58,6 +71,7 @@ impl Explained {
             strips: picture::strips(state),
             steal: tables::rows(state, state.steal_order()),
             fetch: tables::rows(state, state.fetch_order()),
+            every_row: false,
         }
     }
 
@@ -69,12 +83,42 @@ impl Explained {
         explained
     }
 
-    /// The pages of the steal order as they are shown.
+    /// Explains the state of a saved image, or says why Restore refuses it.
+    pub fn of_image(image: &[u8]) -> Result<Explained, String> {
+        let state = State::of_image(image)?;
+        let mut explained = Explained::of(&state);
+        let sentence = "The state of a saved image.".to_string();
+        explained.sentences.insert(0, sentence);
+        Ok(explained)
+    }
+
+    /// The same with every row shown.
+    pub fn with_every_row(self) -> Explained {
+        Explained {
+            every_row: true,
+            ..self
+        }
+    }
+
+    /// The rows of an order that are shown, and words about the rest, if any.
+    fn cut<'a>(&self, rows: &'a [Row]) -> (&'a [Row], Option<String>) {
+        let most = if self.every_row {
+            rows.len()
+        } else {
+            MOST_ROWS
+        };
+        let shown = rows.len().min(most);
+        let rest = rows.len() - shown;
+        let words = (rest > 0).then(|| format!(".. and {rest} more; --all shows them"));
+        (&rows[..shown], words)
+    }
+
+    /// The pages of the steal order.
     pub fn steal_pages(&self) -> Vec<Page> {
         self.steal.iter().map(|row| row.page).collect()
     }
 
-    /// The pages of the fetch order as they are shown.
+    /// The pages of the fetch order.
     pub fn fetch_pages(&self) -> Vec<Page> {
         self.fetch.iter().map(|row| row.page).collect()
     }

@@ -2,10 +2,12 @@
 //! model's.
 
 use checker::explain::Explained;
-use checker::model::{Page, State};
+use checker::model::{Page, Reader, State};
 use checker::random::Dice;
 use checker::scene::any_state;
+use std::collections::{BTreeMap, BTreeSet};
 use std::io::Write;
+use std::path::PathBuf;
 use std::process::{Command, Output, Stdio};
 
 /// A short stream that leads to a page of every stretch, and to a tie.
@@ -63,25 +65,229 @@ fn an_idle_state_is_shown() {
     assert!(!text.contains("File"));
 }
 
-/// Three pages to a mark: 1 to 3 cached, 4 and 5 cached, 8 in fetch, 10 cached
-/// and 12 in fetch.
-#[test]
-fn long_files_are_folded() {
+/// A file of 300 pages: pages 1 to 70 cached, page 67 in fetch instead, readers
+/// before it, at the end of the first row and at the start of the second.
+fn long_file() -> State {
     let mut state = State::idle();
-    state.frames = 6;
-    state.sizes[0] = 268;
+    state.frames = 100;
+    state.sizes[0] = 300;
     let page = |number| Page { file: 0, number };
-    state.cached = [1, 2, 3, 4, 5, 10].map(page).into();
-    state.in_fetch = [8, 12].map(page).into();
-    state.attach(0, 0, 1).unwrap();
-    state.attach(15, 0, 1).unwrap();
-    for _ in 0..4 {
-        state.read(15).unwrap();
+    state.cached = (1..=70).map(page).collect();
+    state.cached.remove(&page(67));
+    state.in_fetch.insert(page(67));
+    for (slot, position) in [(0, 64), (1, 0), (2, 65), (3, 66), (15, 66)] {
+        let mut reader = Reader::running(0, 1, position);
+        reader.waiting = slot == 15;
+        state.readers.insert(slot, reader);
     }
-    let text = Explained::of(&state).text();
-    let dots = ".".repeat(90 - 4);
-    let shown = format!("File 0, 268 pages, 3 pages a character\n  |#+~*{dots}|\n  ^0\n    ^15\n");
-    assert!(text.contains(&shown), "{text}");
+    state
+}
+
+/// C stands for 64 pages cached, N for 64 that are not.
+const LONG_FILE: &str = "
+File 0, 300 pages
+        +0      +8      +16     +24     +32     +40     +48     +56
+     1 |C| 64
+       ^1                                                              ^0
+    65 |##~###..........................................................| 128
+        ^2
+         ^3
+         ^15w
+   129 |N| 192
+        .. 2 more rows like this one, up to page 300
+
+# cached, ~ in fetch, . neither
+^ the last page read, with its reader's slot, w if it waits
++8 over rows: 8 pages after the first of its row
+";
+
+#[test]
+fn long_files_are_in_rows() {
+    let (cached, neither) = ("#".repeat(64), ".".repeat(64));
+    let shown = LONG_FILE.replace('C', &cached).replace('N', &neither);
+    let explained = Explained::of(&long_file());
+    assert!(explained.text().contains(&shown), "{}", explained.text());
+
+    let rows = [(129, 192), (193, 256), (257, 300)].map(|(first, last)| {
+        let marks = ".".repeat(last + 1 - first);
+        format!("   {first} |{marks}| {last}\n")
+    });
+    let text = explained.with_every_row().text();
+    assert!(text.contains(&rows.concat()), "{text}");
+}
+
+/// 8 files of 1,024 pages, 1,024 frames, 16 readers: all of it in use.
+fn full_state(dice: &mut Dice) -> State {
+    let (mut state, _) = State::setup(1_024, 2_000, 30, [1_024; 8]);
+    let any_page = |dice: &mut Dice| Page::of_key(dice.below(8_192));
+    while state.cached.len() < 1_024 {
+        let start = any_page(dice);
+        let stretch = start.number..=(start.number + dice.below(40)).min(1_024);
+        let room = 1_024 - state.cached.len();
+        let pages = stretch.map(|number| Page { number, ..start });
+        state.cached.extend(pages.take(room));
+    }
+    for slot in 0..16 {
+        let Page { file, number } = any_page(dice);
+        let mut reader = Reader::running(file, 10 + slot, number - 1);
+        let next = reader.next_page();
+        reader.waiting = !state.cached.contains(&next) && state.in_fetch.insert(next);
+        state.readers.insert(slot, reader);
+    }
+    state
+}
+
+#[test]
+fn a_full_state_can_be_read() {
+    let mut dice = Dice::new(15);
+    for _ in 0..20 {
+        let state = full_state(&mut dice);
+        assert_eq!(State::of_image(&state.image()).as_ref(), Ok(&state));
+        let explained = Explained::of(&state);
+        let text = explained.text();
+        assert!(text.lines().count() < 300, "{text}");
+        assert_eq!(steal_and_fetch(&text).0, state.steal_order()[..40]);
+        assert!(text.contains("\n  .. and 984 more; --all shows them\n\nFetch order"));
+        let svg = explained.svg();
+        assert!(svg.contains(">.. and 984 more; --all shows them</text>"));
+
+        let text = explained.clone().with_every_row().text();
+        let orders = (state.steal_order(), state.fetch_order());
+        assert_eq!(steal_and_fetch(&text), orders);
+        assert!(!text.contains("--all"));
+        assert!(!explained.with_every_row().svg().contains("--all"));
+    }
+}
+
+/// An order of 40 pages is whole, of 41 one is left.
+#[test]
+fn an_order_is_cut_after_40_rows() {
+    for (pages, rest) in [(40, None), (41, Some(1))] {
+        let (mut state, _) = State::setup(100, 1, 0, [100, 0, 0, 0, 0, 0, 0, 0]);
+        let page = |number| Page { file: 0, number };
+        state.cached = (1..=pages).map(page).collect();
+        let text = Explained::of(&state).text();
+        assert_eq!(steal_and_fetch(&text).0.len(), 40);
+        let words = rest.map(|rest| format!(".. and {rest} more"));
+        assert_eq!(text.contains(".. and "), words.is_some());
+        assert!(words.is_none_or(|words| text.contains(&words)));
+    }
+}
+
+/// The picture, read back from the text: every page and every reader is where
+/// the state has it, with and without rows left out.
+#[test]
+fn the_picture_is_the_state() {
+    let mut dice = Dice::new(16);
+    for nth in 0..300 {
+        let state = match nth % 3 {
+            0 => full_state(&mut dice),
+            _ => any_state(&mut dice),
+        };
+        let explained = Explained::of(&state);
+        for text in [explained.text(), explained.with_every_row().text()] {
+            let picture = Picture::read(&text);
+            assert_eq!(picture.cached, state.cached, "{text}");
+            assert_eq!(picture.in_fetch, state.in_fetch, "{text}");
+            let readers = state.readers.iter().map(|(slot, reader)| {
+                let w = if reader.waiting { "w" } else { "" };
+                (format!("{slot}{w}"), (reader.file, reader.position))
+            });
+            assert!(picture
+                .readers
+                .into_iter()
+                .eq(readers.collect::<BTreeMap<_, _>>()));
+            let sizes = state
+                .files()
+                .into_iter()
+                .map(|file| (file, state.size(file)));
+            assert!(picture.sizes.into_iter().eq(sizes));
+        }
+    }
+}
+
+/// What the rows of a text show.
+#[derive(Default)]
+struct Picture {
+    /// The file at hand.
+    file: u64,
+    /// The pages that each file has so far.
+    sizes: BTreeMap<u64, u64>,
+    cached: BTreeSet<Page>,
+    in_fetch: BTreeSet<Page>,
+    /// File and position by label.
+    readers: BTreeMap<String, (u64, u64)>,
+}
+
+impl Picture {
+    fn read(text: &str) -> Picture {
+        let mut picture = Picture::default();
+        let mut row = "";
+        for line in text.lines().take_while(|line| !line.starts_with('#')) {
+            let inner = line.trim_start();
+            if let Some(title) = line.strip_prefix("File ") {
+                picture.file = title.split(',').next().unwrap().parse().unwrap();
+                picture.sizes.insert(picture.file, 0);
+            } else if line.contains('|') {
+                row = line;
+                picture.take_row(line);
+            } else if let Some(words) = inner.strip_prefix(".. ") {
+                let mark = row.split('|').nth(1).unwrap().chars().next().unwrap();
+                picture.take_alike(mark, words);
+            } else if inner.starts_with('^') {
+                picture.take_readers(&line[row.find('|').unwrap()..]);
+            }
+        }
+        picture
+    }
+
+    /// The marks between the bars; the first and the last page stand outside, or
+    /// nothing does.
+    fn take_row(&mut self, line: &str) {
+        let pieces: Vec<&str> = line.split('|').collect();
+        let first = self.sizes[&self.file] + 1;
+        for mark in pieces[1].chars() {
+            self.take(mark);
+        }
+        let numbers = [first, self.sizes[&self.file]].map(|number| number.to_string());
+        let [before, behind] = [pieces[0].trim(), pieces[2].trim()];
+        assert!(before.is_empty() && behind.is_empty() || [before, behind] == numbers);
+    }
+
+    fn take_alike(&mut self, mark: char, words: &str) {
+        let pieces = words.split_once(" more rows like this one, up to page ");
+        let (count, page) = pieces.unwrap();
+        let left = page.parse::<u64>().unwrap() - self.sizes[&self.file];
+        assert_eq!(count, left.div_ceil(64).to_string());
+        for _ in 0..left {
+            self.take(mark);
+        }
+    }
+
+    fn take(&mut self, mark: char) {
+        let size = self.sizes.get_mut(&self.file).unwrap();
+        *size += 1;
+        let page = Page {
+            file: self.file,
+            number: *size,
+        };
+        match mark {
+            '#' => assert!(self.cached.insert(page)),
+            '~' => assert!(self.in_fetch.insert(page)),
+            mark => assert_eq!(mark, '.'),
+        }
+    }
+
+    /// The readers below a row, in a line from the row's bar on.
+    fn take_readers(&mut self, line: &str) {
+        let before_row = (self.sizes[&self.file] - 1) / 64 * 64;
+        for (column, _) in line.match_indices('^') {
+            let label = line[column + 1..].split(' ').next().unwrap();
+            let place = (self.file, before_row + column as u64);
+            let other = self.readers.insert(label.to_string(), place);
+            assert_eq!(other, None);
+        }
+    }
 }
 
 /// The pages of both tables, taken from the text, and the rows' width.
@@ -90,13 +296,18 @@ fn tables_list_the_orders() {
     let mut dice = Dice::new(13);
     for _ in 0..300 {
         let state = any_state(&mut dice);
-        let text = Explained::of(&state).text();
+        let text = Explained::of(&state).with_every_row().text();
         assert!(text.lines().all(|line| line.len() <= 100), "{text}");
-        let (before, fetch) = text.split_once("\nFetch order").unwrap();
-        let (_, steal) = before.split_once("\nSteal order").unwrap();
-        assert_eq!(pages_of(steal), state.steal_order());
-        assert_eq!(pages_of(fetch), state.fetch_order());
+        let orders = (state.steal_order(), state.fetch_order());
+        assert_eq!(steal_and_fetch(&text), orders);
     }
+}
+
+/// The pages of the two tables of a text.
+fn steal_and_fetch(text: &str) -> (Vec<Page>, Vec<Page>) {
+    let (before, fetch) = text.split_once("\nFetch order").unwrap();
+    let (_, steal) = before.split_once("\nSteal order").unwrap();
+    (pages_of(steal), pages_of(fetch))
 }
 
 /// The rows of a table start with place, file and page.
@@ -114,22 +325,36 @@ fn pages_of(table: &str) -> Vec<Page> {
     pages
 }
 
+/// How many marks of this colour an SVG has: a run of n is a line of 14n - 1.
+fn marks_of(svg: &str, colour: &str) -> usize {
+    let runs = svg.lines().filter(|line| line.contains("class=\"run\""));
+    let coloured = runs.filter(|line| line.contains(&format!("stroke=\"{colour}\"")));
+    let lengths = coloured.map(|line| {
+        let (_, behind) = line.rsplit_once('h').unwrap();
+        let (length, _) = behind.split_once('"').unwrap();
+        length.parse::<usize>().unwrap()
+    });
+    lengths.map(|length| (length + 1) / 14).sum()
+}
+
 #[test]
 fn svg_has_every_mark_and_row() {
     let mut dice = Dice::new(14);
-    for _ in 0..100 {
-        let state = any_state(&mut dice);
-        let explained = Explained::of(&state);
-        let svg = explained.svg();
-        let strips = explained.strips.iter();
-        let marks: usize = strips.map(|strip| strip.marks.len()).sum();
-        let folded = explained.strips.iter().any(|strip| strip.pages_a_mark > 1);
-        let in_legend = match (explained.strips.is_empty(), folded) {
-            (true, _) => 0,
-            (false, false) => 3,
-            (false, true) => 5,
+    for nth in 0..100 {
+        let state = match nth % 4 {
+            0 => full_state(&mut dice),
+            _ => any_state(&mut dice),
         };
-        assert_eq!(svg.matches("<rect").count(), 1 + marks + in_legend);
+        let explained = Explained::of(&state).with_every_row();
+        let svg = explained.svg();
+        let in_legend = usize::from(!state.files().is_empty());
+        let (cached, in_fetch) = (state.cached.len(), state.in_fetch.len());
+        let pages = state.sizes.iter().sum::<u64>() as usize;
+        assert_eq!(marks_of(&svg, "#2b6cb0"), cached + in_legend);
+        assert_eq!(marks_of(&svg, "#e08a1e"), in_fetch + in_legend);
+        let neither = pages - cached - in_fetch;
+        assert_eq!(marks_of(&svg, "#e3e6e9"), neither + in_legend);
+        assert_eq!(svg.matches("Z\"/>").count(), state.readers.len());
         let stretches = svg.matches("class=\"plain\" x=\"175\"").count();
         assert_eq!(stretches, explained.steal.len());
         assert_eq!(svg.matches("<text").count(), svg.matches("</text>").count());
@@ -137,9 +362,9 @@ fn svg_has_every_mark_and_row() {
     }
 }
 
-/// Runs explain with these arguments on the short stream.
+/// Runs quay-explain with these arguments on the short stream.
 fn explain(arguments: &[&str]) -> Output {
-    let mut command = Command::new(env!("CARGO_BIN_EXE_explain"));
+    let mut command = Command::new(env!("CARGO_BIN_EXE_quay-explain"));
     command.args(arguments).stdin(Stdio::piped());
     let mut child = command
         .stdout(Stdio::piped())
@@ -151,30 +376,97 @@ fn explain(arguments: &[&str]) -> Output {
     child.wait_with_output().unwrap()
 }
 
+/// A file of these bytes, for as long as it is needed.
+struct Kept(PathBuf);
+
+impl Kept {
+    fn new(name: &str, bytes: &[u8]) -> Kept {
+        let name = format!("quay-explain-{}-{name}", std::process::id());
+        let file = Kept(std::env::temp_dir().join(name));
+        std::fs::write(&file.0, bytes).unwrap();
+        file
+    }
+
+    fn name(&self) -> &str {
+        self.0.to_str().unwrap()
+    }
+
+    fn text(&self) -> String {
+        std::fs::read_to_string(&self.0).unwrap()
+    }
+}
+
+impl Drop for Kept {
+    fn drop(&mut self) {
+        let _ = std::fs::remove_file(&self.0);
+    }
+}
+
 #[test]
 fn the_program_prints_the_text_or_writes_the_svg() {
     let printed = explain(&[]);
     assert!(printed.status.success() && printed.stdout == SHOWN.as_bytes());
 
-    let file = std::env::temp_dir().join(format!("explain-{}.svg", std::process::id()));
-    let written = explain(&["--svg", file.to_str().unwrap()]);
+    let file = Kept::new("lines.svg", b"");
+    let written = explain(&["--svg", file.name()]);
     assert!(written.status.success() && written.stdout.is_empty());
-    let svg = std::fs::read_to_string(&file).unwrap();
-    std::fs::remove_file(&file).unwrap();
-    assert_eq!(svg, Explained::of_stream(STREAM).svg());
+    assert_eq!(file.text(), Explained::of_stream(STREAM).svg());
 
     let help = explain(&["--help"]);
     assert!(help.status.success());
-    assert!(String::from_utf8(help.stdout)
-        .unwrap()
-        .contains("outside the proofs"));
+    let help = String::from_utf8(help.stdout).unwrap();
+    assert!(help.starts_with("usage: quay-explain ") && help.contains("outside the proofs"));
+}
+
+#[test]
+fn the_program_takes_an_image() {
+    let state = full_state(&mut Dice::new(17));
+    let image = Kept::new("image", &state.image());
+    let explained = Explained::of_image(&state.image()).unwrap();
+    let text = explained.text();
+    assert!(text.contains("\nThe state of a saved image.\nFrames 1024, 1024 taken."));
+    let printed = explain(&["--image", image.name()]);
+    assert!(printed.status.success() && printed.stdout == text.as_bytes());
+
+    let explained = explained.with_every_row();
+    let printed = explain(&["--all", "--image", image.name()]);
+    assert!(printed.status.success() && printed.stdout == explained.text().as_bytes());
+    let file = Kept::new("image.svg", b"");
+    let written = explain(&["--svg", file.name(), "--all", "--image", image.name()]);
+    assert!(written.status.success() && written.stdout.is_empty());
+    assert_eq!(file.text(), explained.svg());
+}
+
+#[test]
+fn an_image_that_is_none_gets_a_message_and_the_status_1() {
+    let mut bytes = full_state(&mut Dice::new(18)).image();
+    bytes[0] = 255;
+    let image = Kept::new("bad-image", &bytes);
+    let refused = explain(&["--image", image.name()]);
+    assert_eq!(refused.status.code(), Some(1));
+    assert!(refused.stdout.is_empty());
+    let said = String::from_utf8(refused.stderr).unwrap();
+    let words = "no image of the box (13): the number of frames is 1279, not 1 to 1024\n";
+    assert_eq!(said, format!("quay-explain: {}: {words}", image.name()));
+
+    let missing = explain(&["--image", "/no/such/folder/image"]);
+    assert_eq!(missing.status.code(), Some(1));
+    assert!(missing.stdout.is_empty());
+    assert!(missing
+        .stderr
+        .starts_with(b"quay-explain: /no/such/folder/image: "));
 }
 
 #[test]
 fn bad_arguments_get_a_message_and_the_status_2() {
-    let bad: [&[&str]; 6] = [
+    let bad: [&[&str]; 11] = [
         &["--svg"],
+        &["--image"],
+        &["--image", ""],
         &["--svg", "a", "b"],
+        &["--all", "--all"],
+        &["--svg", "a", "--svg", "b"],
+        &["--image", "a", "--image", "a"],
         &["--help", "a"],
         &["file"],
         &["--SVG", "a"],
@@ -184,7 +476,7 @@ fn bad_arguments_get_a_message_and_the_status_2() {
         let output = explain(arguments);
         assert_eq!(output.status.code(), Some(2), "{arguments:?}");
         assert!(output.stdout.is_empty());
-        assert!(output.stderr.starts_with(b"explain: "));
+        assert!(output.stderr.starts_with(b"quay-explain: "));
     }
     let unwritten = explain(&["--svg", "/no/such/folder/file.svg"]);
     assert_eq!(unwritten.status.code(), Some(1));

@@ -1,83 +1,124 @@
-//! Shows the state that a stream of lines leads to: the files with their pages
-//! and readers, and both orders with the reason for each place.
+//! Shows the state that a stream of lines leads to, or that of a saved image: the
+//! files with their pages and readers, and both orders with the reason for each
+//! place.
 //!
-//!     cargo run --release --bin explain < stream
-//!     cargo run --release --bin explain -- --svg FILE < stream
+//!     cargo run --release --bin quay-explain < stream
+//!     cargo run --release --bin quay-explain -- --image FILE --svg FILE
 //!
 //! An aid outside the proofs: it runs the checker's model, not the box.
 
 use checker::explain::Explained;
-use std::io::{self, Read, Write};
+use std::ffi::OsString;
+use std::io::{self, ErrorKind, Read, Write};
+use std::path::PathBuf;
 use std::process::ExitCode;
 
 const HELP: &str = "\
-usage: explain [--svg FILE] < stream
+usage: quay-explain [--all] [--svg FILE] < stream
+       quay-explain [--all] [--svg FILE] --image FILE
 
-Reads lines of the program quay, runs the checker's model over them, and shows
-the state behind the last: a strip for each file, with its pages (cached, in
-fetch, neither) and its readers, then the steal order and the fetch order, each
-page with its stretch, its use time and the slot that reads it.
+Shows a state of the quay box: the files with their pages (cached, in fetch,
+neither) in rows, and their readers; then the steal order and the fetch order,
+each page with its stretch, its use time and the slot that reads it. The state is
+the one behind the last of the lines on standard input, which are lines of the
+program quay, or that of a saved image.
 
-  --svg FILE   write picture and tables to FILE as SVG; print nothing
-  --help       print this
+  --image FILE  take the state from FILE, an image of the box; read no lines
+  --svg FILE    write picture and tables to FILE as SVG; print nothing
+  --all         show every row: of an order, not its first 40, and of a file's
+                pages, also those that are alike
+  --help        print this
 
-It is an aid outside the proofs: what it shows is the model's, not the box's.
+It is an aid outside the proofs: what it shows is the checker's, not the box's.
 ";
 
-enum Form {
-    Help,
-    Text,
-    Svg(String),
+/// What the arguments ask for.
+#[derive(Default)]
+struct Wish {
+    help: bool,
+    all: bool,
+    svg: Option<PathBuf>,
+    image: Option<PathBuf>,
 }
 
 fn main() -> ExitCode {
-    let words = std::env::args_os().skip(1);
-    let words: Vec<String> = words.map(|word| word.to_string_lossy().into()).collect();
-    let form = match form(&words) {
-        Ok(form) => form,
+    let wish = match wish(std::env::args_os().skip(1)) {
+        Ok(wish) => wish,
         Err(fault) => {
-            eprintln!("explain: {fault}\nTry: explain --help");
+            eprintln!("quay-explain: {fault}\nTry: quay-explain --help");
             return ExitCode::from(2);
         }
     };
-    match show(form) {
+    match fulfil(wish) {
         Ok(()) => ExitCode::SUCCESS,
         Err(fault) => {
-            eprintln!("explain: {fault}");
+            eprintln!("quay-explain: {fault}");
             ExitCode::FAILURE
         }
     }
 }
 
-fn form(words: &[String]) -> Result<Form, String> {
-    let words: Vec<&str> = words.iter().map(String::as_str).collect();
-    match words[..] {
-        [] => Ok(Form::Text),
-        ["--help"] => Ok(Form::Help),
-        ["--svg"] => Err("--svg needs the name of a file".to_string()),
-        ["--svg", file] => Ok(Form::Svg(file.to_string())),
-        ["--svg" | "--help", .., extra] => Err(format!("{extra:?} is one argument too many")),
-        [word, ..] => Err(format!("{word:?} is no argument of explain")),
+fn wish(mut words: impl Iterator<Item = OsString>) -> Result<Wish, String> {
+    let mut wish = Wish::default();
+    while let Some(word) = words.next() {
+        let again = match word.to_str() {
+            Some("--help") => std::mem::replace(&mut wish.help, true),
+            Some("--all") => std::mem::replace(&mut wish.all, true),
+            Some("--svg") => wish.svg.replace(file(&word, words.next())?).is_some(),
+            Some("--image") => wish.image.replace(file(&word, words.next())?).is_some(),
+            _ => return Err(format!("{word:?} is no argument of quay-explain")),
+        };
+        if again {
+            return Err(format!("{word:?} is there twice"));
+        }
+    }
+    Ok(wish)
+}
+
+fn file(option: &OsString, word: Option<OsString>) -> Result<PathBuf, String> {
+    let file = word.filter(|word| !word.is_empty());
+    let file = file.ok_or(format!("{option:?} needs the name of a file"));
+    file.map(PathBuf::from)
+}
+
+fn fulfil(wish: Wish) -> Result<(), String> {
+    if wish.help {
+        return print(HELP);
+    }
+    let mut explained = match wish.image {
+        Some(file) => of_image(file)?,
+        None => of_lines()?,
+    };
+    if wish.all {
+        explained = explained.with_every_row();
+    }
+    match wish.svg {
+        Some(file) => std::fs::write(&file, explained.svg())
+            .map_err(|error| format!("{}: {error}", file.display())),
+        None => print(&explained.text()),
     }
 }
 
-fn show(form: Form) -> Result<(), String> {
-    if let Form::Help = form {
-        return print(HELP);
-    }
+fn of_image(file: PathBuf) -> Result<Explained, String> {
+    let name = file.display();
+    let image = std::fs::read(&file).map_err(|error| format!("{name}: {error}"))?;
+    let explained = Explained::of_image(&image);
+    explained.map_err(|rule| format!("{name}: no image of the box (13): {rule}"))
+}
+
+fn of_lines() -> Result<Explained, String> {
     let mut input = Vec::new();
     let read = io::stdin().lock().read_to_end(&mut input);
     read.map_err(|error| format!("standard input: {error}"))?;
-    let explained = Explained::of_stream(&input);
-    match form {
-        Form::Svg(file) => {
-            std::fs::write(&file, explained.svg()).map_err(|error| format!("{file}: {error}"))
-        }
-        _ => print(&explained.text()),
-    }
+    Ok(Explained::of_stream(&input))
 }
 
+/// Prints the text. A reader that has seen enough may close the pipe.
 fn print(text: &str) -> Result<(), String> {
-    let printed = io::stdout().lock().write_all(text.as_bytes());
-    printed.map_err(|error| format!("standard output: {error}"))
+    match io::stdout().lock().write_all(text.as_bytes()) {
+        Err(error) if error.kind() != ErrorKind::BrokenPipe => {
+            Err(format!("standard output: {error}"))
+        }
+        _ => Ok(()),
+    }
 }

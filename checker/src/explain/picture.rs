@@ -1,22 +1,24 @@
-//! The files as strips of marks, with the readers along them.
+//! The files as rows of pages, with the readers along them.
 
 use crate::model::{Page, State};
 
-/// The most marks in a strip.
-const MOST_MARKS: u64 = 90;
+/// The pages in a row.
+const ROW: u64 = 64;
 
-/// What one mark stands for: a page, or some pages of a long file.
+/// Fewer rows alike than this, behind the first of them, are shown each.
+const FEW: usize = 2;
+
+/// The places of a row that have a number over them.
+pub const RULER: [usize; 8] = [0, 8, 16, 24, 32, 40, 48, 56];
+
+/// What a page is.
 #[derive(Clone, Copy, Debug, PartialEq, Eq)]
 pub enum Mark {
-    /// Every page is cached.
+    /// It is cached.
     Cached,
-    /// Some pages are cached and none is in fetch.
-    SomeCached,
-    /// Some pages are cached and some are in fetch.
-    SomeOfBoth,
-    /// None is cached; the page, or some of the pages, are in fetch.
+    /// It is in fetch.
     InFetch,
-    /// None is cached or in fetch.
+    /// It is neither.
     Neither,
 }
 
@@ -27,23 +29,78 @@ pub struct Strip {
     pub file: u64,
     /// Its pages.
     pub size: u64,
-    /// How many pages a mark stands for; the last mark may stand for fewer.
-    pub pages_a_mark: u64,
-    /// The marks by rising page.
+    /// Its pages in rows, by rising page.
+    pub rows: Vec<PageRow>,
+}
+
+/// Some pages of a file in a row.
+#[derive(Clone, Debug)]
+pub struct PageRow {
+    /// The first page.
+    pub first: u64,
+    /// What each page is, by rising page.
     pub marks: Vec<Mark>,
-    /// Its readers by rising position.
+    /// The readers whose last page read is in this row, by rising position. One
+    /// that has read nothing is in the first row.
     pub readers: Vec<ReaderMark>,
 }
 
-/// A reader along a strip.
+/// Rows as they are shown.
+#[derive(Clone, Debug)]
+pub enum Shown<'a> {
+    /// A row.
+    Row(&'a PageRow),
+    /// So many rows more, alike to the one before, up to this page.
+    Alike(usize, u64),
+}
+
+/// A reader along a row.
 #[derive(Clone, Copy, Debug, PartialEq, Eq)]
 pub struct ReaderMark {
-    /// The mark that has its last page read, from 1; 0 before the first page.
+    /// The mark of its last page read, from 1; 0 before the first page.
     pub column: u64,
     /// Its slot.
     pub slot: u64,
     /// Whether it waits.
     pub waiting: bool,
+}
+
+impl Strip {
+    /// Whether its rows have page numbers beside and a ruler above: there are
+    /// several.
+    pub fn is_ruled(&self) -> bool {
+        self.rows.len() > 1
+    }
+
+    /// The rows, those alike that follow each other by the first of them and
+    /// their count; or every row.
+    pub fn shown(&self, every_row: bool) -> Vec<Shown<'_>> {
+        let mut shown = Vec::new();
+        for alike in self.rows.chunk_by(|row, next| row.is_alike(next)) {
+            let count = if every_row { 0 } else { alike.len() - 1 };
+            if count < FEW {
+                shown.extend(alike.iter().map(Shown::Row));
+            } else {
+                let last = alike[count].last();
+                shown.extend([Shown::Row(&alike[0]), Shown::Alike(count, last)]);
+            }
+        }
+        shown
+    }
+}
+
+impl PageRow {
+    /// The last page.
+    pub fn last(&self) -> u64 {
+        self.first + self.marks.len() as u64 - 1
+    }
+
+    /// Whether both are without a reader and of one and the same mark.
+    fn is_alike(&self, other: &PageRow) -> bool {
+        let no_reader = self.readers.is_empty() && other.readers.is_empty();
+        let mut marks = self.marks.iter().chain(&other.marks);
+        no_reader && marks.all(|&mark| mark == self.marks[0])
+    }
 }
 
 impl ReaderMark {
@@ -56,45 +113,48 @@ impl ReaderMark {
 
 /// A strip for each file that there is.
 pub fn strips(state: &State) -> Vec<Strip> {
-    let strip = |file| strip(state, file);
+    let strip = |file| {
+        let size = state.size(file);
+        let starts = (1..=size).step_by(ROW as usize);
+        Strip {
+            file,
+            size,
+            rows: starts.map(|first| row(state, file, first)).collect(),
+        }
+    };
     state.files().into_iter().map(strip).collect()
 }
 
-fn strip(state: &State, file: u64) -> Strip {
-    let size = state.size(file);
-    let pages_a_mark = size.div_ceil(MOST_MARKS);
-    let starts = (1..=size).step_by(pages_a_mark as usize);
-    let mark = |first| mark(state, file, first, size.min(first + pages_a_mark - 1));
-    let mut readers: Vec<ReaderMark> = state
+/// The row of a file that starts with this page.
+fn row(state: &State, file: u64, first: u64) -> PageRow {
+    let last = state.size(file).min(first + ROW - 1);
+    let pages = (first..=last).map(|number| Page { file, number });
+    let from = if first == 1 { 0 } else { first };
+    let here = state
         .readers
         .iter()
-        .filter(|(_, reader)| reader.file == file)
+        .filter(|(_, reader)| reader.file == file && (from..=last).contains(&reader.position));
+    let mut readers: Vec<ReaderMark> = here
         .map(|(&slot, reader)| ReaderMark {
-            column: reader.position.div_ceil(pages_a_mark),
+            column: reader.position + 1 - first,
             slot,
             waiting: reader.waiting,
         })
         .collect();
     readers.sort_by_key(|reader| (reader.column, reader.slot));
-    Strip {
-        file,
-        size,
-        pages_a_mark,
-        marks: starts.map(mark).collect(),
+    PageRow {
+        first,
+        marks: pages.map(|page| mark(state, page)).collect(),
         readers,
     }
 }
 
-/// The mark of the pages from first to last.
-fn mark(state: &State, file: u64, first: u64, last: u64) -> Mark {
-    let pages = || (first..=last).map(|number| Page { file, number });
-    let cached = pages().filter(|page| state.cached.contains(page)).count() as u64;
-    let any_in_fetch = pages().any(|page| state.in_fetch.contains(&page));
-    match (cached, any_in_fetch) {
-        (0, false) => Mark::Neither,
-        (0, true) => Mark::InFetch,
-        (_, true) => Mark::SomeOfBoth,
-        (_, false) if cached == last - first + 1 => Mark::Cached,
-        (_, false) => Mark::SomeCached,
+fn mark(state: &State, page: Page) -> Mark {
+    if state.cached.contains(&page) {
+        Mark::Cached
+    } else if state.in_fetch.contains(&page) {
+        Mark::InFetch
+    } else {
+        Mark::Neither
     }
 }

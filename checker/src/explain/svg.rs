@@ -1,14 +1,23 @@
 //! The picture and the tables as an SVG file that needs nothing else.
 
+use super::picture::RULER;
 use super::text::strip_title;
-use super::{labels, Explained, Mark, Row, Strip, NOTE, TIES, TITLE};
+use super::{alike_words, labels, Explained, Mark, PageRow, Row, Shown, Strip};
+use super::{NOTE, RULED, TIES, TITLE};
 
 const WIDTH: usize = 1_040;
 const LEFT: usize = 30;
 const LINE: usize = 18;
 
-/// A mark's height, and the most that it is wide.
-const MARK: usize = 16;
+/// A mark's width and height, and from one to the next.
+const MARK: usize = 13;
+const STEP: usize = MARK + 1;
+
+/// The room for a page number beside a row.
+const MARGIN: usize = 40;
+
+/// From one line of readers to the next.
+const READERS: usize = 14;
 
 /// About how wide a character is.
 const CHARACTER: usize = 7;
@@ -18,7 +27,8 @@ const STYLE: &str = "text { font: 13px sans-serif; fill: #222; } \
     .name { font-weight: bold; } \
     .soft { fill: #666; } \
     .number { text-anchor: end; } \
-    .middle { text-anchor: middle; font-size: 11px; }";
+    .small { font-size: 11px; } \
+    .run { stroke-width: 13; stroke-dasharray: 13 1; }";
 
 /// The columns of a table: what stands over each, where its numbers end or, for
 /// the stretch, where its words start.
@@ -62,7 +72,7 @@ pub fn svg(explained: &Explained) -> String {
         sheet.text("plain", LEFT, sentence);
     }
     for strip in &explained.strips {
-        sheet.strip(strip);
+        sheet.strip(strip, explained.every_row);
     }
     if !explained.strips.is_empty() {
         sheet.legend(&explained.strips);
@@ -81,8 +91,6 @@ pub fn svg(explained: &Explained) -> String {
 fn colour(mark: Mark) -> &'static str {
     match mark {
         Mark::Cached => "#2b6cb0",
-        Mark::SomeCached => "#9cc0e0",
-        Mark::SomeOfBoth => "#8d79b5",
         Mark::InFetch => "#e08a1e",
         Mark::Neither => "#e3e6e9",
     }
@@ -94,91 +102,117 @@ impl Sheet {
         self.body += &format!("<text class=\"{class}\" x=\"{x}\" y=\"{y}\">{text}</text>\n");
     }
 
-    /// A rectangle that stands on the current height.
-    fn mark(&mut self, x: usize, width: usize, mark: Mark) {
-        let (y, fill) = (self.y - MARK + 3, colour(mark));
-        self.body += &format!(
-            "<rect x=\"{x}\" y=\"{y}\" width=\"{width}\" height=\"{MARK}\" fill=\"{fill}\"/>\n"
-        );
+    /// So many marks alike in a row: one line, whose dashes they are.
+    fn run(&mut self, x: usize, count: usize, mark: Mark) {
+        let (y, width, stroke) = (self.y - 4, count * STEP - 1, colour(mark));
+        self.body += &format!("<path class=\"run\" d=\"M{x} {y}h{width}\" stroke=\"{stroke}\"/>\n");
     }
 
-    /// A file: its name, its marks, and the readers below.
-    fn strip(&mut self, strip: &Strip) {
+    /// A file: its name, and its pages in rows. Of several rows each has its first
+    /// and last page beside it.
+    fn strip(&mut self, strip: &Strip, every_row: bool) {
         self.y += 2 * LINE;
-        self.text("name", LEFT, &strip_title(strip, "cell"));
-        self.y += LINE + 4;
-        let step = ((WIDTH - 2 * LEFT) / strip.marks.len()).min(MARK);
-        for (index, &mark) in strip.marks.iter().enumerate() {
-            self.mark(LEFT + index * step, step - 1, mark);
+        self.text("name", LEFT, &strip_title(strip));
+        self.y += 6;
+        if let [row] = &strip.rows[..] {
+            self.row(row, LEFT);
+            return;
         }
-        self.readers(strip, step);
+        let left = LEFT + MARGIN;
+        self.y += STEP;
+        for place in RULER {
+            self.text("soft small", left + place * STEP, &format!("+{place}"));
+        }
+        for shown in strip.shown(every_row) {
+            match shown {
+                Shown::Row(row) => self.row_with_pages(row, left),
+                Shown::Alike(count, last) => {
+                    self.y += STEP + 1;
+                    self.text("soft small", left, &alike_words(count, last));
+                }
+            }
+        }
     }
 
-    /// A triangle under the mark of each reader's last page, and its label.
-    fn readers(&mut self, strip: &Strip, step: usize) {
-        let texts = strip.readers.iter().map(|reader| reader.label());
-        let texts: Vec<String> = texts.collect();
-        let middle = |column: u64| LEFT + column as usize * step - step / 2;
-        let at: Vec<usize> = strip
-            .readers
-            .iter()
-            .map(|reader| middle(reader.column))
-            .collect();
-        let extents = at
-            .iter()
-            .zip(&texts)
-            .map(|(x, text)| (*x, CHARACTER * text.len()));
-        let extents: Vec<(usize, usize)> = extents.collect();
-        let rows = labels::rows(&extents, CHARACTER);
-        let top = self.y + 5;
-        for ((x, text), &row) in at.into_iter().zip(&texts).zip(&rows) {
-            let (low, high) = (x - 4, x + 4);
-            self.body += &format!(
-                "<path d=\"M{x} {top} L{high} {} L{low} {} Z\" fill=\"#222\"/>\n",
-                top + 7,
-                top + 7
-            );
-            self.y = top + 18 + row * (LINE - 4);
-            self.text("middle", x, text);
+    fn row_with_pages(&mut self, row: &PageRow, left: usize) {
+        let (y, right) = (self.y, left + row.marks.len() * STEP);
+        self.y = y + STEP + 1;
+        self.text("soft small number", left - 9, &row.first.to_string());
+        self.text("soft small", right + 8, &row.last().to_string());
+        self.y = y;
+        self.row(row, left);
+    }
+
+    fn row(&mut self, row: &PageRow, left: usize) {
+        self.y += STEP + 1;
+        let mut x = left;
+        for run in row.marks.chunk_by(|one, next| one == next) {
+            self.run(x, run.len(), run[0]);
+            x += run.len() * STEP;
         }
-        self.y = top + rows.iter().max().map_or(0, |rows| (rows + 1) * (LINE - 4));
+        let triangles = row.readers.iter().map(|reader| {
+            let middle = left + reader.column as usize * STEP - STEP / 2;
+            (middle - 4, reader.label())
+        });
+        let triangles: Vec<(usize, String)> = triangles.collect();
+        let extent = |(x, label): &(usize, String)| (*x, 12 + CHARACTER * label.len());
+        let extents: Vec<(usize, usize)> = triangles.iter().map(extent).collect();
+        let lines = labels::rows(&extents, CHARACTER);
+        let top = self.y;
+        for ((x, label), line) in triangles.iter().zip(&lines) {
+            self.y = top + (line + 1) * READERS;
+            self.reader(*x, label);
+        }
+        self.y = top + lines.iter().max().map_or(0, |line| (line + 1) * READERS);
+    }
+
+    /// A triangle under the mark of a reader's last page, and its label beside.
+    fn reader(&mut self, x: usize, label: &str) {
+        let (foot, top) = (self.y, self.y - 8);
+        self.body += &format!("<path d=\"M{x} {foot}h8L{} {top}Z\"/>\n", x + 4);
+        self.text("small", x + 11, label);
     }
 
     fn legend(&mut self, strips: &[Strip]) {
-        let folded = strips.iter().any(|strip| strip.pages_a_mark > 1);
-        let mut entries = vec![
+        self.y += 2 * LINE;
+        let mut x = LEFT;
+        for (mark, words) in [
             (Mark::Cached, "cached"),
             (Mark::InFetch, "in fetch"),
             (Mark::Neither, "neither"),
-        ];
-        if folded {
-            entries[0].1 = "all cached";
-            entries.insert(1, (Mark::SomeCached, "some cached"));
-            entries.insert(2, (Mark::SomeOfBoth, "some cached, some in fetch"));
-        }
-        self.y += 2 * LINE;
-        let mut x = LEFT;
-        for (mark, words) in entries {
-            self.mark(x, MARK - 1, mark);
-            self.text("soft", x + MARK + 4, words);
+        ] {
+            self.run(x, 1, mark);
+            self.text("soft", x + MARK + 5, words);
             x += MARK + 24 + CHARACTER * words.len();
         }
         self.text("soft", x, "triangle: the last page read, by slot; w: waits");
+        if strips.iter().any(Strip::is_ruled) {
+            self.y += LINE;
+            self.text("soft", LEFT, RULED);
+        }
     }
 
     /// Both tables, side by side.
     fn tables(&mut self, explained: &Explained) {
         self.y += 2 * LINE;
         let top = self.y;
-        self.table(LEFT, "Steal order", &STEAL_COLUMNS, &explained.steal);
+        let (steal, fetch) = (&explained.steal, &explained.fetch);
+        self.table(explained, LEFT, "Steal order", &STEAL_COLUMNS, steal);
         let steal_end = self.y;
         self.y = top;
-        self.table(FETCH_LEFT, "Fetch order", &FETCH_COLUMNS, &explained.fetch);
+        self.table(explained, FETCH_LEFT, "Fetch order", &FETCH_COLUMNS, fetch);
         self.y = self.y.max(steal_end) + 2 * LINE;
         self.text("soft", LEFT, TIES);
     }
 
-    fn table(&mut self, left: usize, name: &str, columns: &[(&str, usize)], rows: &[Row]) {
+    fn table(
+        &mut self,
+        explained: &Explained,
+        left: usize,
+        name: &str,
+        columns: &[(&str, usize)],
+        rows: &[Row],
+    ) {
         if rows.is_empty() {
             self.text("name", left, &format!("{name}: no page"));
             return;
@@ -192,11 +226,16 @@ impl Sheet {
         let y = self.y + 5;
         self.body += &format!("<path d=\"M{left} {y} H{right}\" stroke=\"#999\"/>\n");
         self.y += 4;
-        for row in rows {
+        let (shown, rest) = explained.cut(rows);
+        for row in shown {
             self.y += LINE;
             for &(head, at) in columns {
                 self.cell("plain", left, head, at, &cell_text(row, head));
             }
+        }
+        if let Some(rest) = rest {
+            self.y += LINE;
+            self.text("soft", left, &rest);
         }
     }
 

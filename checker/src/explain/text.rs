@@ -1,6 +1,8 @@
 //! The picture and the tables as text.
 
-use super::{labels, Explained, Mark, Row, Strip, NOTE, TIES, TITLE};
+use super::picture::RULER;
+use super::{alike_words, labels, Explained, Mark, PageRow, Row, Shown, Strip};
+use super::{NOTE, RULED, TIES, TITLE};
 
 /// The whole text.
 pub fn text(explained: &Explained) -> String {
@@ -10,62 +12,83 @@ pub fn text(explained: &Explained) -> String {
         text += "\n";
     }
     for strip in &explained.strips {
-        text += &strip_text(strip);
+        text += &strip_text(strip, explained.every_row);
     }
     if !explained.strips.is_empty() {
-        text += &legend(&explained.strips);
+        text += LEGEND;
     }
-    text += &table("Steal order", "dropped", &explained.steal);
-    text += &table("Fetch order", "fetched early", &explained.fetch);
+    if explained.strips.iter().any(Strip::is_ruled) {
+        text += &format!("{RULED}\n");
+    }
+    text += &table(explained, "Steal order", "dropped", &explained.steal);
+    text += &table(explained, "Fetch order", "fetched early", &explained.fetch);
     text + &format!("\n{TIES}\n")
 }
 
 fn character(mark: Mark) -> char {
     match mark {
         Mark::Cached => '#',
-        Mark::SomeCached => '+',
-        Mark::SomeOfBoth => '*',
         Mark::InFetch => '~',
         Mark::Neither => '.',
     }
 }
 
-fn legend(strips: &[Strip]) -> String {
-    let mut legend = "\n# cached, ~ in fetch, . neither\n".to_string();
-    if strips.iter().any(|strip| strip.pages_a_mark > 1) {
-        legend += "several pages: # all cached, + some cached, * some cached and some in fetch, \
-                   ~ some in fetch\n";
-    }
-    legend + "^ the last page read, with its reader's slot, w if it waits\n"
-}
+const LEGEND: &str = "
+# cached, ~ in fetch, . neither
+^ the last page read, with its reader's slot, w if it waits
+";
 
-/// The strip between bars, and its readers below.
-fn strip_text(strip: &Strip) -> String {
-    let mut text = format!("\n{}\n", strip_title(strip, "character"));
-    let marks: String = strip.marks.iter().copied().map(character).collect();
-    text += &format!("  |{marks}|\n");
-    for row in reader_rows(strip) {
-        text += &format!("  {row}\n");
+/// The pages between bars, with their readers below.
+fn strip_text(strip: &Strip, every_row: bool) -> String {
+    let title = strip_title(strip);
+    if let [row] = &strip.rows[..] {
+        return format!("\n{title}\n  |{}|\n{}", marks(row), reader_lines(row, 2));
+    }
+    let mut text = format!("\n{title}\n{}", ruler());
+    for shown in strip.shown(every_row) {
+        text += &match shown {
+            Shown::Row(row) => {
+                let (first, last, marks) = (row.first, row.last(), marks(row));
+                let readers = reader_lines(row, MARGIN);
+                format!("  {first:4} |{marks}| {last}\n{readers}")
+            }
+            Shown::Alike(count, last) => {
+                format!("{:MARGIN$} {}\n", "", alike_words(count, last))
+            }
+        };
     }
     text
 }
 
-/// "File 0, 6 pages", and how many of them a mark of this kind stands for.
-pub fn strip_title(strip: &Strip, mark: &str) -> String {
-    let Strip { file, size, .. } = strip;
-    let plural = if *size == 1 { "" } else { "s" };
-    let folded = match strip.pages_a_mark {
-        1 => String::new(),
-        pages => format!(", {pages} pages a {mark}"),
-    };
-    format!("File {file}, {size} page{plural}{folded}")
+/// What stands before the bar of a row with its first page beside it.
+const MARGIN: usize = 7;
+
+/// How far a place of a row is from its first page.
+fn ruler() -> String {
+    let mut ruler = String::new();
+    for place in RULER {
+        let at = MARGIN + 1 + place;
+        ruler = format!("{ruler:at$}+{place}");
+    }
+    ruler + "\n"
 }
 
-/// The readers under the marks of their last pages.
-fn reader_rows(strip: &Strip) -> Vec<String> {
-    let texts = strip.readers.iter().map(|reader| {
+fn marks(row: &PageRow) -> String {
+    row.marks.iter().copied().map(character).collect()
+}
+
+/// "File 0, 6 pages".
+pub fn strip_title(strip: &Strip) -> String {
+    let Strip { file, size, .. } = strip;
+    let plural = if *size == 1 { "" } else { "s" };
+    format!("File {file}, {size} page{plural}")
+}
+
+/// The readers under the marks of their last pages, behind an indent.
+fn reader_lines(row: &PageRow, indent: usize) -> String {
+    let texts = row.readers.iter().map(|reader| {
         let label = format!("^{}", reader.label());
-        (reader.column as usize, label)
+        (indent + reader.column as usize, label)
     });
     let texts: Vec<(usize, String)> = texts.collect();
     let extents: Vec<(usize, usize)> = texts.iter().map(|(at, text)| (*at, text.len())).collect();
@@ -75,10 +98,10 @@ fn reader_rows(strip: &Strip) -> Vec<String> {
         let line = &mut lines[row];
         *line = format!("{line:at$}{text}");
     }
-    lines
+    lines.into_iter().map(|line| line + "\n").collect()
 }
 
-fn table(name: &str, done: &str, rows: &[Row]) -> String {
+fn table(explained: &Explained, name: &str, done: &str, rows: &[Row]) -> String {
     if rows.is_empty() {
         return format!("\n{name}: no page\n");
     }
@@ -86,8 +109,12 @@ fn table(name: &str, done: &str, rows: &[Row]) -> String {
     let mut table = format!("\n{name}, {count} in all, the first is the next to be {done}\n");
     table +=
         "  place  file  page  list                              use time  slot  seat distance\n";
-    for row in rows {
+    let (shown, rest) = explained.cut(rows);
+    for row in shown {
         table += &row_text(row);
+    }
+    if let Some(rest) = rest {
+        table += &format!("  {rest}\n");
     }
     table
 }
