@@ -418,6 +418,30 @@ fn the_program_prints_the_text_or_writes_the_svg() {
     assert!(help.starts_with("usage: quay-explain ") && help.contains("outside the proofs"));
 }
 
+/// The manual page shows what the program prints, and knows its options.
+#[test]
+fn the_manual_page_is_true() {
+    let escapes = [("\\(aq", "'"), ("\\(ti", "~"), ("\\(ha", "^"), ("\\-", "-")];
+    let mut page = include_str!("../../quay-explain.1").to_string();
+    for (escape, character) in escapes {
+        page = page.replace(escape, character);
+    }
+    let (_, example) = page.split_once("$ printf '").unwrap();
+    let (lines, shown) = example.split_once("' | quay-explain\n").unwrap();
+    let (shown, _) = shown.split_once(".RE\n").unwrap();
+    let lines = lines.replace("\\en", "\n");
+    assert_eq!(Explained::of_stream(lines.as_bytes()).text(), shown);
+
+    let help = String::from_utf8(explain(&["--help"]).stdout).unwrap();
+    let options = help.lines().filter_map(|line| line.strip_prefix("  --"));
+    let options: Vec<&str> = options.filter_map(|line| line.split(' ').next()).collect();
+    assert_eq!(options, ["image", "svg", "all", "help"]);
+    for option in options {
+        let named = |line: &str| line.starts_with(".B") && line.contains(&format!("--{option}"));
+        assert!(page.lines().any(named), "{option}");
+    }
+}
+
 #[test]
 fn the_program_takes_an_image() {
     let state = full_state(&mut Dice::new(17));
