@@ -16,7 +16,7 @@ use Rattle.rules.proofs.laws.Cases.{passed}
 use Rattle.rules.proofs.laws.Leasts.{some-at, some-in, least-far, least-met}
 use Rattle.rules.proofs.orders.LookAheads.{before-is, sees-before, seen-by, use-sees, use-least}
 use Rattle.rules.specs.Ranks.{rank}
-use Rattle.rules.proofs.orders.Ranks.{seen-ahead, seen-small}
+use Rattle.rules.proofs.orders.Ranks.{seen-small, rank-behind, rank-unseen, rank-seen}
 use Rattle.rules.specs.declared.State.{State}
 use Rattle.rules.specs.declared.Reader.{Reader}
 use Rattle.order.specs.Seats.{lastSeat}
@@ -43,25 +43,13 @@ module _ (s : State) (k : ℕ) where
   unfolding ahead
   ahead-of h = some-at 16 (λ j. before s (readerAt s j) k) h
 
-  rank-seen : T (seen s k) → rank s k ≡ useKey s k
-  unfolding rank
-  rank-seen h = rw (is-true (ahead s k) (seen-ahead s k h), is-true (seen s k) h)
-
-  rank-unseen : T (ahead s k) → T (not (seen s k)) → rank s k ≡ never + place k
-  unfolding rank
-  rank-unseen a h = rw (is-true (ahead s k) a, is-false (seen s k) h)
-
-  rank-behind : T (not (ahead s k)) → rank s k ≡ 2 * never + place k
-  unfolding rank
-  rank-behind h = rw (is-false (ahead s k) h)
-
   -- a page ahead of a reader
   rank-ahead : T (ahead s k) → rank s k ≤ never + place k
   rank-ahead a = go (side (seen s k))
     where
       go : T (seen s k) ⊎ T (not (seen s k)) → rank s k ≤ never + place k
-      go (inl h) = omega (arith, rank-seen h, use-far)
-      go (inr h) = omega (arith, rank-unseen a h)
+      go (inl h) = omega (arith, rank-seen s k h, use-far)
+      go (inr h) = omega (arith, rank-unseen s k a h)
 
   -- any page
   rank-high : rank s k ≤ 2 * never + place k
@@ -69,7 +57,7 @@ module _ (s : State) (k : ℕ) where
     where
       go : T (ahead s k) ⊎ T (not (ahead s k)) → rank s k ≤ 2 * never + place k
       go (inl h) = omega (arith, rank-ahead h)
-      go (inr h) = omega (arith, rank-behind h)
+      go (inr h) = omega (arith, rank-behind s k h)
 
   used-seen : useKey s k < never → T (seen s k)
   used-seen l = let a = used-by l in seen-by s k (a .0) (a .1) (a .2)
@@ -83,11 +71,11 @@ module _ (s : State) (k : ℕ) where
 
   -- the use key from the rank
   pub use-ranked : s .«look_ahead» ≤ 2000000 → min (rank s k) never ≡ useKey s k
-  use-ranked w = less (useKey s k) never (λ _. min (rank s k) never ≡ useKey s k) (λ l. omega (arith, rank-seen (used-seen l))) (λ l. go l (side (ahead s k)))
+  use-ranked w = less (useKey s k) never (λ _. min (rank s k) never ≡ useKey s k) (λ l. omega (arith, rank-seen s k (used-seen l))) (λ l. go l (side (ahead s k)))
     where
       go : never ≤ useKey s k → T (ahead s k) ⊎ T (not (ahead s k)) → min (rank s k) never ≡ useKey s k
-      go l (inl a) = omega (arith, rank-unseen a (unused w l), use-far)
-      go l (inr a) = omega (arith, rank-behind a, use-far)
+      go l (inl a) = omega (arith, rank-unseen s k a (unused w l), use-far)
+      go l (inr a) = omega (arith, rank-behind s k a, use-far)
 
   -- no rank is below a floor of 0
   pub over-none : (r : ℕ) → Over s k 0 r → r ≡ rank s k

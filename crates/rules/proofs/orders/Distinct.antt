@@ -74,9 +74,9 @@ module _ (s : State) (w : Valid s) where
   stretch k = go (side (ahead s k)) (side (seen s k))
     where
       go : T (ahead s k) ⊎ T (not (ahead s k)) → T (seen s k) ⊎ T (not (seen s k)) → Stretch s k
-      go _ (inl h) = in-use h (rank-seen s w k h) (seen-small s k (w .look-high) h)
-      go (inl a) (inr h) = unseen a h (rank-unseen s w k a h)
-      go (inr a) (inr h) = behind a (rank-behind s w k a)
+      go _ (inl h) = in-use h (rank-seen s k h) (seen-small s k (w .look-high) h)
+      go (inl a) (inr h) = unseen a h (rank-unseen s k a h)
+      go (inr a) (inr h) = behind a (rank-behind s k a)
 
   -- a rank is above 0
   pub rank-positive : (k : ℕ) → 0 < rank s k

@@ -67,25 +67,29 @@ pages-at s Q k h p =
     (range-at (λ f. All Q (range (f * 1024) (size s f))) 0 8 (fileOf k) (each-at Q (λ f. range (f * 1024) (size s f)) (range 0 8) h) (omega arith) (omega arith))
     (omega arith) (omega arith)
 
+module _ (s : State) (k : ℕ) where
+  -- a page of the first stretch
+  pub rank-behind : T (not (ahead s k)) → rank s k ≡ 2 * never + place k
+  unfolding rank
+  rank-behind h = rw (is-false (ahead s k) h)
+
+  -- one of the second
+  pub rank-unseen : T (ahead s k) → T (not (seen s k)) → rank s k ≡ never + place k
+  unfolding rank
+  rank-unseen a h = rw (is-true (ahead s k) a, is-false (seen s k) h)
+
+  -- one of the third
+  pub rank-seen : T (seen s k) → rank s k ≡ useKey s k
+  unfolding rank
+  rank-seen h = rw (is-true (ahead s k) (seen-ahead s k h), is-true (seen s k) h)
+
 module _ (s : State) (w : Valid s) where
-  pub rank-behind : (k : ℕ) → T (not (ahead s k)) → rank s k ≡ 2 * never + place k
-  unfolding rank
-  rank-behind k h = rw (is-false (ahead s k) h)
-
-  pub rank-unseen : (k : ℕ) → T (ahead s k) → T (not (seen s k)) → rank s k ≡ never + place k
-  unfolding rank
-  rank-unseen k a h = rw (is-true (ahead s k) a, is-false (seen s k) h)
-
-  pub rank-seen : (k : ℕ) → T (seen s k) → rank s k ≡ useKey s k
-  unfolding rank
-  rank-seen k h = rw (is-true (ahead s k) (seen-ahead s k h), is-true (seen s k) h)
-
   pub rank-ahead : (k : ℕ) → Page s k → T (ahead s k) → rank s k < 2 * never
   rank-ahead k p a = go (side (seen s k))
     where
       go : T (seen s k) ⊎ T (not (seen s k)) → rank s k < 2 * never
-      go (inl h) = omega (arith, rank-seen k h, seen-small s k (w .look-high) h)
-      go (inr h) = omega (arith, rank-unseen k a h, p .low)
+      go (inl h) = omega (arith, rank-seen s k h, seen-small s k (w .look-high) h)
+      go (inr h) = omega (arith, rank-unseen s k a h, p .low)
 
   same-leb : (n a b : ℕ) → leb (n + a) (n + b) ≡ leb a b
   same-leb n a b =
@@ -97,7 +101,7 @@ module _ (s : State) (w : Valid s) where
   unfolding behindLast
   behind-part =
       alike-falling (rank s) place (λ k. T (cached s k && not (ahead s k)) × Page s k)
-      (λ x y p q. rw (rank-behind x (and-second (cached s x) (not (ahead s x)) (p .0)), rank-behind y (and-second (cached s y) (not (ahead s y)) (q .0))) (same-leb (2 * never) (place y) (place x)))
+      (λ x y p q. rw (rank-behind s x (and-second (cached s x) (not (ahead s x)) (p .0)), rank-behind s y (and-second (cached s y) (not (ahead s y)) (q .0))) (same-leb (2 * never) (place y) (place x)))
       (only (λ k. cached s k && not (ahead s k)) (pages s)) (all-only (λ k. cached s k && not (ahead s k)) (Page s) (pages s) (pages-in s w))
 
   unseen-part : falling (rank s) (only (λ k. cached s k && (ahead s k && not (seen s k))) (pages s)) ≡ notSeen s
@@ -108,13 +112,13 @@ module _ (s : State) (w : Valid s) where
       (only (λ k. cached s k && (ahead s k && not (seen s k))) (pages s)) (all-only (λ k. cached s k && (ahead s k && not (seen s k))) (Page s) (pages s) (pages-in s w))
     where
       at : (k : ℕ) → T (cached s k && (ahead s k && not (seen s k))) → rank s k ≡ never + place k
-      at k h = let r = and-second (cached s k) (ahead s k && not (seen s k)) h in rank-unseen k (and-first (ahead s k) (not (seen s k)) r) (and-second (ahead s k) (not (seen s k)) r)
+      at k h = let r = and-second (cached s k) (ahead s k && not (seen s k)) h in rank-unseen s k (and-first (ahead s k) (not (seen s k)) r) (and-second (ahead s k) (not (seen s k)) r)
 
   seen-part : falling (rank s) (only (λ k. cached s k && seen s k) (pages s)) ≡ useTime s
   unfolding useTime
   seen-part =
       alike-falling (rank s) (useKey s) (λ k. T (cached s k && seen s k) × Page s k)
-      (λ x y p q. rw (rank-seen x (and-second (cached s x) (seen s x) (p .0)), rank-seen y (and-second (cached s y) (seen s y) (q .0))) refl)
+      (λ x y p q. rw (rank-seen s x (and-second (cached s x) (seen s x) (p .0)), rank-seen s y (and-second (cached s y) (seen s y) (q .0))) refl)
       (only (λ k. cached s k && seen s k) (pages s)) (all-only (λ k. cached s k && seen s k) (Page s) (pages s) (pages-in s w))
 
   unseen-test : (c a e : Bool) → ((c && not (not a)) && not e) ≡ (c && (a && not e))
@@ -139,13 +143,13 @@ module _ (s : State) (w : Valid s) where
 
       first : falling (rank s) (only (cached s) (pages s)) ≡ falling (rank s) (only (λ k. not (ahead s k)) (only (cached s) (pages s))) ++ falling (rank s) (only (λ k. not (not (ahead s k))) (only (cached s) (pages s)))
       first = split-falling (rank s) (λ k. not (ahead s k)) (λ k. T (cached s k) × Page s k)
-          (λ x y p q h n. omega (arith, rank-behind x h, rank-ahead y (q .1) (not-not (ahead s y) n)))
+          (λ x y p q h n. omega (arith, rank-behind s x h, rank-ahead y (q .1) (not-not (ahead s y) n)))
           (only (cached s) (pages s)) (all-only (cached s) (Page s) (pages s) (pages-in s w))
 
       second : falling (rank s) (only (λ k. cached s k && not (not (ahead s k))) (pages s)) ≡ notSeen s ++ useTime s
       second =
           split-falling (rank s) (λ k. not (seen s k)) (λ k. T (cached s k && not (not (ahead s k))) × Page s k)
-          (λ x y p q h n. omega (arith, rank-unseen x (not-not (ahead s x) (and-second (cached s x) _ (p .0))) h, rank-seen y (not-not (seen s y) n), seen-small s y (w .look-high) (not-not (seen s y) n)))
+          (λ x y p q h n. omega (arith, rank-unseen s x (not-not (ahead s x) (and-second (cached s x) _ (p .0))) h, rank-seen s y (not-not (seen s y) n), seen-small s y (w .look-high) (not-not (seen s y) n)))
           (only later (pages s)) (all-only later (Page s) (pages s) (pages-in s w))
           ∙ ap₂ _++_
           (ap (falling (rank s)) (only-only later (λ k. not (seen s k)) (pages s) ∙ ap (λ P. only P (pages s)) (fun-ext (λ k. unseen-test (cached s k) (ahead s k) (seen s k)))) ∙ unseen-part)

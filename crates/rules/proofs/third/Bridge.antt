@@ -103,8 +103,8 @@ module _ (s : State) (v : Valid s) (w : ℕ) (p : Premises s w) where
     where
       go : T (ahead s k) ⊎ T (not (ahead s k)) → T (seen s k) ⊎ T (not (seen s k)) → T (seen s k)
       go a (inl h) = h
-      go (inl a) (inr h) = absurd (omega (arith, rank-unseen s v k a h))
-      go (inr a) (inr h) = absurd (omega (arith, rank-behind s v k a))
+      go (inl a) (inr h) = absurd (omega (arith, rank-unseen s k a h))
+      go (inr a) (inr h) = absurd (omega (arith, rank-behind s k a))
 
   -- a page of no higher rank is read no later
   rank-nearest : (far k i : ℕ) → rank s k ≤ rank s i → nearest far (slots s) (s .turn) k ≤ nearest far (slots s) (s .turn) i
@@ -131,9 +131,9 @@ module _ (s : State) (v : Valid s) (w : ℕ) (p : Premises s w) where
       found j lj h =
           let si : T (seen s i) = some-in 16 j (λ j. sees s (readerAt s j) i) lj (all-seen i j h) in
           let small = seen-small s i (v .look-high) si in
-          let ri = rank-seen s v i si in
+          let ri = rank-seen s i si in
           let sk : T (seen s k) = low-seen k (omega arith) in
-          let rk = rank-seen s v k sk in
+          let rk = rank-seen s k sk in
           let low = seen-small s k (v .look-high) sk in
           let m = least-met 16 (useFor s k) never low in
           let up = least-le 16 (useFor s i) never j lj in
