@@ -45,13 +45,16 @@ file-ones v map low housed taken f more l a b =
     let size : ℕ = getD (v .sizes) f 0 in
     let all : (f + 1) * 1024 ≡ f * 1024 + (size + (1024 - size)) = omega (arith, low f) in
     let first : 0 + f * 1024 ≡ f * 1024 = omega arith in
-    let none : ones map (f * 1024 + size) (1024 - size) ≡ 0 = ones-clear map (f * 1024 + size) (1024 - size) (λ j h. clear (f * 1024 + size + j) (omega arith)) in
+    let none : ones map (f * 1024 + size) (1024 - size) ≡ 0 =
+    ones-clear map (f * 1024 + size) (1024 - size) (λ j h. clear (f * 1024 + size + j) (omega arith)) in
     rw (all, ones-add map 0 (f * 1024) (size + (1024 - size)), first, ones-add map (f * 1024) size (1024 - size), none) (omega arith)
   where
     clear : (k : ℕ) → (k / 1024 ≡ f) × (getD (v .sizes) f 0 ≤ k % 1024) → bit map k ≡ 0
     clear k h =
         key (bit map k) 1 (λ t. (T t → Page (stateOf v [] []) k) → bit map k ≡ 0)
-        (λ e p. let there = p tt .there in let q : getD (v .sizes) (k / 1024) 0 ≡ getD (v .sizes) f 0 = ap (λ i. getD (v .sizes) i 0) (h .0) in absurd (omega arith))
+        (λ e p. let there = p tt .there in
+        let q : getD (v .sizes) (k / 1024) 0 ≡ getD (v .sizes) f 0 = ap (λ i. getD (v .sizes) i 0) (h .0) in
+        absurd (omega arith))
         (λ ne _. omega (arith, bit-le map k)) (housed k)
 
 module _ (s : State) (v : Valid s) (n : ℕ) (e : n ≡ ones (s .cached) 0 8192) where

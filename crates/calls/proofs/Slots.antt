@@ -57,13 +57,15 @@ module _ (s : State) (slot file pace : ℕ) (r : Reply) where
   attach-no-file h f a b e = search answers depth 12
 
   -- 4
-  pub attach-no-pace : slot ≤ 15 → (f : Bool) → f ≡ noFileIn (s .sizes) file → f ≡ false → (w : Bool) → w ≡ within 1 1000 pace → not w ≡ true → r ≡ refused s 4 → r ≡ attachOf s slot file pace
+  pub attach-no-pace : slot ≤ 15 → (f : Bool) → f ≡ noFileIn (s .sizes) file → f ≡ false → (w : Bool) → w ≡ within 1 1000 pace
+      → not w ≡ true → r ≡ refused s 4 → r ≡ attachOf s slot file pace
   unfolding attachOf
   attach-no-pace h f a b w c d e = search answers depth 12
 
   -- what is left goes by the slot's condition
   pub attach-there : slot ≤ 15 → (f : Bool) → f ≡ noFileIn (s .sizes) file → f ≡ false → (w : Bool) → w ≡ within 1 1000 pace → not w ≡ false
-      → r ≡ byCondition (readerAt s slot .condition) (reply (withReader s slot (docked file pace)) Done) (refused s 5) (refused s 5) → r ≡ attachOf s slot file pace
+      → r ≡ byCondition (readerAt s slot .condition) (reply (withReader s slot (docked file pace)) Done) (refused s 5) (refused s 5)
+      → r ≡ attachOf s slot file pace
   unfolding attachOf
   attach-there h f a b w c d e = search answers depth 12
 

@@ -27,7 +27,8 @@ module _ {A : Type 0} (P : A → Bool) (l : List A) (d : A) where
   every-at i h = rw (add-one i, drop-cons l i d h)
 
   -- member i passes: the result q of its test, turned round, says so
-  pub every-more : (i : ℕ) → i < length l → (q : Bool) → q ≡ P (getD l i d) → not q ≡ false → every P l ≡ every P (drop i l) → every P l ≡ every P (drop (i + 1) l)
+  pub every-more : (i : ℕ) → i < length l → (q : Bool) → q ≡ P (getD l i d) → not q ≡ false → every P l ≡ every P (drop i l)
+      → every P l ≡ every P (drop (i + 1) l)
   every-more i h q e n k = k ∙ every-at i h ∙ rw (sym e ∙ not-false q n)
 
   -- member i fails
@@ -82,7 +83,8 @@ step f (x ∷ l) zero d h = ap (λ t. f x ∷ t) (changed-none f l)
 step f (x ∷ l) (suc i) d h = ap (λ t. f x ∷ t) (step f l i d (omega arith))
 
 -- one more is, where the loop stores it
-pub changed-more : {A : Type 0} (f : A → A) (l t : List A) (i : ℕ) (d y : A) → i < length l → t ≡ changed f l i → y ≡ f (getD t i d) → set t i y ≡ changed f l (i + 1)
+pub changed-more : {A : Type 0} (f : A → A) (l t : List A) (i : ℕ) (d y : A) → i < length l → t ≡ changed f l i → y ≡ f (getD t i d)
+    → set t i y ≡ changed f l (i + 1)
 changed-more f l t i d y h e k = rw (add-one i, k, e) (step f l i d h)
 
 all : {A : Type 0} (f : A → A) (l : List A) (i : ℕ) → length l ≤ i → changed f l i ≡ map f l

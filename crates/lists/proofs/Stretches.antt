@@ -40,21 +40,25 @@ module _ (s : State) (f : ℕ) where
   gap p zero h = stretch-none p
   gap p (suc n) h = stretch-first p n ∙ rw (h p (omega arith) (omega arith)) (gap (p + 1) n (λ q l u. h q (omega arith) (omega arith)))
 
-  ends-by : (p : ℕ) (a b c : Bool) → held s f (p - 1) ≡ a → held s f p ≡ b → held s f (p + 1) ≡ c → ends s f p ≡ cond (b && not a) (p ∷ []) [] ++ cond (b && not c) (p ∷ []) []
+  ends-by : (p : ℕ) (a b c : Bool) → held s f (p - 1) ≡ a → held s f p ≡ b → held s f (p + 1) ≡ c
+      → ends s f p ≡ cond (b && not a) (p ∷ []) [] ++ cond (b && not c) (p ∷ []) []
   unfolding ends
   ends-by p a b c x y z = rw (x, y, z) refl
 
   -- held pages as far as they go have the last for an end, and the first where none is held before it
-  run : (a : Bool) (p n : ℕ) → held s f (p - 1) ≡ a → ((q : ℕ) → p ≤ q → q ≤ p + n → held s f q ≡ true) → held s f (p + n + 1) ≡ false → stretch p (suc n) ≡ cond (not a) (p ∷ []) [] ++ ((p + n) ∷ [])
+  run : (a : Bool) (p n : ℕ) → held s f (p - 1) ≡ a → ((q : ℕ) → p ≤ q → q ≤ p + n → held s f q ≡ true) → held s f (p + n + 1) ≡ false
+      → stretch p (suc n) ≡ cond (not a) (p ∷ []) [] ++ ((p + n) ∷ [])
   run a p zero x h z =
       let e : p + 0 ≡ p = omega arith in
-      stretch-first p 0 ∙ ap₂ _++_ (ends-by p a true false x (h p (omega arith) (omega arith)) (rw e at z)) (stretch-none (p + 1)) ∙ append-nil (cond (not a) (p ∷ []) [] ++ (p ∷ [])) ∙ rw e refl
+      stretch-first p 0 ∙ ap₂ _++_ (ends-by p a true false x (h p (omega arith) (omega arith)) (rw e at z)) (stretch-none (p + 1))
+      ∙ append-nil (cond (not a) (p ∷ []) [] ++ (p ∷ [])) ∙ rw e refl
   run a p (suc n) x h z =
       let e : p + 1 - 1 ≡ p = omega arith in
       let g : p + 1 + n ≡ p + suc n = omega arith in
       let here : held s f p ≡ true = h p (omega arith) (omega arith) in
       stretch-first p (suc n)
-      ∙ ap₂ _++_ (ends-by p a true true x here (h (p + 1) (omega arith) (omega arith)) ∙ append-nil (cond (not a) (p ∷ []) [])) (run true (p + 1) n (rw e here) (λ q l u. h q (omega arith) (omega arith)) (rw g z))
+      ∙ ap₂ _++_ (ends-by p a true true x here (h (p + 1) (omega arith) (omega arith)) ∙ append-nil (cond (not a) (p ∷ []) []))
+      (run true (p + 1) n (rw e here) (λ q l u. h q (omega arith) (omega arith)) (rw g z))
       ∙ rw g refl
 
   -- from page a, past a cluster that ends with page b, to page c
@@ -68,7 +72,8 @@ module _ (s : State) (f : ℕ) where
       let r : 1 + a + suc n ≡ b + 1 = omega arith in
       let one : stretch (1 + a) (suc n) ≡ (1 + a) ∷ b ∷ [] = rw p at (run false (1 + a) n (rw q x) (λ i j k. h i (omega arith) (omega arith)) (rw p z)) in
       let none : stretch (1 + a + suc n) (c - b) ≡ [] = gap (1 + a + suc n) (c - b) (λ i j k. g i (omega arith) (omega arith)) in
-      let both : stretch (1 + a) (suc n + (c - b)) ≡ (a + 1) ∷ b ∷ [] = stretch-add (1 + a) (suc n) (c - b) ∙ ap₂ _++_ one none ∙ ap (λ (i : ℕ). i ∷ b ∷ []) (omega arith) in
+      let both : stretch (1 + a) (suc n + (c - b)) ≡ (a + 1) ∷ b ∷ [] =
+      stretch-add (1 + a) (suc n) (c - b) ∙ ap₂ _++_ one none ∙ ap (λ (i : ℕ). i ∷ b ∷ []) (omega arith) in
       ap (stretch 1) e ∙ stretch-add 1 a (suc n + (c - b)) ∙ ap (λ m. stretch 1 a ++ m) both
 
 -- ---- by the bits
@@ -139,10 +144,19 @@ module _ (s : State) (f : ℕ) (words : List ℕ) (last : ℕ) (ew : s .cached �
       let y : pageOf (high - 1) ≡ high - f * 1024 = omega (arith, t .high) in
       let stop = not-after high (omega arith) (omega (arith, t .high)) (λ u. t .found (omega arith)) in
       record {
-        pages = rw (x, y, r .pages) (sym (one-more s f (low - f * 1024) (high - f * 1024) (next - f * 1024) (omega arith) (omega (arith, n .low)) (r .fresh (rw el l)) within after stop));
+        pages =
+            rw (x, y, r .pages)
+            (sym (one-more s f (low - f * 1024) (high - f * 1024) (next - f * 1024) (omega arith) (omega (arith, n .low)) (r .fresh (rw el l)) within
+            after stop));
         fresh = λ u.
             let v : next < f * 1024 + last = rw el at u in
-            after (next - f * 1024) (omega (arith, next-above words 1 high (f * 1024 + last - high) next (omega (arith, n .low)) (λ d. omega (arith, t .found (omega (arith, n .low)))) n)) (omega arith);
+            after (next - f * 1024)
+            (omega (
+              arith,
+              next-above words 1 high (f * 1024 + last - high) next (omega (arith, n .low)) (λ d. omega (arith, t .found (omega (arith, n .low))))
+                  n,
+            ))
+            (omega arith);
       }
     where
       within : (q : ℕ) → low - f * 1024 < q → q ≤ high - f * 1024 → held s f q ≡ true
@@ -159,7 +173,10 @@ module _ (s : State) (f : ℕ) (words : List ℕ) (last : ℕ) (ew : s .cached �
 -- the pages are those of a file
 pub clusters-low : (s : State) (f : ℕ) → size s f ≤ 1024 → All (λ p. p < 8192) (clusters s f)
 unfolding clusters ends
-clusters-low s f small = each-in _ (ends s f) (range 1 (size s f)) (range-in _ 1 (size s f) (λ p _ l. ends-low p (held s f p && not (held s f (p - 1))) (held s f p && not (held s f (p + 1))) (omega arith)))
+clusters-low s f small =
+    each-in _ (ends s f) (range 1 (size s f))
+    (range-in _ 1 (size s f)
+    (λ p _ l. ends-low p (held s f p && not (held s f (p - 1))) (held s f p && not (held s f (p + 1))) (omega arith)))
   where
     ends-low : (p : ℕ) (a b : Bool) → p < 8192 → All (λ p. p < 8192) (cond a (p ∷ []) [] ++ cond b (p ∷ []) [])
     ends-low p true true l = (l, (l, tt))

@@ -21,13 +21,17 @@ absent-joined xs ys a (suc n) =
     (absent-joined xs ys (a + 1) n)
 
 -- the first digit clear in both words, by the zeros below it in the complement of both
-pub clear-shr : (x y s : ℕ) → x < 2 ^ 64 → y < 2 ^ 64 → s < 64 → min (s + trailingZeros 64 ((2 ^ 64 - 1 - bitOr x y) / 2 ^ s)) 64 ≡ nextAbsent (x ∷ []) (y ∷ []) s (64 - s)
+pub clear-shr : (x y s : ℕ) → x < 2 ^ 64 → y < 2 ^ 64 → s < 64
+    → min (s + trailingZeros 64 ((2 ^ 64 - 1 - bitOr x y) / 2 ^ s)) 64 ≡ nextAbsent (x ∷ []) (y ∷ []) s (64 - s)
 unfolding joined
 clear-shr x y s p q h = next-shr (2 ^ 64 - 1 - bitOr x y) s h ∙ next-not (bitOr x y) s (or-lt 64 x y p q) ∙ sym (absent-joined (x ∷ []) (y ∷ []) s (64 - s))
 
 -- the first key from a on, in a's own words
-pub clear-word : (xs ys : List ℕ) (a r : ℕ) → r ≡ nextAbsent (getD xs (a / 64) 0 ∷ []) (getD ys (a / 64) 0 ∷ []) (a % 64) (64 - a % 64) → Next (joined xs ys) 0 a (64 - a % 64) (a / 64 * 64 + r)
+pub clear-word : (xs ys : List ℕ) (a r : ℕ)
+    → r ≡ nextAbsent (getD xs (a / 64) 0 ∷ []) (getD ys (a / 64) 0 ∷ []) (a % 64) (64 - a % 64)
+    → Next (joined xs ys) 0 a (64 - a % 64) (a / 64 * 64 + r)
 unfolding joined
 clear-word xs ys a r e =
     next-word (joined xs ys) 0 a r
-    (e ∙ absent-joined (getD xs (a / 64) 0 ∷ []) (getD ys (a / 64) 0 ∷ []) (a % 64) (64 - a % 64) ∙ ap (λ (w : ℕ). nextBit (w ∷ []) 0 (a % 64) (64 - a % 64)) (sym (joined-at xs ys (a / 64))))
+    (e ∙ absent-joined (getD xs (a / 64) 0 ∷ []) (getD ys (a / 64) 0 ∷ []) (a % 64) (64 - a % 64)
+    ∙ ap (λ (w : ℕ). nextBit (w ∷ []) 0 (a % 64) (64 - a % 64)) (sym (joined-at xs ys (a / 64))))

@@ -24,7 +24,18 @@ use Rattle.rules.proofs.laws.Cases.{passed}
 use Rattle.rules.proofs.orders.Distinct.{among-all}
 use Rattle.rules.proofs.orders.LookAheads.{before-is, is-before, use-least}
 use Rattle.rules.specs.Ranks.{rank, cachedAmong, victimAmong, lastCached, AtMost, FirstAbsent, NoneBelow, AtLeast, Before}
-use Rattle.rules.proofs.orders.Candidates.{candidate-cached, NoneAbove, best-candidate, no-candidate, none-below, slot-below, absent-least, absent-wanted, best-wanted, no-wanted}
+use Rattle.rules.proofs.orders.Candidates.{
+  candidate-cached,
+  NoneAbove,
+  best-candidate,
+  no-candidate,
+  none-below,
+  slot-below,
+  absent-least,
+  absent-wanted,
+  best-wanted,
+  no-wanted,
+}
 use Rattle.rules.specs.declared.State.{State}
 use Rattle.rules.specs.declared.Reader.{Reader}
 use Rattle.order.specs.Choices.{inSet}
@@ -90,7 +101,8 @@ module _ (s : State) (files : ℕ → Bool) where
           held =
               let k : ℕ = f * 1024 + page - 1 in
               let g : f ≡ fileOf k = omega (arith, last-is (s .cached) (f * 1024) m .high, whole (of-set z)) in
-              and-both (cached s k) _ (subst (λ i. T (cached s (f * 1024 + i - 1))) (sym e) (candidate-cached s f m (omega arith))) (subst (λ i. T (files i)) g (of-set z))
+              and-both (cached s k) _ (subst (λ i. T (cached s (f * 1024 + i - 1))) (sym e) (candidate-cached s f m (omega arith)))
+              (subst (λ i. T (files i)) g (of-set z))
 
       -- a candidate of no higher rank
       pub raised-keep : Ranked s files p → value ≤ p .value → Raised s files f n p p
@@ -109,7 +121,12 @@ module _ (s : State) (files : ℕ → Bool) where
       → (i < 8 → (f ≡ i) × (n ≡ 1024))
       → ((j : ℕ) → i ≡ 8 + j → T (attached (readerAt s j)) → (f ≡ readerAt s j .file) × (n ≡ readerAt s j .position))
       → Highest s files i q
-  highest-more i p q f n a r of-file of-slot = record { page = r .page; by-file = λ g l u o. by-file g l u o (decLt i g); by-slot = λ j l u h o. by-slot j l u h o (decLt i (8 + j)) }
+  highest-more i p q f n a r of-file of-slot =
+      record {
+        page = r .page;
+        by-file = λ g l u o. by-file g l u o (decLt i g);
+        by-slot = λ j l u h o. by-slot j l u h o (decLt i (8 + j));
+      }
     where
       raised : (g m : ℕ) → AtMost s (p .value) g m → AtMost s (q .value) g m
       raised g m h t = omega (arith, h t, r .up)
@@ -156,7 +173,10 @@ victim-of-all s w o e = e ∙ among-all s w (inSet 255) in-all
 
 -- a page is absent where its bit is 0 in the maps joined
 absent-bit : (s : State) (k : ℕ) → eqb (bit (joined (s .cached) (s .fetching)) k) 0 ≡ absent s k
-absent-bit s k = joined-clear (s .cached) (s .fetching) k ∙ ap₂ (λ (a b : Bool). a && b) (other (bit (s .cached) k) (bit-le (s .cached) k)) (other (bit (s .fetching) k) (bit-le (s .fetching) k))
+absent-bit s k =
+    joined-clear (s .cached) (s .fetching) k
+    ∙ ap₂ (λ (a b : Bool). a && b) (other (bit (s .cached) k) (bit-le (s .cached) k))
+    (other (bit (s .fetching) k) (bit-le (s .fetching) k))
   where
     other : (b : ℕ) → b ≤ 1 → eqb b 0 ≡ not (eqb b 1)
     other zero h = refl
@@ -208,7 +228,8 @@ module _ (s : State) where
     soonest-keep h = record { low = a .low; page = a .page; its = a .its; below = slot-below s m (p .value) (p .value) (a .below) (omega arith) h }
 
     -- one slot more, whose page is used sooner
-    pub soonest-take : (key value : ℕ) → m < 16 → FirstAbsent s (readerAt s m) key → value ≡ lower s key m (p .value) → value < p .value → Soonest s (m + 1) (record { key = key; value = value })
+    pub soonest-take : (key value : ℕ) → m < 16 → FirstAbsent s (readerAt s m) key → value ≡ lower s key m (p .value) → value < p .value
+        → Soonest s (m + 1) (record { key = key; value = value })
     soonest-take key value l f e u =
         let t : useFor s key m ≡ value = omega (arith, lower-least s key m (p .value) (a .low)) in
         record {

@@ -30,7 +30,8 @@ unfolding lastSeat
 seat-is readers f zero = record { high = omega arith; found = λ h. absurd (omega arith); after = λ j l u. absurd (omega arith) }
 seat-is readers f (suc n) = go (readsFile f (readerIn readers n)) refl (seat-is readers f n)
   where
-    go : (b : Bool) → readsFile f (readerIn readers n) ≡ b → Seat readers f n (lastSeat readers f n) → Seat readers f (suc n) (cond b (suc n) (lastSeat readers f n))
+    go : (b : Bool) → readsFile f (readerIn readers n) ≡ b → Seat readers f n (lastSeat readers f n)
+        → Seat readers f (suc n) (cond b (suc n) (lastSeat readers f n))
     go true e t = let q : suc n - 1 ≡ n = omega arith in record { high = omega arith; found = λ h. rw (q, e) tt; after = λ j l u. absurd (omega arith) }
     go false e t = record { high = omega (arith, t .high); found = t .found; after = λ j l u h. by j l u h (decLt j n) }
       where
@@ -63,7 +64,9 @@ module _ (readers : List Reader) (n : ℕ) (seats : List ℕ) (a : Seated reader
     long = a .long;
     position = one-more (λ j. T (attached (readerIn readers j)) → getD seats j 0 ≡ readerIn readers j .position) n (a .position) (λ h. absurd (failed _ e h));
     pace = one-more (λ j. T (attached (readerIn readers j)) → getD seats (16 + j) 0 ≡ readerIn readers j .pace) n (a .pace) (λ h. absurd (failed _ e h));
-    next = one-more (λ j. T (attached (readerIn readers j)) → getD seats (32 + j) 0 ≡ lastSeat readers (readerIn readers j .file) j) n (a .next) (λ h. absurd (failed _ e h));
+    next =
+        one-more (λ j. T (attached (readerIn readers j)) → getD seats (32 + j) 0 ≡ lastSeat readers (readerIn readers j .file) j) n
+        (a .next) (λ h. absurd (failed _ e h));
     last = λ f u. a .last f u ∙ sym (rw (seat-more readers f n, e) refl);
   }
 
@@ -82,7 +85,9 @@ module _ (readers : List Reader) (n : ℕ) (seats : List ℕ) (a : Seated reader
     four = set three (48 + r .file) (n + 1)
 
     kept : (i : ℕ) → i ≢ n → i ≢ 16 + n → i ≢ 32 + n → i ≢ 48 + r .file → getD four i 0 ≡ getD seats i 0
-    kept i p q v w = getD-set-other three (48 + r .file) i (n + 1) 0 w ∙ getD-set-other two (32 + n) i _ 0 v ∙ getD-set-other one (16 + n) i (r .pace) 0 q ∙ getD-set-other seats n i (r .position) 0 p
+    kept i p q v w =
+        getD-set-other three (48 + r .file) i (n + 1) 0 w ∙ getD-set-other two (32 + n) i _ 0 v
+        ∙ getD-set-other one (16 + n) i (r .pace) 0 q ∙ getD-set-other seats n i (r .position) 0 p
 
     long : (length one ≡ 56) × (length two ≡ 56) × (length three ≡ 56) × (length four ≡ 56)
     long =
@@ -90,13 +95,22 @@ module _ (readers : List Reader) (n : ℕ) (seats : List ℕ) (a : Seated reader
         (simp length-set e, simp length-set e, simp length-set e, simp length-set e)
 
     position : getD four n 0 ≡ readerIn readers n .position
-    position = getD-set-other three (48 + r .file) n (n + 1) 0 (omega arith) ∙ getD-set-other two (32 + n) n _ 0 (omega arith) ∙ getD-set-other one (16 + n) n (r .pace) 0 (omega arith) ∙ getD-set-same seats n (r .position) 0 (omega (arith, a .long)) ∙ ap (λ r. r .position) er
+    position =
+        getD-set-other three (48 + r .file) n (n + 1) 0 (omega arith) ∙ getD-set-other two (32 + n) n _ 0 (omega arith)
+        ∙ getD-set-other one (16 + n) n (r .pace) 0 (omega arith) ∙ getD-set-same seats n (r .position) 0 (omega (arith, a .long))
+        ∙ ap (λ r. r .position) er
 
     pace : getD four (16 + n) 0 ≡ readerIn readers n .pace
-    pace = getD-set-other three (48 + r .file) (16 + n) (n + 1) 0 (omega arith) ∙ getD-set-other two (32 + n) (16 + n) _ 0 (omega arith) ∙ getD-set-same one (16 + n) (r .pace) 0 (omega (arith, long .0)) ∙ ap (λ r. r .pace) er
+    pace =
+        getD-set-other three (48 + r .file) (16 + n) (n + 1) 0 (omega arith) ∙ getD-set-other two (32 + n) (16 + n) _ 0 (omega arith)
+        ∙ getD-set-same one (16 + n) (r .pace) 0 (omega (arith, long .0)) ∙ ap (λ r. r .pace) er
 
     next : getD four (32 + n) 0 ≡ lastSeat readers (readerIn readers n .file) n
-    next = getD-set-other three (48 + r .file) (32 + n) (n + 1) 0 (omega arith) ∙ getD-set-same two (32 + n) _ 0 (omega (arith, long .1)) ∙ getD-set-other one (16 + n) (48 + r .file) (r .pace) 0 (omega arith) ∙ getD-set-other seats n (48 + r .file) (r .position) 0 (omega arith) ∙ a .last (r .file) u ∙ ap (λ r. lastSeat readers (r .file) n) er
+    next =
+        getD-set-other three (48 + r .file) (32 + n) (n + 1) 0 (omega arith) ∙ getD-set-same two (32 + n) _ 0 (omega (arith, long .1))
+        ∙ getD-set-other one (16 + n) (48 + r .file) (r .pace) 0 (omega arith)
+        ∙ getD-set-other seats n (48 + r .file) (r .position) 0 (omega arith) ∙ a .last (r .file) u
+        ∙ ap (λ r. lastSeat readers (r .file) n) er
 
     -- the last slots: its file's is n, and any other's is as it was
     last : (f : ℕ) → f < 8 → getD four (48 + f) 0 ≡ lastSeat readers f (n + 1)
@@ -109,8 +123,14 @@ module _ (readers : List Reader) (n : ℕ) (seats : List ℕ) (a : Seated reader
     pub seated-reader : Seated readers (n + 1) four
     seated-reader = record {
       long = long .3;
-      position = one-more (λ j. T (attached (readerIn readers j)) → getD four j 0 ≡ readerIn readers j .position) n (λ j v t. kept j (omega arith) (omega arith) (omega arith) (omega arith) ∙ a .position j v t) (λ t. position);
-      pace = one-more (λ j. T (attached (readerIn readers j)) → getD four (16 + j) 0 ≡ readerIn readers j .pace) n (λ j v t. kept (16 + j) (omega arith) (omega arith) (omega arith) (omega arith) ∙ a .pace j v t) (λ t. pace);
-      next = one-more (λ j. T (attached (readerIn readers j)) → getD four (32 + j) 0 ≡ lastSeat readers (readerIn readers j .file) j) n (λ j v t. kept (32 + j) (omega arith) (omega arith) (omega arith) (omega arith) ∙ a .next j v t) (λ t. next);
+      position =
+          one-more (λ j. T (attached (readerIn readers j)) → getD four j 0 ≡ readerIn readers j .position) n
+          (λ j v t. kept j (omega arith) (omega arith) (omega arith) (omega arith) ∙ a .position j v t) (λ t. position);
+      pace =
+          one-more (λ j. T (attached (readerIn readers j)) → getD four (16 + j) 0 ≡ readerIn readers j .pace) n
+          (λ j v t. kept (16 + j) (omega arith) (omega arith) (omega arith) (omega arith) ∙ a .pace j v t) (λ t. pace);
+      next =
+          one-more (λ j. T (attached (readerIn readers j)) → getD four (32 + j) 0 ≡ lastSeat readers (readerIn readers j .file) j) n
+          (λ j v t. kept (32 + j) (omega arith) (omega arith) (omega arith) (omega arith) ∙ a .next j v t) (λ t. next);
       last = last;
     }

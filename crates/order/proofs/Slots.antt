@@ -78,7 +78,12 @@ module _ (s : State) (k j low : ℕ) where
   unfolding useFor timeFor
   lower-late h = go (sees s (readerAt s j) k)
     where
-      go : (b : Bool) → low ≡ cond b (min (cond b ((steps (readerAt s j) k * readerAt s j .pace + between s (readerAt s j) k * s .«fetch_time») * 16 + seat s j) never) low) low
+      go : (b : Bool)
+          → low
+          ≡ cond b
+          (min (cond b ((steps (readerAt s j) k * readerAt s j .pace + between s (readerAt s j) k * s .«fetch_time») * 16 + seat s j) never)
+          low)
+          low
       go true = omega arith
       go false = refl
 
@@ -91,13 +96,16 @@ module _ (s : State) (k j low : ℕ) where
   unfolding useFor
   lower-least l = go (sees s (readerAt s j) k)
     where
-      go : (b : Bool) → cond b (min (cond b (timeFor s (readerAt s j) k * 16 + seat s j) never) low) low ≡ min (cond b (timeFor s (readerAt s j) k * 16 + seat s j) never) low
+      go : (b : Bool)
+          → cond b (min (cond b (timeFor s (readerAt s j) k * 16 + seat s j) never) low) low
+          ≡ min (cond b (timeFor s (readerAt s j) k * 16 + seat s j) never) low
       go true = refl
       go false = omega arith
 
   module _ (b : Before s (readerAt s j) k) (w : 1 ≤ readerAt s j .pace) (near : steps (readerAt s j) k * readerAt s j .pace ≤ s .«look_ahead») where
     -- no fetch takes time
-    pub lower-free : s .«fetch_time» ≡ 0 → steps (readerAt s j) k * readerAt s j .pace * 16 + seat s j < low → steps (readerAt s j) k * readerAt s j .pace * 16 + seat s j ≡ lower s k j low
+    pub lower-free : s .«fetch_time» ≡ 0 → steps (readerAt s j) k * readerAt s j .pace * 16 + seat s j < low
+        → steps (readerAt s j) k * readerAt s j .pace * 16 + seat s j ≡ lower s k j low
     unfolding useFor timeFor
     lower-free t h = rw (unpruned s (readerAt s j) k b w near t, t) (omega arith)
 

@@ -71,7 +71,9 @@ module _ (s : State) (k : ℕ) where
 
   -- the use key from the rank
   pub use-ranked : s .«look_ahead» ≤ 2000000 → min (rank s k) never ≡ useKey s k
-  use-ranked w = less (useKey s k) never (λ _. min (rank s k) never ≡ useKey s k) (λ l. omega (arith, rank-seen s k (used-seen l))) (λ l. go l (side (ahead s k)))
+  use-ranked w =
+      less (useKey s k) never (λ _. min (rank s k) never ≡ useKey s k) (λ l. omega (arith, rank-seen s k (used-seen l)))
+      (λ l. go l (side (ahead s k)))
     where
       go : never ≤ useKey s k → T (ahead s k) ⊎ T (not (ahead s k)) → min (rank s k) never ≡ useKey s k
       go l (inl a) = omega (arith, rank-unseen s k a (unused w l), use-far)
@@ -124,7 +126,8 @@ module _ (s : State) (k : ℕ) where
       seat-is (s .readers) (fileOf k) n .after i (omega arith) u (and-both (attached r) _ (q .here) (passed _ (eq-eqb (r .file) (fileOf k) (q .of-file)))))
 
   -- a slot that has
-  module _ (j top next : ℕ) (a : Swept s k (j + 1) top) (l : j < 16) (b : T (before s (readerAt s j) k)) (e : next ≡ lower s k j (min top (never + place k))) where
+  module _ (j top next : ℕ) (a : Swept s k (j + 1) top) (l : j < 16) (b : T (before s (readerAt s j) k))
+      (e : next ≡ lower s k j (min top (never + place k))) where
     lower-used : T (sees s (readerAt s j) k) → next ≡ min (useFor s k j) (min top (never + place k))
     lower-used h = rw (is-true (sees s (readerAt s j) k) h) at e
 
@@ -153,7 +156,9 @@ module _ (s : State) (k : ℕ) where
       where
         early : (i : ℕ) → j ≤ i → i < 16 → T (sees s (readerAt s i) k) → Dec (j < i) → next ≤ useFor s k i
         early i m u h (yes g) = omega (arith, lower-bounds .1, a .used i (omega arith) u h)
-        early i m u h (no g) = let q : j ≡ i = omega arith in subst (λ i. T (sees s (readerAt s i) k) → next ≤ useFor s k i) q (λ h. omega (arith, lower-used h)) h
+        early i m u h (no g) =
+            let q : j ≡ i = omega arith in
+            subst (λ i. T (sees s (readerAt s i) k) → next ≤ useFor s k i) q (λ h. omega (arith, lower-used h)) h
 
   -- all slots
   pub swept-all : (top : ℕ) → s .«look_ahead» ≤ 2000000 → Swept s k 0 top → top ≡ rank s k

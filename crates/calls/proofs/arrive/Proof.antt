@@ -7,7 +7,9 @@ use Rattle.calls.proofs.arrive.Statement.{statement}
 use Rattle.calls.proofs.arrive.Tie as tie
 
 open-fetch-requires : tie.Need-open-fetch-requires
-open-fetch-requires c κs = c .before .before .pre .sizes-high _
+open-fetch-requires c κs =
+    let at-start = c .before .before in
+    at-start .pre .sizes-high _
 
 enum-known-fetched : tie.Need-enum-known-fetched
 enum-known-fetched c = search needs

@@ -10,7 +10,9 @@ wake-requires : tie.Need-wake-requires
 wake-requires c κs = search needs
 
 returns : tie.Need-returns
-returns c = λ m. rw (c .wake .ensures, c .before .before .clear-bit .ensures)
+returns c =
+    let after-clear-bit = c .before .before in
+    λ m. rw (c .wake .ensures, after-clear-bit .clear-bit .ensures)
 
 pub close-fetch-spec : {M : Type 1} → statement M
 close-fetch-spec = tie.close (tie.spec clear-bit-requires wake-requires returns)

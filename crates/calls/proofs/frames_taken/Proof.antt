@@ -32,10 +32,23 @@ cast-count : tie.Need-cast-count Inv-loop μ-loop
 cast-count c = search needs
 
 count-requires : tie.Need-count-requires Inv-loop μ-loop
-count-requires c κs = let s = c .before .before .before in omega (arith, s .pre .0 (c .before .before .loop .file))
+count-requires c κs =
+    let at-loop = c .before .before in
+    let at-start = at-loop .before in
+    omega (arith, at-start .pre .0 (at-loop .loop .file))
 
 add-taken : tie.Need-add-taken Inv-loop μ-loop
-add-taken c = let l = c .before .before .before in omega (arith, l .loop .inv .1, ones-le (l .before .args .cached .now) 0 (l .loop .file * 1024), c .count .ensures, ones-le (l .before .args .cached .now) (l .loop .file * 1024) (getD (l .before .args .t1 .sizes) (l .loop .file) 0), l .before .pre .0 (l .loop .file))
+add-taken c =
+    let at-loop = c .before .before .before in
+    let at-start = at-loop .before in
+    omega (
+      arith,
+      at-loop .loop .inv .1,
+      ones-le (at-start .args .cached .now) 0 (at-loop .loop .file * 1024),
+      c .count .ensures,
+      ones-le (at-start .args .cached .now) (at-loop .loop .file * 1024) (getD (at-start .args .t1 .sizes) (at-loop .loop .file) 0),
+      at-start .pre .0 (at-loop .loop .file),
+    )
 
 add-file : tie.Need-add-file Inv-loop μ-loop
 add-file c = search needs
@@ -44,10 +57,17 @@ loop-less : tie.Need-loop-less Inv-loop μ-loop
 loop-less c = search needs
 
 loop-again : tie.Need-loop-again Inv-loop μ-loop
-loop-again c = let l = c .before .before .before in (omega arith, file-ones _ _ (l .before .pre .0) (l .before .pre .1) _ _ _ (omega arith) (l .loop .inv .1) (c .count .ensures))
+loop-again c =
+    let at-loop = c .before .before .before in
+    let at-start = at-loop .before in
+    (omega arith, file-ones _ _ (at-start .pre .0) (at-start .pre .1) _ _ _ (omega arith) (at-loop .loop .inv .1) (c .count .ensures))
 
 returns : tie.Need-returns Inv-loop μ-loop
-returns c = let l = c .before in let last : l .loop .file ≡ 8 = omega arith in l .loop .inv .1 ∙ ap (λ f. ones (l .before .args .cached .now) 0 (f * 1024)) last
+returns c =
+    let at-loop = c .before in
+    let at-start = at-loop .before in
+    let last : at-loop .loop .file ≡ 8 = omega arith in
+    at-loop .loop .inv .1 ∙ ap (λ f. ones (at-start .args .cached .now) 0 (f * 1024)) last
 
 pub frames-taken-spec : {M : Type 1} → statement M
 frames-taken-spec =

@@ -13,7 +13,10 @@ close-fetch-requires : tie.Need-close-fetch-requires
 close-fetch-requires c κs = search needs
 
 returns : tie.Need-returns
-returns c = rw (c .close-fetch .ensures _, c .before .before .set-bit .ensures, c .before .before .before .before .make-room .ensures)
+returns c =
+    let after-set-bit = c .before .before in
+    let after-make-room = after-set-bit .before .before in
+    rw (c .close-fetch .ensures _, after-set-bit .set-bit .ensures, after-make-room .make-room .ensures)
 
 pub land-spec : {M : Type 1} → statement M
 land-spec = tie.close (tie.spec make-room-requires set-bit-requires close-fetch-requires returns)

@@ -11,7 +11,9 @@ cast-clear-bit : tie.Need-cast-clear-bit
 cast-clear-bit c = search needs
 
 clear-bit-requires : tie.Need-clear-bit-requires
-clear-bit-requires c κs = c .before .before .before .before .pre _ (search (chosen-key, needs))
+clear-bit-requires c κs =
+    let at-start = c .before .before .before .before in
+    at-start .pre _ (search (chosen-key, needs))
 
 enum-told : tie.Need-enum-told
 enum-told c = search needs

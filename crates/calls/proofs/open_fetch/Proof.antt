@@ -29,8 +29,8 @@ has-bit-requires c κs = search (there-low, needs)
 returns-3 : tie.Need-returns-3
 unfolding openFetch
 returns-3 c =
-    let at-bit = c .before in
-    rw (at-bit .before .page-key .ensures) (search keyed depth 12)
+    let after-page-key = c .before .before in
+    rw (after-page-key .page-key .ensures) (search keyed depth 12)
 
 returns-4 : tie.Need-returns-4
 unfolding openFetch

@@ -31,9 +31,13 @@ enum-told c = search needs
 
 returns : tie.Need-returns
 returns c =
-    let s = c .before .before .before .before .before .before .before .before .before in
-    let g = c .before .before .before .before .before .before .before .next-fetch in
-    opened (stateOf (s .args .v) (s .args .cached .now) (s .args .fetching .now)) (g .result) _ _ _ (c .before .file-of .ensures) (c .page-of .ensures) (g .ensures) _ (c .before .before .set-bit .ensures) (search needs)
+    let after-file-of = c .before in
+    let after-set-bit = after-file-of .before in
+    let after-next-fetch = after-set-bit .before .before .before .before .before in
+    let at-start = after-next-fetch .before .before in
+    let g = after-next-fetch .next-fetch in
+    opened (stateOf (at-start .args .v) (at-start .args .cached .now) (at-start .args .fetching .now)) (g .result)
+    _ _ _ (after-file-of .file-of .ensures) (c .page-of .ensures) (g .ensures) _ (after-set-bit .set-bit .ensures) (search needs)
 
 returns-2 : tie.Need-returns-2
 unfolding prefetchOf

@@ -30,7 +30,9 @@ enum-told-2 : tie.Need-enum-told-2
 enum-told-2 c = search needs
 
 read-running-requires : tie.Need-read-running-requires
-read-running-requires c κs = let s = c .before .before .before .before .before in (running-placed _ (s .pre) _ (search needs), (s .pre .sizes-high _, search needs))
+read-running-requires c κs =
+    let at-start = c .before .before .before .before .before in
+    (running-placed _ (at-start .pre) _ (search needs), (at-start .pre .sizes-high _, search needs))
 
 enum-told-3 : tie.Need-enum-told-3
 enum-told-3 c = search needs

@@ -1,4 +1,5 @@
--- The four cases of Read, each by the tests that lead to it. F goes by a law of its own: there two maps' bits, the key and the record that waits are results of calls.
+-- The four cases of Read, each by the tests that lead to it. F goes by a law of its own: there two maps' bits, the key and the record that waits are
+-- results of calls.
 use borrow.Author.Needs.{needs}
 use Rattle.rules.specs.Views.{stateOf}
 use Rattle.rules.specs.Calls.{readRunning}
@@ -23,7 +24,9 @@ outcome-requires c κs = search needs
 
 returns : tie.Need-returns
 unfolding readRunning
-returns c = rw (c .outcome .ensures, ← c .before .before .before .last-page .ensures) (search keyed depth 12)
+returns c =
+    let after-last-page = c .before .before .before in
+    rw (c .outcome .ensures, ← after-last-page .last-page .ensures) (search keyed depth 12)
 
 add-page : tie.Need-add-page
 add-page c = search needs
@@ -48,7 +51,10 @@ outcome-requires-2 c κs = search needs
 
 returns-2 : tie.Need-returns-2
 unfolding readRunning
-returns-2 c = rw (c .outcome2 .ensures, c .before .onward .ensures, ← asked (c .before .before .before) .last-page .ensures) (search keyed depth 12)
+returns-2 c =
+    let after-onward = c .before in
+    let after-has-bit = after-onward .before .before in
+    rw (c .outcome2 .ensures, after-onward .onward .ensures, ← asked after-has-bit .last-page .ensures) (search keyed depth 12)
 
 in-condition-requires : tie.Need-in-condition-requires
 in-condition-requires c κs = search needs
@@ -68,8 +74,8 @@ outcome-requires-3 c κs = search needs
 returns-3 : tie.Need-returns-3
 unfolding readRunning
 returns-3 c =
-    let w = c .before .before .before .before in
-    rw (c .outcome3 .ensures, w .in-condition .ensures, ← asked (missed w) .last-page .ensures) (search keyed depth 12)
+    let after-in-condition = c .before .before .before .before in
+    rw (c .outcome3 .ensures, after-in-condition .in-condition .ensures, ← asked (missed after-in-condition) .last-page .ensures) (search keyed depth 12)
 
 set-bit-requires : tie.Need-set-bit-requires
 set-bit-requires c κs = search needs
@@ -79,14 +85,20 @@ outcome-requires-4 c κs = search needs
 
 returns-4 : tie.Need-returns-4
 returns-4 c =
-    let w = c .before .before .before .before .before .before in
-    let h = missed w in
-    let a = asked h .before .before .args in
+    let after-set-bit = c .before in
+    let else-3 = after-set-bit .before .before in
+    let after-has-bit-2 = else-3 .before in
+    let after-in-condition = after-has-bit-2 .before .before in
+    let else-2 = after-in-condition .before in
+    let h = missed after-in-condition in
+    let else-1 = h .before .before .before in
+    let at-start = asked h .before .before in
+    let a = at-start .args in
     rw (c .outcome4 .ensures)
     (read-fetch (stateOf (a .t1) (a .cached .now) (a .fetching .now)) (a .i) (a .old) _ _ _ _ _ _
-    (asked h .last-page .ensures) (h .before .before .before .if1 .left) (h .before .next-key .ensures)
-    (h .has-bit .ensures) (w .before .if2 .left) (c .before .before .before .before .has-bit2 .ensures) (c .before .before .before .if3 .left)
-    (w .in-condition .ensures) (c .before .set-bit .ensures))
+    (asked h .last-page .ensures) (else-1 .if1 .left) (h .before .next-key .ensures)
+    (h .has-bit .ensures) (else-2 .if2 .left) (after-has-bit-2 .has-bit2 .ensures) (else-3 .if3 .left)
+    (after-in-condition .in-condition .ensures) (after-set-bit .set-bit .ensures))
 
 pub read-running-spec : {M : Type 1} → statement M
 read-running-spec =

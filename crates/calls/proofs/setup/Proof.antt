@@ -12,7 +12,9 @@ settings-in-requires : tie.Need-settings-in-requires
 settings-in-requires c κs = search needs
 
 -- settings that pass are in range
-ranged : (c : tie.Then1) → InRange (c .before .before .args .frames) (c .before .before .args .«look-ahead») (c .before .before .args .«fetch-time») (c .before .before .args .sizes)
+ranged : (c : tie.Then1) →
+    let at-start = c .before .before in
+    InRange (at-start .args .frames) (at-start .args .«look-ahead») (at-start .args .«fetch-time») (at-start .args .sizes)
 ranged c = settings _ _ _ _ (sym (c .before .settings-in .ensures) ∙ c .if1 .taken)
 
 stored-sizes-requires : tie.Need-stored-sizes-requires
@@ -35,7 +37,10 @@ outcome-requires c κs = search needs
 
 returns : tie.Need-returns
 unfolding setupOf
-returns c = rw (c .outcome .ensures, c .before .fresh .ensures, c .before .before .stored-sizes .ensures) (search answers depth 12)
+returns c =
+    let after-fresh = c .before in
+    let after-stored-sizes = after-fresh .before in
+    rw (c .outcome .ensures, after-fresh .fresh .ensures, after-stored-sizes .stored-sizes .ensures) (search answers depth 12)
 
 idle-requires : tie.Need-idle-requires
 idle-requires c κs = search needs

@@ -30,9 +30,13 @@ enum-told c = search needs
 
 returns : tie.Need-returns
 returns c =
-    let s = c .before .before .before .before .before .before .before .before .before in
-    let g = c .before .before .before .before .before .before .before .victim in
-    stole (stateOf (s .args .v) (s .args .cached .now) (s .args .fetching .now)) (g .result) _ _ _ (c .before .file-of .ensures) (c .page-of .ensures) (g .ensures) _ (c .before .before .clear-bit .ensures) (search needs)
+    let after-file-of = c .before in
+    let after-clear-bit = after-file-of .before in
+    let after-victim = after-clear-bit .before .before .before .before .before in
+    let at-start = after-victim .before .before in
+    let g = after-victim .victim in
+    stole (stateOf (at-start .args .v) (at-start .args .cached .now) (at-start .args .fetching .now)) (g .result)
+    _ _ _ (after-file-of .file-of .ensures) (c .page-of .ensures) (g .ensures) _ (after-clear-bit .clear-bit .ensures) (search needs)
 
 returns-2 : tie.Need-returns-2
 unfolding stealOf

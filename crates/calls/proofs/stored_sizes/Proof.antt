@@ -24,7 +24,11 @@ array-read-stored : tie.Need-array-read-stored Inv-loop μ-loop
 array-read-stored c = search needs
 
 cast-stored : tie.Need-cast-stored Inv-loop μ-loop
-cast-stored c = let h = all-within 0 1024 (c .before .before .args .t1) (c .before .loop .i) (c .before .before .pre) (search needs) in omega arith
+cast-stored c =
+    let at-loop = c .before in
+    let at-start = at-loop .before in
+    let h = all-within 0 1024 (at-start .args .t1) (at-loop .loop .i) (at-start .pre) (search needs) in
+    omega arith
 
 mul-stored-2 : tie.Need-mul-stored-2 Inv-loop μ-loop
 mul-stored-2 c = search needs

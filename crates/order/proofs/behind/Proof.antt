@@ -11,7 +11,10 @@ cast-result : tie.Need-cast-result
 cast-result c = search needs
 
 returns : tie.Need-returns
-returns c = rw (sym (c .before .before .is-attached .ensures) ∙ c .before .if1 .taken)
+returns c =
+    let then-1 = c .before in
+    let after-is-attached = then-1 .before in
+    rw (sym (after-is-attached .is-attached .ensures) ∙ then-1 .if1 .taken)
 
 returns-2 : tie.Need-returns-2
 returns-2 c = rw (sym (c .before .is-attached .ensures) ∙ c .if1 .left)

@@ -43,11 +43,12 @@ last-set-requires c κs = omega (arith, most c)
 
 returns : tie.Need-returns
 returns c m shows =
-    let l = c .before in
-    let s = at-start l in
+    let after-last-set = c .before in
+    let after-pages-of = after-last-set .before in
+    let s = at-start after-last-set in
     let a = s .args in
-    raised-none (at s m) (inSet (a .files)) (a .file) (a .n) (l .before .pages-of .result) (l .last-set .result) (s .pre .1 .1 .0 .1)
-    (l .before .pages-of .ensures) (l .last-set .ensures) (a .best) (s .pre .1 .1 .1 m) (c .if1 .taken)
+    raised-none (at s m) (inSet (a .files)) (a .file) (a .n) (after-pages-of .pages-of .result) (after-last-set .last-set .result) (s .pre .1 .1 .0 .1)
+    (after-pages-of .pages-of .ensures) (after-last-set .last-set .ensures) (a .best) (s .pre .1 .1 .1 m) (c .if1 .taken)
 
 mul-key : tie.Need-mul-key
 mul-key c = search needs
@@ -60,36 +61,42 @@ sub-key c = search needs
 
 rank-over-requires : tie.Need-rank-over-requires
 rank-over-requires c κs =
-    let l = c .before in
-    let s = at-start l in
+    let after-last-set = c .before in
+    let after-pages-of = after-last-set .before in
+    let s = at-start after-last-set in
     let a = s .args in
-    let h : T (cached (at s []) (a .file * 1024 + l .last-set .result - 1))
-    = subst (λ i. T (cached (at s []) (a .file * 1024 + i - 1))) (sym (l .last-set .ensures))
-    (candidate-cached (at s []) (a .file) (l .before .pages-of .result) (omega (arith, l .last-set .ensures, c .if1 .left))) in
-    (s .pre .0, s .pre .1 .0 (a .file * 1024 + l .last-set .result - 1) h)
+    let h : T (cached (at s []) (a .file * 1024 + after-last-set .last-set .result - 1))
+    = subst (λ i. T (cached (at s []) (a .file * 1024 + i - 1))) (sym (after-last-set .last-set .ensures))
+    (candidate-cached (at s []) (a .file) (after-pages-of .pages-of .result) (omega (arith, after-last-set .last-set .ensures, c .if1 .left))) in
+    (s .pre .0, s .pre .1 .0 (a .file * 1024 + after-last-set .last-set .result - 1) h)
 
 cast-t15 : tie.Need-cast-t15
-cast-t15 c = omega (arith, within (c .before .before .before .before))
+cast-t15 c =
+    let after-last-set = c .before .before .before .before in
+    omega (arith, within after-last-set)
 
 returns-2 : tie.Need-returns-2
 returns-2 c m shows =
-    let k = c .before .before in
-    let l = k .before .before in
-    let s = at-start l in
+    let after-rank-over = c .before .before in
+    let else-1 = after-rank-over .before in
+    let after-last-set = else-1 .before in
+    let after-pages-of = after-last-set .before in
+    let s = at-start after-last-set in
     let a = s .args in
-    raised-take (at s m) (inSet (a .files)) (a .file) (a .n) (l .before .pages-of .result) (l .last-set .result) (s .pre .1 .1 .0 .1)
-    (l .before .pages-of .ensures) (l .last-set .ensures) (a .best) (k .rank-over .result)
-    (k .rank-over .ensures (a .cached .now) m shows) (k .before .if1 .left) (c .if2 .taken)
+    raised-take (at s m) (inSet (a .files)) (a .file) (a .n) (after-pages-of .pages-of .result) (after-last-set .last-set .result) (s .pre .1 .1 .0 .1)
+    (after-pages-of .pages-of .ensures) (after-last-set .last-set .ensures) (a .best) (after-rank-over .rank-over .result)
+    (after-rank-over .rank-over .ensures (a .cached .now) m shows) (else-1 .if1 .left) (c .if2 .taken)
 
 returns-3 : tie.Need-returns-3
 returns-3 c m shows =
-    let k = c .before .before in
-    let l = k .before .before in
-    let s = at-start l in
+    let after-rank-over = c .before .before in
+    let after-last-set = after-rank-over .before .before in
+    let after-pages-of = after-last-set .before in
+    let s = at-start after-last-set in
     let a = s .args in
-    raised-keep (at s m) (inSet (a .files)) (a .file) (a .n) (l .before .pages-of .result) (l .last-set .result) (s .pre .1 .1 .0 .1)
-    (l .before .pages-of .ensures) (l .last-set .ensures) (a .best) (k .rank-over .result)
-    (k .rank-over .ensures (a .cached .now) m shows) (s .pre .1 .1 .1 m) (c .if2 .left)
+    raised-keep (at s m) (inSet (a .files)) (a .file) (a .n) (after-pages-of .pages-of .result) (after-last-set .last-set .result) (s .pre .1 .1 .0 .1)
+    (after-pages-of .pages-of .ensures) (after-last-set .last-set .ensures) (a .best) (after-rank-over .rank-over .result)
+    (after-rank-over .rank-over .ensures (a .cached .now) m shows) (s .pre .1 .1 .1 m) (c .if2 .left)
 
 pub higher-spec : {M : Type 1} → statement M
 higher-spec =

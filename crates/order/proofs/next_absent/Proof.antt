@@ -19,11 +19,15 @@ abbrev μ-loop : tie.MeasureT-loop
 μ-loop cached fetching from n end at₀ at = end - at
 
 -- the next clear key of the turn's words
-found : (c : tie.After-next-clear Inv-loop μ-loop)
-    → Next (joined (c .before .before .before .before .before .args .cached .now) (c .before .before .before .before .before .args .fetching .now)) 0 (c .before .before .before .before .loop .at) (64 - c .before .before .before .before .loop .at % 64) (c .before .before .before .before .loop .at / 64 * 64 + c .next-clear .result)
+found : (c : tie.After-next-clear Inv-loop μ-loop) →
+    let at-loop = c .before .before .before .before in
+    let at-start = at-loop .before in
+    Next (joined (at-start .args .cached .now) (at-start .args .fetching .now)) 0 (at-loop .loop .at) (64 - at-loop .loop .at % 64)
+    (at-loop .loop .at / 64 * 64 + c .next-clear .result)
 found c =
-    let l = c .before .before .before .before in
-    clear-word (l .before .args .cached .now) (l .before .args .fetching .now) (l .loop .at) (c .next-clear .result) (c .next-clear .ensures)
+    let at-loop = c .before .before .before .before in
+    let at-start = at-loop .before in
+    clear-word (at-start .args .cached .now) (at-start .args .fetching .now) (at-loop .loop .at) (c .next-clear .result) (c .next-clear .ensures)
 
 add-end : tie.Need-add-end Inv-loop μ-loop
 add-end c = search needs
@@ -54,12 +58,15 @@ add-at c = omega (arith, found c)
 
 returns : tie.Need-returns Inv-loop μ-loop
 returns c =
-    let t = found (c .before .before) in
-    let l = c .before .before .before .before .before .before in
-    let a = l .before .args in
+    let after-next-clear = c .before .before in
+    let at-loop = after-next-clear .before .before .before .before in
+    let at-start = at-loop .before in
+    let t = found after-next-clear in
+    let a = at-start .args in
     let maps = joined (a .cached .now) (a .fetching .now) in
-    let q = l .loop .at / 64 * 64 + c .before .before .next-clear .result in
-    next-at maps 0 (a .from) (a .n) q (omega arith) (omega (arith, ltb-true)) (without-join maps 0 (a .from) (l .loop .at) q (l .loop .inv .1) (t .before)) (t .found (omega arith))
+    let q = at-loop .loop .at / 64 * 64 + after-next-clear .next-clear .result in
+    next-at maps 0 (a .from) (a .n) q (omega arith) (omega (arith, ltb-true))
+    (without-join maps 0 (a .from) (at-loop .loop .at) q (at-loop .loop .inv .1) (t .before)) (t .found (omega arith))
     ∙ sym (absent-joined (a .cached .now) (a .fetching .now) (a .from) (a .n))
 
 loop-less : tie.Need-loop-less Inv-loop μ-loop
@@ -69,16 +76,22 @@ loop-less c =
 
 loop-again : tie.Need-loop-again Inv-loop μ-loop
 loop-again c =
-    let l = c .before .before .before .before .before in
-    let a = l .before .args in
-    let t = found (c .before) in
-    (omega arith, without-join (joined (a .cached .now) (a .fetching .now)) 0 (a .from) (l .loop .at) (l .loop .at / 64 * 64 + c .before .next-clear .result) (l .loop .inv .1) (t .before))
+    let after-next-clear = c .before in
+    let at-loop = after-next-clear .before .before .before .before in
+    let at-start = at-loop .before in
+    let a = at-start .args in
+    let t = found after-next-clear in (
+      omega arith,
+      without-join (joined (a .cached .now) (a .fetching .now)) 0 (a .from) (at-loop .loop .at)
+          (at-loop .loop .at / 64 * 64 + after-next-clear .next-clear .result) (at-loop .loop .inv .1) (t .before),
+    )
 
 returns-2 : tie.Need-returns-2 Inv-loop μ-loop
 returns-2 c =
-    let l = c .before in
-    let a = l .before .args in
-    next-none (joined (a .cached .now) (a .fetching .now)) 0 (a .from) (a .n) (l .loop .at) (c .loop-test .left) (l .loop .inv .1)
+    let at-loop = c .before in
+    let at-start = at-loop .before in
+    let a = at-start .args in
+    next-none (joined (a .cached .now) (a .fetching .now)) 0 (a .from) (a .n) (at-loop .loop .at) (c .loop-test .left) (at-loop .loop .inv .1)
     ∙ sym (absent-joined (a .cached .now) (a .fetching .now) (a .from) (a .n))
 
 pub next-absent-spec : {M : Type 1} → statement M

@@ -18,10 +18,14 @@ add-r : tie.Need-add-r
 add-r c = omega (arith, trailing-le 64 ((2 ^ 64 - 1 - bitOr (c .args .x) (c .args .y)) / 2 ^ c .args .s))
 
 returns : tie.Need-returns
-returns c = let s = c .before in omega (arith, clear-shr (s .args .x) (s .args .y) (s .args .s) (s .fits .x .fits) (s .fits .y .fits) (s .pre))
+returns c =
+    let at-start = c .before in
+    omega (arith, clear-shr (at-start .args .x) (at-start .args .y) (at-start .args .s) (at-start .fits .x .fits) (at-start .fits .y .fits) (at-start .pre))
 
 returns-2 : tie.Need-returns-2
-returns-2 c = let s = c .before in omega (arith, clear-shr (s .args .x) (s .args .y) (s .args .s) (s .fits .x .fits) (s .fits .y .fits) (s .pre))
+returns-2 c =
+    let at-start = c .before in
+    omega (arith, clear-shr (at-start .args .x) (at-start .args .y) (at-start .args .s) (at-start .fits .x .fits) (at-start .fits .y .fits) (at-start .pre))
 
 pub next-clear-spec : {M : Type 1} → statement M
 next-clear-spec = tie.close (tie.spec shr-r cast-r add-r returns returns-2)

@@ -17,7 +17,10 @@ abbrev μ-loop : tie.MeasureT-loop
 μ-loop v cached fetching best₀ slot₀ best slot = 16 - slot
 
 -- all slots
-all : (c : tie.After-loop Inv-loop μ-loop) → Soonest (stateOf (c .before .before .args .v) (c .before .before .args .cached .now) (c .before .before .args .fetching .now)) 16 (c .before .loop .best)
+all : (c : tie.After-loop Inv-loop μ-loop) →
+    let at-loop = c .before in
+    let at-start = at-loop .before in
+    Soonest (stateOf (at-start .args .v) (at-start .args .cached .now) (at-start .args .fetching .now)) 16 (at-loop .loop .best)
 all c =
     let l = c .before .loop in
     let e : l .slot ≡ 16 = omega arith in
@@ -40,15 +43,19 @@ loop-again c = search needs
 
 returns : tie.Need-returns Inv-loop μ-loop
 returns c =
-    let l = c .before .before .before in
-    let s = l .before in
-    sym (soonest-nothing (stateOf (s .args .v) (s .args .cached .now) (s .args .fetching .now)) (s .pre) (l .loop .best) (all (c .before .before)) (c .if1 .taken))
+    let after-loop = c .before .before in
+    let at-loop = after-loop .before in
+    let at-start = at-loop .before in
+    sym (soonest-nothing (stateOf (at-start .args .v) (at-start .args .cached .now) (at-start .args .fetching .now)) (at-start .pre)
+    (at-loop .loop .best) (all after-loop) (c .if1 .taken))
 
 returns-2 : tie.Need-returns-2 Inv-loop μ-loop
 returns-2 c =
-    let l = c .before .before .before in
-    let s = l .before in
-    sym (soonest-fetch (stateOf (s .args .v) (s .args .cached .now) (s .args .fetching .now)) (s .pre) (l .loop .best) (all (c .before .before)) (c .if1 .left))
+    let after-loop = c .before .before in
+    let at-loop = after-loop .before in
+    let at-start = at-loop .before in
+    sym (soonest-fetch (stateOf (at-start .args .v) (at-start .args .cached .now) (at-start .args .fetching .now)) (at-start .pre)
+    (at-loop .loop .best) (all after-loop) (c .if1 .left))
 
 pub next-fetch-spec : {M : Type 1} → statement M
 next-fetch-spec =

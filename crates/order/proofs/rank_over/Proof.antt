@@ -63,48 +63,70 @@ position-is : (c : tie.After-position Inv-loop μ-loop) → getD (start c .args 
 position-is c = start c .pre .0 .1 .position (slot c) (low c) (here c)
 
 -- the slot before the turn's
-next-is : (c : tie.After-position Inv-loop μ-loop) → getD (start c .args .seats .now) (32 + slot c) 0 ≡ lastSeat (start c .args .v .readers) (start c .args .key / 1024) (slot c)
+next-is : (c : tie.After-position Inv-loop μ-loop)
+    → getD (start c .args .seats .now) (32 + slot c) 0 ≡ lastSeat (start c .args .v .readers) (start c .args .key / 1024) (slot c)
 next-is c = start c .pre .0 .1 .next (slot c) (low c) (here c) ∙ ap (λ f. lastSeat (start c .args .v .readers) f (slot c)) (of-file c)
 
 -- the turn's reader has the page before it
 ahead : (c : tie.Then1 Inv-loop μ-loop) → Before (stateOf (start (c .before) .args .v) [] []) (reader (c .before)) (start (c .before) .args .key)
 ahead c =
-    let t = c .before in
+    let after-position = c .before in
     record {
-      here = here t;
-      of-file = of-file t;
-      past = omega (arith, position-is t, turn t .loop .inv .0);
-      in-file = rw (of-file t) (start t .pre .1 .there);
+      here = here after-position;
+      of-file = of-file after-position;
+      past = omega (arith, position-is after-position, turn after-position .loop .inv .0);
+      in-file = rw (of-file after-position) (start after-position .pre .1 .there);
     }
 
 -- what the slots from the turn's on leave
-lower-is : (c : tie.After-lowered Inv-loop μ-loop) (p q : List ℕ)
-    → Presents (stateOf (start (c .before .before .before .before) .args .v) p q) (start (c .before .before .before .before) .args .present .now)
-    → Swept (stateOf (start (c .before .before .before .before) .args .v) p q) (start (c .before .before .before .before) .args .key) (slot (c .before .before .before .before)) (c .lowered .result)
+lower-is : (c : tie.After-lowered Inv-loop μ-loop) (p q : List ℕ) →
+    let after-position = c .before .before .before .before in
+    Presents (stateOf (start after-position .args .v) p q) (start after-position .args .present .now)
+    → Swept (stateOf (start after-position .args .v) p q) (start after-position .args .key) (slot after-position) (c .lowered .result)
 lower-is c p q shows =
-    let h = c .before .before .before in
-    let t = h .before in
-    let a = start t .args in
+    let after-lesser = c .before .before in
+    let then-1 = after-lesser .before in
+    let after-position = then-1 .before in
+    let at-loop-test = after-position .before in
+    let a = start after-position .args in
     let S = stateOf (a .v) p q in
-    let e : slot t + 1 ≡ turn t .loop .at = omega (arith, t .before .loop-test .taken) in
-    swept-before S (a .key) (slot t) (turn t .loop .top) (c .lowered .result) (rw e (turn t .loop .inv .4 p q shows)) (low t) (is-before S (reader t) (a .key) (before-any (a .v) (reader t) (a .key) [] [] p q (ahead h)))
-    (c .lowered .ensures p q shows ∙ ap (λ x. lower S (a .key) (slot t) x) (c .before .before .lesser .ensures ∙ ap (λ x. min (turn t .loop .top) (never + x)) (turn t .loop .inv .1 ∙ ap (λ x. x * 8 + a .key / 1024) (turn t .loop .inv .0))))
+    let e : slot after-position + 1 ≡ turn after-position .loop .at = omega (arith, at-loop-test .loop-test .taken) in
+    swept-before S (a .key) (slot after-position) (turn after-position .loop .top) (c .lowered .result)
+    (rw e (turn after-position .loop .inv .4 p q shows)) (low after-position)
+    (is-before S (reader after-position) (a .key) (before-any (a .v) (reader after-position) (a .key) [] [] p q (ahead then-1)))
+    (c .lowered .ensures p q shows
+    ∙ ap (λ x. lower S (a .key) (slot after-position) x)
+    (after-lesser .lesser .ensures
+    ∙ ap (λ x. min (turn after-position .loop .top) (never + x))
+    (turn after-position .loop .inv .1 ∙ ap (λ x. x * 8 + a .key / 1024) (turn after-position .loop .inv .0))))
 
 left : (c : tie.Joined1 Inv-loop μ-loop) (p q : List ℕ) → Presents (stateOf (start (c .before) .args .v) p q) (start (c .before) .args .present .now)
     → Swept (stateOf (start (c .before) .args .v) p q) (start (c .before) .args .key) (slot (c .before)) (c .if1 .top)
 left c p q shows =
-    let t = c .before in
-    let a = start t .args in
+    let after-position = c .before in
+    let a = start after-position .args in
     let S = stateOf (a .v) p q in
+    let at-loop = turn after-position .loop in
     ⊎-elim
-    (λ w. rw (w .5) (lower-is record { before = record { before = record { before = record { before = t; if1 = w .0 }; lesser = w .1 }; lowered-arg = w .2 }; lowered = w .3 } p q shows))
-    (λ w. rw (w .1) (swept-not S (a .key) (turn t .loop .at) (slot t) (turn t .loop .top) (turn t .loop .inv .4 p q shows) (λ i l u b.
-    let e : i ≡ slot t = omega arith in
-    omega (arith, before-is S (reader t) (a .key) (subst (λ i. T (before S (readerAt S i) (a .key))) e b) .past, w .0 .left, position-is t, turn t .loop .inv .0))))
+    (λ w.
+    rw (w .5)
+    (lower-is
+    record {
+      before = record { before = record { before = record { before = after-position; if1 = w .0 }; lesser = w .1 }; lowered-arg = w .2 };
+      lowered = w .3;
+    } p q shows))
+    (λ w.
+    rw (w .1)
+    (swept-not S (a .key) (at-loop .at) (slot after-position) (at-loop .top) (at-loop .inv .4 p q shows) (λ i l u b.
+    let e : i ≡ slot after-position = omega arith in
+    let past = before-is S (reader after-position) (a .key) (subst (λ i. T (before S (readerAt S i) (a .key))) e b) .past in
+    omega (arith, past, w .0 .left, position-is after-position, at-loop .inv .0))))
     (c .if1 .came)
 
 -- the first slot
-first-is : (c : tie.After-at Inv-loop μ-loop) → getD (c .before .args .seats .now) (48 + c .before .args .key / 1024) 0 ≡ lastSeat (c .before .args .v .readers) (c .before .args .key / 1024) 16
+first-is : (c : tie.After-at Inv-loop μ-loop)
+    → getD (c .before .args .seats .now) (48 + c .before .args .key / 1024) 0
+    ≡ lastSeat (c .before .args .v .readers) (c .before .args .key / 1024) 16
 first-is c = c .before .pre .0 .1 .last (c .before .args .key / 1024) (omega (arith, c .before .pre .1 .low))
 
 add-page : tie.Need-add-page Inv-loop μ-loop
@@ -137,8 +159,13 @@ cast-at c = omega (arith, first-is c, seat-is (c .before .args .v .readers) (c .
 loop-holds : tie.Need-loop-holds Inv-loop μ-loop
 loop-holds c =
     let a = c .before .args in
-    let t = seat-is (a .v .readers) (a .key / 1024) 16 in
-    (refl, refl, omega (arith, first-is c, t .high), rw (first-is c) (t .found), λ p q shows. swept-seat (stateOf (a .v) p q) (a .key) 16 _ _ (swept-none (stateOf (a .v) p q) (a .key)) (first-is c))
+    let t = seat-is (a .v .readers) (a .key / 1024) 16 in (
+      refl,
+      refl,
+      omega (arith, first-is c, t .high),
+      rw (first-is c) (t .found),
+      λ p q shows. swept-seat (stateOf (a .v) p q) (a .key) 16 _ _ (swept-none (stateOf (a .v) p q) (a .key)) (first-is c),
+    )
 
 sub-slot : tie.Need-sub-slot Inv-loop μ-loop
 sub-slot c = search needs
@@ -169,8 +196,20 @@ element-copy-out-lowered c = search needs
 
 lowered-requires : tie.Need-lowered-requires Inv-loop μ-loop
 lowered-requires c κs =
-    let t = c .before .before in
-    (start (t .before) .pre .0 .0, ((low (t .before), start (t .before) .pre .1 .low), ((position-is (t .before), start (t .before) .pre .0 .1 .pace (slot (t .before)) (low (t .before)) (here (t .before))), ahead t)))
+    let then-1 = c .before .before in
+    let after-position = then-1 .before in (
+      start after-position .pre .0 .0,
+      (
+        (low after-position, start after-position .pre .1 .low),
+        (
+          (
+            position-is after-position,
+            start after-position .pre .0 .1 .pace (slot after-position) (low after-position) (here after-position),
+          ),
+          ahead then-1,
+        ),
+      ),
+    )
 
 returns : tie.Need-returns Inv-loop μ-loop
 returns c p q shows = record { least = lower-is (c .before) p q shows .low; exact = λ h. absurd (omega (arith, c .if2 .taken)) }
@@ -186,27 +225,43 @@ element-copy-out-at-2 c = search needs
 
 cast-at-2 : tie.Need-cast-at-2 Inv-loop μ-loop
 cast-at-2 c =
-    let t = c .before .before in
-    omega (arith, next-is t, seat-is (start t .args .v .readers) (start t .args .key / 1024) (slot t))
+    let after-position = c .before .before in
+    omega (arith, next-is after-position, seat-is (start after-position .args .v .readers) (start after-position .args .key / 1024) (slot after-position))
 
 loop-less : tie.Need-loop-less Inv-loop μ-loop
 loop-less c =
-    let t = c .before .before in
-    omega (arith, next-is t, seat-is (start t .args .v .readers) (start t .args .key / 1024) (slot t), t .before .loop-test .taken)
+    let after-position = c .before .before in
+    let at-loop-test = after-position .before in
+    omega (
+      arith,
+      next-is after-position,
+      seat-is (start after-position .args .v .readers) (start after-position .args .key / 1024) (slot after-position),
+      at-loop-test .loop-test .taken,
+    )
 
 loop-again : tie.Need-loop-again Inv-loop μ-loop
 loop-again c =
-    let t = c .before .before in
-    let a = start t .args in
-    let n = seat-is (a .v .readers) (a .key / 1024) (slot t) in
-    (turn t .loop .inv .0, turn t .loop .inv .1, omega (arith, next-is t, n .high, low t), rw (next-is t) (n .found), λ p q shows. swept-seat (stateOf (a .v) p q) (a .key) (slot t) (c .before .if1 .top) _ (left (c .before) p q shows) (next-is t))
+    let joined-1 = c .before in
+    let after-position = joined-1 .before in
+    let a = start after-position .args in
+    let n = seat-is (a .v .readers) (a .key / 1024) (slot after-position) in (
+      turn after-position .loop .inv .0,
+      turn after-position .loop .inv .1,
+      omega (arith, next-is after-position, n .high, low after-position),
+      rw (next-is after-position) (n .found),
+      λ p q shows.
+          swept-seat (stateOf (a .v) p q) (a .key) (slot after-position) (joined-1 .if1 .top) _ (left joined-1 p q shows)
+          (next-is after-position),
+    )
 
 returns-2 : tie.Need-returns-2 Inv-loop μ-loop
 returns-2 c p q shows =
-    let l = c .before .loop in
-    let a = c .before .before .before .args in
+    let at-loop = c .before in
+    let at-start = at-loop .before .before in
+    let l = at-loop .loop in
+    let a = at-start .args in
     let e : l .at ≡ 0 = omega (arith, c .loop-test .left) in
-    let r = swept-all (stateOf (a .v) p q) (a .key) (l .top) (c .before .before .before .pre .0 .0 .look-high) (rw e at (l .inv .4 p q shows)) in
+    let r = swept-all (stateOf (a .v) p q) (a .key) (l .top) (at-start .pre .0 .0 .look-high) (rw e at (l .inv .4 p q shows)) in
     record { least = omega arith; exact = λ _. r }
 
 pub rank-over-spec : {M : Type 1} → statement M

@@ -16,8 +16,9 @@ lesser-requires c κs = search needs
 
 returns : tie.Need-returns
 returns c p q shows =
-    let at-start = c .before .before in
-    c .lesser .ensures ∙ ap (λ x. min x never) (c .before .rank .ensures p q shows)
+    let after-rank = c .before in
+    let at-start = after-rank .before in
+    c .lesser .ensures ∙ ap (λ x. min x never) (after-rank .rank .ensures p q shows)
     ∙ use-ranked (stateOf (at-start .args .v) p q) (at-start .args .key) (at-start .pre .0 .0 .look-high)
 
 pub use-key-spec : {M : Type 1} → statement M

@@ -35,11 +35,16 @@ start c = c .before .before .before .before .before
 
 -- the number of the turn's candidate
 abbrev number : tie.Joined1 Inv-loop μ-loop → ℕ
-number c = c .before .before .loop .i - 1
+number c =
+    let at-loop = c .before .before in
+    at-loop .loop .i - 1
 
 -- which candidate it is
 picked : (c : tie.Joined1 Inv-loop μ-loop)
-    → ((8 ≤ number c) × (c .if1 .file ≡ readerIn (start c .args .t1 .readers) (number c - 8) .file) × (c .if1 .n ≡ cond (attached (readerIn (start c .args .t1 .readers) (number c - 8))) (readerIn (start c .args .t1 .readers) (number c - 8) .position) 0))
+    → ((8 ≤ number c) × (c .if1 .file ≡ readerIn (start c .args .t1 .readers) (number c - 8) .file)
+    × (c .if1 .n
+    ≡ cond (attached (readerIn (start c .args .t1 .readers) (number c - 8)))
+    (readerIn (start c .args .t1 .readers) (number c - 8) .position) 0))
     ⊎ ((number c < 8) × (c .if1 .file ≡ number c) × (c .if1 .n ≡ 1024))
 picked c = ⊎-elim (λ w. inl (w .0 .taken, w .4, w .5 ∙ w .3 .ensures)) (λ w. inr (omega (arith, w .0 .left), w .1, w .2)) (c .if1 .came)
 
@@ -57,7 +62,8 @@ of-file : (c : tie.Joined1 Inv-loop μ-loop) → number c < 8 → (c .if1 .file 
 of-file c l = ⊎-elim (λ w. absurd (omega (arith, w .0))) (λ w. (w .1, w .2)) (picked c)
 
 -- or a slot's
-of-slot : (c : tie.Joined1 Inv-loop μ-loop) (j : ℕ) → number c ≡ 8 + j → T (attached (readerIn (start c .args .t1 .readers) j)) → (c .if1 .file ≡ readerIn (start c .args .t1 .readers) j .file) × (c .if1 .n ≡ readerIn (start c .args .t1 .readers) j .position)
+of-slot : (c : tie.Joined1 Inv-loop μ-loop) (j : ℕ) → number c ≡ 8 + j → T (attached (readerIn (start c .args .t1 .readers) j))
+    → (c .if1 .file ≡ readerIn (start c .args .t1 .readers) j .file) × (c .if1 .n ≡ readerIn (start c .args .t1 .readers) j .position)
 of-slot c j e h =
     let q : number c - 8 ≡ j = omega arith in
     ⊎-elim
@@ -66,19 +72,24 @@ of-slot c j e h =
     (picked c)
 
 -- all candidates
-all : (c : tie.After-loop Inv-loop μ-loop) → Highest (at (c .before .before .before .before)) (inSet (c .before .before .before .before .args .files)) 0 (c .before .loop .best)
+all : (c : tie.After-loop Inv-loop μ-loop) →
+    let at-loop = c .before in
+    let at-start = at-loop .before .before .before in
+    Highest (at at-start) (inSet (at-start .args .files)) 0 (at-loop .loop .best)
 all c =
-    let l = c .before .loop in
+    let at-loop = c .before in
+    let at-start = at-loop .before .before .before in
+    let l = at-loop .loop in
     let e : l .i ≡ 0 = omega (arith, c .loop-test .left) in
-    rw e at (l .inv .2 (c .before .before .before .before .args .fetching .now))
+    rw e at (l .inv .2 (at-start .args .fetching .now))
 
 seats-of-requires : tie.Need-seats-of-requires Inv-loop μ-loop
 seats-of-requires c κs = valid-ranged (at (c .before)) (c .before .pre) .file-high
 
 loop-holds : tie.Need-loop-holds Inv-loop μ-loop
 loop-holds c =
-    let s = c .before .before in
-    (omega arith, c .seats-of .ensures, λ m. highest-none (stateOf (s .args .t1) (s .args .cached .now) m) (inSet (s .args .files)))
+    let at-start = c .before .before in
+    (omega arith, c .seats-of .ensures, λ m. highest-none (stateOf (at-start .args .t1) (at-start .args .cached .now) m) (inSet (at-start .args .files)))
 
 sub-i : tie.Need-sub-i Inv-loop μ-loop
 sub-i c = search needs
@@ -97,11 +108,12 @@ behind-requires c κs = search needs
 
 higher-requires : tie.Need-higher-requires Inv-loop μ-loop
 higher-requires c κs =
-    let t = c .before in
-    let l = t .before .before .loop in
-    let s = start t in (
+    let joined-1 = c .before in
+    let at-loop = joined-1 .before .before in
+    let l = at-loop .loop in
+    let s = start joined-1 in (
       (valid-ranged (at s) (s .pre), l .inv .1),
-      (valid-housed (s .args .t1) (s .args .cached .now) (s .args .fetching .now) (s .pre), (range t, λ m. l .inv .2 m .page)),
+      (valid-housed (s .args .t1) (s .args .cached .now) (s .args .fetching .now) (s .pre), (range joined-1, λ m. l .inv .2 m .page)),
     )
 
 loop-less : tie.Need-loop-less Inv-loop μ-loop
@@ -109,26 +121,33 @@ loop-less c = search needs
 
 loop-again : tie.Need-loop-again Inv-loop μ-loop
 loop-again c =
-    let t = c .before .before in
-    let l = t .before .before .loop in
-    let s = start t in
-    let e : number t + 1 ≡ l .i = omega (arith, t .before .loop-test .taken) in (
+    let joined-1 = c .before .before in
+    let at-loop-test = joined-1 .before in
+    let at-loop = at-loop-test .before in
+    let l = at-loop .loop in
+    let s = start joined-1 in
+    let e : number joined-1 + 1 ≡ l .i = omega (arith, at-loop-test .loop-test .taken) in (
       omega (arith, l .inv .0),
       l .inv .1,
-      λ m. highest-more (stateOf (s .args .t1) (s .args .cached .now) m) (inSet (s .args .files)) (number t) (l .best) (c .higher .result) (t .if1 .file) (t .if1 .n) (rw e (l .inv .2 m)) (c .higher .ensures m (cached-presents _)) (of-file t) (of-slot t),
+      λ m.
+          highest-more (stateOf (s .args .t1) (s .args .cached .now) m) (inSet (s .args .files)) (number joined-1) (l .best)
+          (c .higher .result) (joined-1 .if1 .file) (joined-1 .if1 .n) (rw e (l .inv .2 m)) (c .higher .ensures m (cached-presents _))
+          (of-file joined-1) (of-slot joined-1),
     )
 
 returns : tie.Need-returns Inv-loop μ-loop
 returns c =
-    let l = c .before .before .before in
-    let s = l .before .before .before in
-    sym (highest-nothing (at s) (inSet (s .args .files)) (s .pre) (l .loop .best) (all (c .before .before)) (c .if2 .taken))
+    let after-loop = c .before .before in
+    let at-loop = after-loop .before in
+    let at-start = at-loop .before .before .before in
+    sym (highest-nothing (at at-start) (inSet (at-start .args .files)) (at-start .pre) (at-loop .loop .best) (all after-loop) (c .if2 .taken))
 
 returns-2 : tie.Need-returns-2 Inv-loop μ-loop
 returns-2 c =
-    let l = c .before .before .before in
-    let s = l .before .before .before in
-    sym (highest-victim (at s) (inSet (s .args .files)) (s .pre) (l .loop .best) (all (c .before .before)) (omega (arith, c .if2 .left)))
+    let after-loop = c .before .before in
+    let at-loop = after-loop .before in
+    let at-start = at-loop .before .before .before in
+    sym (highest-victim (at at-start) (inSet (at-start .args .files)) (at-start .pre) (at-loop .loop .best) (all after-loop) (omega (arith, c .if2 .left)))
 
 pub victim-among-spec : {M : Type 1} → statement M
 victim-among-spec =
