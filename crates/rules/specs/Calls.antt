@@ -117,7 +117,8 @@ attachOf s slot file pace =
 
 -- ---- Read
 
--- "in this order: position equals size, Z; page c + 1 cached, H, and c grows by 1; in fetch, W, and the reader waits; else F, it is put in fetch and the reader waits"
+-- "in this order: position equals size, Z; page c + 1 cached, H, and c grows by 1; in fetch, W, and the reader waits; else F, it is put in fetch and the
+-- reader waits"
 unfoldable pub readRunning : State → ℕ → Reader → Reply
 readRunning s slot r =
     cond (eqb (r .position) (lastPage (s .sizes) r)) (reply s End)

@@ -30,7 +30,8 @@ cached-count s small inside = pages-count s small (cached s) inside
 -- no page cached
 pub none-cached : (s : State) → ((f : ℕ) → size s f ≤ 1024) → ((k : ℕ) → T (cached s k) → ⊥) → length (cachedPages s) ≡ 0
 none-cached s small none =
-    cached-count s small (λ k h. absurd (none k h)) ∙ same-count 8192 (cached s) empty (λ k. num-out (cached s k) (not-T (cached s k) (none k))) ∙ count-empty 8192
+    cached-count s small (λ k h. absurd (none k h))
+    ∙ same-count 8192 (cached s) empty (λ k. num-out (cached s k) (not-T (cached s k) (none k))) ∙ count-empty 8192
 
 -- a map of pages of the files
 record MapIn (s : State) (words : List ℕ) : Type 0 where
@@ -52,7 +53,9 @@ record Maps (s : State) (held fetching : List ℕ) : Type 0 where
 
 -- the readers that wait for a page in fetch find it in this map
 abbrev Waits : State → List Reader → List ℕ → Type 0
-Waits s readers fetching = (j : ℕ) → getD readers j noReader .condition ≡ Waiting → T (inFetch s (nextKey (getD readers j noReader))) → T (on fetching (nextKey (getD readers j noReader)))
+Waits s readers fetching =
+    (j : ℕ) → getD readers j noReader .condition ≡ Waiting → T (inFetch s (nextKey (getD readers j noReader)))
+    → T (on fetching (nextKey (getD readers j noReader)))
 
 -- a state with all four parts changed
 abbrev allChanged : State → ℕ → List Reader → List ℕ → List ℕ → State
@@ -64,9 +67,17 @@ module _ (s : State) (turn : ℕ) (readers : List Reader) (held fetching : List 
 
   -- a placed reader stays placed
   pub placed-in : (r : Reader) → Placed s r → Placed (allChanged s turn readers held fetching) r
-  placed-in r p = record { file-high = p .file-high; file-there = p .file-there; pace-low = p .pace-low; pace-high = p .pace-high; position-in = p .position-in }
+  placed-in r p =
+      record {
+        file-high = p .file-high;
+        file-there = p .file-there;
+        pace-low = p .pace-low;
+        pace-high = p .pace-high;
+        position-in = p .position-in;
+      }
 
-  reader-in : (c : Condition) (r : Reader) → (c ≡ Waiting → T (inFetch s (nextKey r)) → T (on fetching (nextKey r))) → ReaderIn c s r → ReaderIn c (allChanged s turn readers held fetching) r
+  reader-in : (c : Condition) (r : Reader) → (c ≡ Waiting → T (inFetch s (nextKey r)) → T (on fetching (nextKey r))) → ReaderIn c s r
+      → ReaderIn c (allChanged s turn readers held fetching) r
   unfolding awaits
   reader-in Empty r w h = h
   reader-in Running r w h = placed-in r h
@@ -115,7 +126,10 @@ module _ (s : State) (v : Valid s) where
   put-in : (words : List ℕ) (k : ℕ) → Page s k → MapIn s words → MapIn s (putBit words k 1)
   put-in words k p m = record {
     fits = map-put words k 1 (omega arith) (m .fits);
-    inside = λ j h. key k j (λ b. T (b || on words j) → Page s j) (λ e _. subst (Page s) e p) (λ _ q. m .inside j q) (subst T (on-put words (m .fits) k (p .low) j) h);
+    inside =
+        λ j h.
+        key k j (λ b. T (b || on words j) → Page s j) (λ e _. subst (Page s) e p) (λ _ q. m .inside j q)
+        (subst T (on-put words (m .fits) k (p .low) j) h);
   }
 
   -- what a map without k has, it had
@@ -130,9 +144,11 @@ module _ (s : State) (v : Valid s) where
   }
 
   -- a page put into a map that the other has not leaves them apart
-  put-apart : (words others : List ℕ) (k : ℕ) → Page s k → MapIn s words → (T (on others k) → ⊥) → ((j : ℕ) → T (on words j) → T (on others j) → ⊥) → (j : ℕ) → T (on (putBit words k 1) j) → T (on others j) → ⊥
+  put-apart : (words others : List ℕ) (k : ℕ) → Page s k → MapIn s words → (T (on others k) → ⊥)
+      → ((j : ℕ) → T (on words j) → T (on others j) → ⊥) → (j : ℕ) → T (on (putBit words k 1) j) → T (on others j) → ⊥
   put-apart words others k p m absent apart j h o =
-      key k j (λ b. T (b || on words j) → ⊥) (λ e _. absent (subst (λ i. T (on others i)) (sym e) o)) (λ _ q. apart j q o) (subst T (on-put words (m .fits) k (p .low) j) h)
+      key k j (λ b. T (b || on words j) → ⊥) (λ e _. absent (subst (λ i. T (on others i)) (sym e) o)) (λ _ q. apart j q o)
+      (subst T (on-put words (m .fits) k (p .low) j) h)
 
   -- other maps
   maps-changed : (held fetching : List ℕ) → Maps s held fetching → Waits s (s .readers) fetching → Valid (withFetching (withCached s held) fetching)
@@ -140,16 +156,22 @@ module _ (s : State) (v : Valid s) where
 
   -- the turn moves on
   pub turn-moved : (turn : ℕ) → turn < 16 → Valid (withTurn s turn)
-  turn-moved turn h = all-changed s turn (s .readers) (s .cached) (s .fetching) v (record { low = h; all = v .sixteen; each-in = v .readers-in }) same-maps (λ j _ q. q)
+  turn-moved turn h =
+      all-changed s turn (s .readers) (s .cached) (s .fetching) v (record { low = h; all = v .sixteen; each-in = v .readers-in })
+      same-maps (λ j _ q. q)
 
   -- other readers
   pub readers-changed : (readers : List Reader) → length readers ≡ 16 → ((j : ℕ) → ReaderIn (getD readers j noReader .condition) s (getD readers j noReader))
       → Valid (withReaders s readers)
-  readers-changed readers n h = all-changed s (s .turn) readers (s .cached) (s .fetching) v (record { low = v .turn-high; all = n; each-in = h }) same-maps (λ j _ q. q)
+  readers-changed readers n h =
+      all-changed s (s .turn) readers (s .cached) (s .fetching) v (record { low = v .turn-high; all = n; each-in = h }) same-maps
+      (λ j _ q. q)
 
   -- a page put in fetch
   pub fetch-opened : (k : ℕ) → Page s k → (T (cached s k) → ⊥) → Valid (withFetch s k)
-  fetch-opened k p absent = maps-changed (s .cached) (putBit (s .fetching) k 1) maps (λ j _ q. rw (on-put (s .fetching) (v .fetching-map) k (p .low)) (or-right (eqb k _) _ q))
+  fetch-opened k p absent =
+      maps-changed (s .cached) (putBit (s .fetching) k 1) maps
+      (λ j _ q. rw (on-put (s .fetching) (v .fetching-map) k (p .low)) (or-right (eqb k _) _ q))
     where
       maps : Maps s (s .cached) (putBit (s .fetching) k 1)
       maps = record {
@@ -160,7 +182,8 @@ module _ (s : State) (v : Valid s) where
       }
 
   -- a fetch closed for which no reader waits
-  pub fetch-closed : (k : ℕ) → Page s k → ((j : ℕ) → readerAt s j .condition ≡ Waiting → nextKey (readerAt s j) ≢ k) → Valid (withFetching s (without (s .fetching) k))
+  pub fetch-closed : (k : ℕ) → Page s k → ((j : ℕ) → readerAt s j .condition ≡ Waiting → nextKey (readerAt s j) ≢ k)
+      → Valid (withFetching s (without (s .fetching) k))
   fetch-closed k p none = maps-changed (s .cached) (without (s .fetching) k) maps waits
     where
       maps : Maps s (s .cached) (without (s .fetching) k)
@@ -179,9 +202,13 @@ module _ (s : State) (v : Valid s) where
   pub less-count : (k : ℕ) → T (cached s k) → count 8192 (on (without (s .cached) k)) + 1 ≡ count 8192 (cached s)
   less-count k c =
       let p = v .cached-in k c in
-      let off : num (on (without (s .cached) k) k) ≡ 0 = num-out (on (without (s .cached) k) k) (not-T (on (without (s .cached) k) k) (put-off (s .cached) (v .cached-map) k (p .low))) in
+      let off : num (on (without (s .cached) k) k) ≡ 0 =
+      num-out (on (without (s .cached) k) k) (not-T (on (without (s .cached) k) k) (put-off (s .cached) (v .cached-map) k (p .low))) in
       sym (plus-count 8192 k (on (without (s .cached) k)) (p .low) off) ∙ same-count 8192 (plus (on (without (s .cached) k)) k) (cached s)
-      (λ j. rw (off-put (s .cached) (v .cached-map) k (p .low)) (key k j (λ b. num (b || (not b && cached s j)) ≡ num (cached s j)) (λ e. sym (num-in (cached s j) (subst (λ i. T (cached s i)) e c))) (λ _. refl)))
+      (λ j.
+      rw (off-put (s .cached) (v .cached-map) k (p .low))
+      (key k j (λ b. num (b || (not b && cached s j)) ≡ num (cached s j))
+      (λ e. sym (num-in (cached s j) (subst (λ i. T (cached s i)) e c))) (λ _. refl)))
 
   -- a page dropped
   pub page-dropped : (k : ℕ) → T (cached s k) → Valid (withCached s (without (s .cached) k))
@@ -204,7 +231,9 @@ module _ (s : State) (v : Valid s) where
   page-cached k p absent closed free = maps-changed (putBit (s .cached) k 1) (s .fetching) maps (λ j _ q. q)
     where
       more : count 8192 (on (putBit (s .cached) k 1)) ≡ count 8192 (cached s) + 1
-      more = same-count 8192 (on (putBit (s .cached) k 1)) (plus (cached s) k) (λ j. ap num (on-put (s .cached) (v .cached-map) k (p .low) j)) ∙ plus-count 8192 k (cached s) (p .low) (num-out (cached s k) absent)
+      more =
+          same-count 8192 (on (putBit (s .cached) k 1)) (plus (cached s) k) (λ j. ap num (on-put (s .cached) (v .cached-map) k (p .low) j))
+          ∙ plus-count 8192 k (cached s) (p .low) (num-out (cached s k) absent)
 
       maps : Maps s (putBit (s .cached) k 1) (s .fetching)
       maps = record {
@@ -224,4 +253,6 @@ all-set P (x ∷ l) (suc i) r d p h (suc j) = all-set P l i r d p (λ k. h (suc 
 
 -- one record changed
 pub reader-changed : (s : State) → Valid s → (slot : ℕ) (r : Reader) → ReaderIn (r .condition) s r → Valid (withReader s slot r)
-reader-changed s v slot r h = readers-changed s v (set (s .readers) slot r) (length-set (s .readers) slot r ∙ v .sixteen) (all-set (λ q. ReaderIn (q .condition) s q) (s .readers) slot r noReader h (v .readers-in))
+reader-changed s v slot r h =
+    readers-changed s v (set (s .readers) slot r) (length-set (s .readers) slot r ∙ v .sixteen)
+    (all-set (λ q. ReaderIn (q .condition) s q) (s .readers) slot r noReader h (v .readers-in))

@@ -16,7 +16,24 @@ use Rattle.rules.specs.Readers.{noReader, readerAt, attached, lastPage, 
 use Rattle.rules.specs.Valid.{Valid, Placed, ReaderIn, PageMap}
 use Rattle.rules.specs.UseTimes.{seen}
 use Rattle.rules.specs.Orders.{wanted, fetchOrder}
-use Rattle.rules.specs.Calls.{noFile, withReader, withFetch, settingsIn, fresh, idle, setupOf, docked, attachOf, readRunning, readOf, stealOf, arriveOf, detachOf, lostOf, prefetchOf}
+use Rattle.rules.specs.Calls.{
+  noFile,
+  withReader,
+  withFetch,
+  settingsIn,
+  fresh,
+  idle,
+  setupOf,
+  docked,
+  attachOf,
+  readRunning,
+  readOf,
+  stealOf,
+  arriveOf,
+  detachOf,
+  lostOf,
+  prefetchOf,
+}
 use Rattle.rules.specs.Run.{Turn, nextTurn, readTurn, turnOf, turnsOf, runOf}
 use Rattle.rules.specs.Entries.{Call, attach, detach, read, arrive, lost, prefetch, steal, run, callOf}
 use Rattle.rules.specs.declared.State.{State}
@@ -69,13 +86,20 @@ module _ (s : State) (v : Valid s) (slot : ℕ) (r : Reader) (p : Placed s r) wh
   hit-kept : r .condition ≡ Running → eqb (r .position) (lastPage (s .sizes) r) ≡ false → Valid (withReader s slot (onward r))
   hit-kept e ne =
       let l = not-at-end ne in
-      let q : Placed s (onward r) = record { file-high = p .file-high; file-there = p .file-there; pace-low = p .pace-low; pace-high = p .pace-high; position-in = omega arith } in
+      let q : Placed s (onward r) = record {
+        file-high = p .file-high;
+        file-there = p .file-there;
+        pace-low = p .pace-low;
+        pace-high = p .pace-high;
+        position-in = omega arith;
+      } in
       reader-changed s v slot (onward r) (subst (λ c. ReaderIn c s (onward r)) (sym e) q)
 
   wait-kept : eqb (r .position) (lastPage (s .sizes) r) ≡ false → T (inFetch s (nextKey r)) → Valid (withReader s slot (inCondition Waiting r))
   unfolding awaits
   wait-kept ne f =
-      reader-changed s v slot (inCondition Waiting r) (placed-still Waiting s r p, and-both (ltb (r .position) (lastPage (s .sizes) r)) _ (lt→ltb _ _ (not-at-end ne)) f)
+      reader-changed s v slot (inCondition Waiting r)
+      (placed-still Waiting s r p, and-both (ltb (r .position) (lastPage (s .sizes) r)) _ (lt→ltb _ _ (not-at-end ne)) f)
 
 fetch-kept : (s : State) → Valid s → (slot : ℕ) (r : Reader) → Placed s r → eqb (r .position) (lastPage (s .sizes) r) ≡ false → cached s (nextKey r) ≡ false
     → Valid (withFetch (withReader s slot (inCondition Waiting r)) (nextKey r))
@@ -113,7 +137,9 @@ lost-kept s file page v = search (for-fetch-all Keeps, waiters-woken, passed) de
 -- Prefetch keeps the state valid
 pub prefetch-kept : (s : State) → Valid s → Valid (prefetchOf s .state)
 unfolding prefetchOf
-prefetch-kept s v = option-all Keeps (head (fetchOrder s)) _ _ (λ k e. let w = fetch-wanted s v k e in fetch-opened s v k (wanted-page s v k w) (absent k w)) (λ _. v)
+prefetch-kept s v =
+    option-all Keeps (head (fetchOrder s))
+    _ _ (λ k e. let w = fetch-wanted s v k e in fetch-opened s v k (wanted-page s v k w) (absent k w)) (λ _. v)
   where
     absent : (k : ℕ) → T (wanted s k) → T (cached s k) → ⊥
     absent k w = T-not (cached s k) (and-first (not (cached s k)) (not (inFetch s k)) (and-second (seen s k) _ w))

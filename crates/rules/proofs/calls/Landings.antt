@@ -31,7 +31,14 @@ use Rattle.rules.proofs.calls.Changes.{cached-count, none-cached, count
 
 -- an attached reader in another condition stands where it stood
 pub placed-still : (c : Condition) (s : State) (r : Reader) → Placed s r → Placed s (inCondition c r)
-placed-still c s r p = record { file-high = p .file-high; file-there = p .file-there; pace-low = p .pace-low; pace-high = p .pace-high; position-in = p .position-in }
+placed-still c s r p =
+    record {
+      file-high = p .file-high;
+      file-there = p .file-there;
+      pace-low = p .pace-low;
+      pace-high = p .pace-high;
+      position-in = p .position-in;
+    }
 
 -- waking keeps a record as its condition has it
 woken-in : (s : State) (k : ℕ) (r : Reader) → ReaderIn (r .condition) s r → ReaderIn (woken k r .condition) s (woken k r)
@@ -67,7 +74,8 @@ module _ (s : State) (v : Valid s) (k : ℕ) where
   -- the fetch is closed and its waiters run
   pub waiters-woken : T (inFetch s k) → Valid (closed s k)
   waiters-woken f =
-      let w = readers-changed s v (map (woken k) (s .readers)) (length-map (s .readers) (woken k) ∙ v .sixteen) (λ j. rw (woken-at j) (woken-in s k (readerAt s j) (v .readers-in j))) in
+      let w = readers-changed s v (map (woken k) (s .readers)) (length-map (s .readers) (woken k) ∙ v .sixteen)
+      (λ j. rw (woken-at j) (woken-in s k (readerAt s j) (v .readers-in j))) in
       fetch-closed (withReaders s (map (woken k) (s .readers))) w k (w .fetching-in k f) (λ j. rw (woken-at j) (woken-waits k (readerAt s j)))
 
 -- ---- the page that goes
@@ -81,7 +89,9 @@ module _ (s : State) (v : Valid s) where
   -- a page is dropped where all frames are taken, and is the one to give up
   pub full-dropped : (k : ℕ) → dropped s ≡ some k → (full s ≡ true) × (victim s ≡ some k)
   unfolding dropped
-  full-dropped k = cond-all (λ o. o ≡ some k → (full s ≡ true) × (victim s ≡ some k)) (full s) (victim s) none (λ f e. (f, e)) (λ _ e. let z : _≡_ {A = ℕ} 0 1 = cc in absurd (omega arith))
+  full-dropped k =
+      cond-all (λ o. o ≡ some k → (full s ≡ true) × (victim s ≡ some k)) (full s) (victim s) none (λ f e. (f, e))
+      (λ _ e. let z : _≡_ {A = ℕ} 0 1 = cc in absurd (omega arith))
 
   -- so it is cached
   pub dropped-some : (k : ℕ) → dropped s ≡ some k → T (cached s k)
@@ -90,7 +100,9 @@ module _ (s : State) (v : Valid s) where
   -- where no page is dropped a frame is free
   pub dropped-none : dropped s ≡ none → length (cachedPages s) < s .frames
   unfolding dropped full
-  dropped-none = cond-all (λ o. o ≡ none → length (cachedPages s) < s .frames) (full s) (victim s) none (λ f e. absurd (full-victim f e)) (λ f _. leb-false (s .frames) (length (cachedPages s)) f)
+  dropped-none =
+      cond-all (λ o. o ≡ none → length (cachedPages s) < s .frames) (full s) (victim s) none (λ f e. absurd (full-victim f e))
+      (λ f _. leb-false (s .frames) (length (cachedPages s)) f)
 
   -- the cached map once a page has gone, if one must: it has no other pages, and room for one
   eased : List ℕ
@@ -99,7 +111,9 @@ module _ (s : State) (v : Valid s) where
   eased-on : (k : ℕ) → T (on eased k) → T (cached s k)
   unfolding eased
   eased-on k = option-all (λ words. T (on words k) → T (cached s k)) (dropped s) (without (s .cached)) (s .cached)
-      (λ d e h. let c = dropped-some d e in and-second (not (eqb d k)) (cached s k) (subst T (off-put (s .cached) (v .cached-map) d (v .cached-in d c .low) k) h)) (λ _ h. h)
+      (λ d e h. let c = dropped-some d e in
+      and-second (not (eqb d k)) (cached s k) (subst T (off-put (s .cached) (v .cached-map) d (v .cached-in d c .low) k) h))
+      (λ _ h. h)
 
   eased-room : count 8192 (on eased) < s .frames
   unfolding eased

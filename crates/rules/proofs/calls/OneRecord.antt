@@ -38,7 +38,16 @@ same-state : (s : State) (slot : ℕ) → ButSlot s slot s
 same-state s slot = record { others = λ j _. refl; frames = refl; turn = refl; look-ahead = refl; fetch-time = refl; sizes = refl; cached = refl }
 
 record-set : (s : State) (slot : ℕ) (r : Reader) (fetching : List ℕ) → ButSlot s slot (withFetching (withReader s slot r) fetching)
-record-set s slot r fetching = record { others = λ j ne. getD-set-other (s .readers) slot j r noReader ne; frames = refl; turn = refl; look-ahead = refl; fetch-time = refl; sizes = refl; cached = refl }
+record-set s slot r fetching =
+    record {
+      others = λ j ne. getD-set-other (s .readers) slot j r noReader ne;
+      frames = refl;
+      turn = refl;
+      look-ahead = refl;
+      fetch-time = refl;
+      sizes = refl;
+      cached = refl;
+    }
 
 -- so is the reply's state
 abbrev One : State → ℕ → Reply → Type 0

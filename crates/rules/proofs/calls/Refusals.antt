@@ -44,10 +44,13 @@ fair-done s list r h n e = absurd (subst (λ a. T (carriedOut a)) e h)
 -- every call refuses with one of its numbers, and then changes nothing
 fair : (c : Call) (s : State) → Fair s (refusalsOf c) (callOf c s)
 unfolding attachOf detachOf readOf readRunning arriveOf lostOf prefetchOf stealOf runOf
-fair (attach slot file pace) s = let F = Fair s (refusalsOf (attach slot file pace)) in search (cond-all F, condition-all F, fair-refused, fair-done, tt) depth 12
+fair (attach slot file pace) s =
+    let F = Fair s (refusalsOf (attach slot file pace)) in search (cond-all F, condition-all F, fair-refused, fair-done, tt) depth 12
 fair (detach slot) s = let F = Fair s (refusalsOf (detach slot)) in search (cond-all F, condition-all F, fair-refused, fair-done, tt) depth 12
 fair (read slot) s = let F = Fair s (refusalsOf (read slot)) in search (cond-all F, condition-all F, fair-refused, fair-done, tt) depth 12
-fair (arrive file page) s = let F = Fair s (refusalsOf (arrive file page)) in search (for-fetch-all F, option-all (λ a. T (carriedOut a)), fair-refused, fair-done, tt) depth 12
+fair (arrive file page) s =
+    let F = Fair s (refusalsOf (arrive file page)) in
+    search (for-fetch-all F, option-all (λ a. T (carriedOut a)), fair-refused, fair-done, tt) depth 12
 fair (lost file page) s = let F = Fair s (refusalsOf (lost file page)) in search (for-fetch-all F, fair-refused, fair-done, tt) depth 12
 fair prefetch s = let F = Fair s [] in search (option-all F, fair-done, tt) depth 12
 fair steal s = let F = Fair s [] in search (option-all F, fair-done, tt) depth 12
@@ -64,7 +67,8 @@ unfolding Fair
 refusal-numbers c s n e = fair c s n e .1
 
 -- a refused Setup gives the idle state, with number 1
-pub setup-refused : (frames look time : ℕ) (sizes : List ℕ) (n : ℕ) → setupOf frames look time sizes .answer ≡ Refused n → (setupOf frames look time sizes .state ≡ idle) × (n ≡ 1)
+pub setup-refused : (frames look time : ℕ) (sizes : List ℕ) (n : ℕ) → setupOf frames look time sizes .answer ≡ Refused n
+    → (setupOf frames look time sizes .state ≡ idle) × (n ≡ 1)
 unfolding setupOf Fair
 setup-refused frames look time sizes n e =
     let F = Fair idle (1 ∷ []) in

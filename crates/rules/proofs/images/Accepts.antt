@@ -18,7 +18,19 @@ use Rattle.rules.specs.Image.{readerNumber, readerFrom, stateFrom, reade
 use Rattle.rules.proofs.laws.Tests.{less, key, and-both, and-first, and-second, or-left, or-right}
 use Rattle.rules.proofs.laws.Members.{range-in, range-at}
 use Rattle.rules.proofs.laws.Indexed.{Always, always-take, always-drop, all-always, always-all, every-all, all-every}
-use Rattle.rules.proofs.images.Layouts.{condition-low, Lengths, valid-lengths, stateNumbers, slot-number, reader-numbers, gap-number, state-numbers, Table, lengths-from, reader-from}
+use Rattle.rules.proofs.images.Layouts.{
+  condition-low,
+  Lengths,
+  valid-lengths,
+  stateNumbers,
+  slot-number,
+  reader-numbers,
+  gap-number,
+  state-numbers,
+  Table,
+  lengths-from,
+  reader-from,
+}
 use Rattle.rules.specs.declared.State.{State}
 use Rattle.rules.specs.declared.Reader.{Reader}
 use Rattle.rules.specs.declared.Condition.{Condition}
@@ -95,7 +107,8 @@ module _ (s : State) (r : Reader) where
       and-both (not (ltb 7 (r .file) || eqb z 0)) _
       (less 7 (r .file) (λ b. T (not (b || eqb z 0))) (λ l. absurd (omega (arith, p .file-high)))
       (λ _. key z 0 (λ b. T (not b)) (λ e. absurd (omega (arith, p .file-there))) (λ _. tt)))
-      (and-both (within 1 1000 (r .pace)) _ (within-in 1 1000 (r .pace) (p .pace-low) (p .pace-high)) (le→leb (r .position) (lastPage (s .sizes) r) (p .position-in)))
+      (and-both (within 1 1000 (r .pace)) _ (within-in 1 1000 (r .pace) (p .pace-low) (p .pace-high))
+      (le→leb (r .position) (lastPage (s .sizes) r) (p .position-in)))
 
   -- the test of a record says what its condition asks
   pub reader-in : T (readerHolds s r) → ReaderIn (r .condition) s r
@@ -151,7 +164,8 @@ module _ (v : List ℕ) (j : ℕ) where
   unfolding slotHolds
   in-slot h =
       and-both (within 0 2 (readerNumber v j 0)) _ (within-in 0 2 (readerNumber v j 0) (omega arith) (h .condition-in))
-      (and-both (readerHolds (stateFrom v) (readerFrom v j)) _ (in-reader (stateFrom v) (readerFrom v j) (h .record-in)) (eq→eqb (readerNumber v j 4) 0 (h .gap)))
+      (and-both (readerHolds (stateFrom v) (readerFrom v j)) _ (in-reader (stateFrom v) (readerFrom v j) (h .record-in))
+      (eq→eqb (readerNumber v j 4) 0 (h .gap)))
 
 -- ---- keys
 
@@ -238,8 +252,16 @@ module _ (v : List ℕ) where
       record {
         settings = settings-in (s .frames) (s .«look_ahead») (s .«fetch_time») (s .sizes) (and-first set _ h₀);
         turn-high = in-within 0 15 (s .turn) (and-first (within 0 15 (s .turn)) _ h₁) .1;
-        slots = λ j l. slot-in v j (range-at (λ i. T (slotHolds v i)) 0 16 j (every-all (slotHolds v) (range 0 16) (and-first (every (slotHolds v) (range 0 16)) _ h₂)) (omega arith) l);
-        keys = λ k l. key-in s k (range-at (λ i. T (keyHolds s i)) 0 8192 k (every-all (keyHolds s) (range 0 8192) (and-first (every (keyHolds s) (range 0 8192)) _ h₃)) (omega arith) l);
+        slots =
+            λ j l.
+            slot-in v j
+            (range-at (λ i. T (slotHolds v i)) 0 16 j (every-all (slotHolds v) (range 0 16) (and-first (every (slotHolds v) (range 0 16)) _ h₂))
+            (omega arith) l);
+        keys =
+            λ k l.
+            key-in s k
+            (range-at (λ i. T (keyHolds s i)) 0 8192 k
+            (every-all (keyHolds s) (range 0 8192) (and-first (every (keyHolds s) (range 0 8192)) _ h₃)) (omega arith) l);
         room = leb→le (length (cachedPages s)) (s .frames) (and-first (leb (length (cachedPages s)) (s .frames)) _ h₄);
         gap = eqb→eq (getD v 2 0) 0 (and-first (eqb (getD v 2 0) 0) _ h₅);
         gap-maps = eqb→eq (getD v 93 0) 0 (and-second (eqb (getD v 2 0) 0) _ h₅);
@@ -250,10 +272,13 @@ module _ (v : List ℕ) where
   unfolding accepts
   in-accepted a =
       let s = stateFrom v in
-      and-both (settingsIn (s .frames) (s .«look_ahead») (s .«fetch_time») (s .sizes)) _ (in-settings (s .frames) (s .«look_ahead») (s .«fetch_time») (s .sizes) (a .settings))
+      and-both (settingsIn (s .frames) (s .«look_ahead») (s .«fetch_time») (s .sizes))
+      _ (in-settings (s .frames) (s .«look_ahead») (s .«fetch_time») (s .sizes) (a .settings))
       (and-both (within 0 15 (s .turn)) _ (within-in 0 15 (s .turn) (omega arith) (a .turn-high))
-      (and-both (every (slotHolds v) (range 0 16)) _ (all-every (slotHolds v) (range 0 16) (range-in (λ j. T (slotHolds v j)) 0 16 (λ j _ l. in-slot v j (a .slots j l))))
-      (and-both (every (keyHolds s) (range 0 8192)) _ (all-every (keyHolds s) (range 0 8192) (range-in (λ k. T (keyHolds s k)) 0 8192 (λ k _ l. in-key s k (a .keys k l))))
+      (and-both (every (slotHolds v) (range 0 16)) _
+      (all-every (slotHolds v) (range 0 16) (range-in (λ j. T (slotHolds v j)) 0 16 (λ j _ l. in-slot v j (a .slots j l))))
+      (and-both (every (keyHolds s) (range 0 8192)) _
+      (all-every (keyHolds s) (range 0 8192) (range-in (λ k. T (keyHolds s k)) 0 8192 (λ k _ l. in-key s k (a .keys k l))))
       (and-both (leb (length (cachedPages s)) (s .frames)) _ (le→leb (length (cachedPages s)) (s .frames) (a .room))
       (and-both (eqb (getD v 2 0) 0) _ (eq→eqb (getD v 2 0) 0 (a .gap)) (eq→eqb (getD v 93 0) 0 (a .gap-maps)))))))
 
@@ -277,13 +302,15 @@ module _ (v : List ℕ) (long : length v ≡ 350) (a : Accepted v) where
       go : Dec (j < 16) → ReaderIn (readerAt (stateFrom v) j .condition) (stateFrom v) (readerAt (stateFrom v) j)
       go (yes l) = subst (λ r. ReaderIn (r .condition) (stateFrom v) r) (sym (reader-from v j l)) (a .slots j l .record-in)
       go (no n) =
-          let out : readerAt (stateFrom v) j ≡ noReader = List·getD-eq-default (stateFrom v .readers) noReader (omega (arith, lengths-from v table-in .sixteen)) in
+          let out : readerAt (stateFrom v) j ≡ noReader =
+          List·getD-eq-default (stateFrom v .readers) noReader (omega (arith, lengths-from v table-in .sixteen)) in
           subst (λ r. ReaderIn (r .condition) (stateFrom v) r) (sym out) refl
 
   maps-valid : Always (λ n. n < 2 ^ 64) 0 v → PageMap (stateFrom v .cached) × PageMap (stateFrom v .fetching)
   unfolding stateFrom
   maps-valid fit =
-      let part : (o : ℕ) → Always (λ n. n < 2 ^ 64) 0 (take 128 (drop o v)) = λ o. always-take (λ n. n < 2 ^ 64) 0 (omega arith) 128 (drop o v) (always-drop (λ n. n < 2 ^ 64) 0 o v fit) in
+      let part : (o : ℕ) → Always (λ n. n < 2 ^ 64) 0 (take 128 (drop o v)) =
+      λ o. always-take (λ n. n < 2 ^ 64) 0 (omega arith) 128 (drop o v) (always-drop (λ n. n < 2 ^ 64) 0 o v fit) in
       (record { all = lengths-from v table-in .cached-all; fit = part 94 }, record { all = lengths-from v table-in .fetching-all; fit = part 222 })
 
   page-valid : (k : ℕ) → k < 8192 → T (cached (stateFrom v) k || inFetch (stateFrom v) k) → Page (stateFrom v) k

@@ -60,7 +60,10 @@ module _ (c : Call) (image : List ℕ) where
   pub enter-refused : enter c image .number ≤ 13 → enter c image .image ≡ image
   enter-refused l =
       ⊎-elim
-      (λ d. ap (λ r. r .image) (enter-restored d) ∙ low-left (callOf c (restoreOf image .state) .answer) (imageOf (callOf c (restoreOf image .state) .state)) image (rw (enter-restored d) at l))
+      (λ d.
+      ap (λ r. r .image) (enter-restored d)
+      ∙ low-left (callOf c (restoreOf image .state) .answer) (imageOf (callOf c (restoreOf image .state) .state)) image
+      (rw (enter-restored d) at l))
       (λ d. ap (λ r. r .image) (enter-unrestored d)) (done-or-not image)
 
   -- "each as Restore, call, Save": the buffer is the image of the call's state, refused or not
@@ -72,4 +75,6 @@ module _ (c : Call) (image : List ℕ) where
 
   -- so the next entry finds an image that it takes
   pub enter-again : Bytes image → restoreOf image .answer ≡ Done → restoreOf (enter c image .image) ≡ reply (callOf c (restoreOf image .state) .state) Done
-  enter-again bytes d = ap restoreOf (enter-saves bytes d) ∙ restore-save (callOf c (restoreOf image .state) .state) (kept c (restoreOf image .state) (restored-valid image bytes))
+  enter-again bytes d =
+      ap restoreOf (enter-saves bytes d)
+      ∙ restore-save (callOf c (restoreOf image .state) .state) (kept c (restoreOf image .state) (restored-valid image bytes))

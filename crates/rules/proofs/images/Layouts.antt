@@ -10,7 +10,22 @@ use Rattle.rules.specs.Readers.{noReader, readerAt}
 use Rattle.rules.specs.Image.{Field, field, conditionNumber, readerFields, tail, layout, conditionOf, readerNumber, readerFrom, stateFrom}
 use Rattle.rules.specs.Valid.{Valid}
 use Rattle.rules.proofs.laws.Members.{range-in}
-use Rattle.rules.proofs.laws.Indexed.{map-each, each-map, each-same, map-alike, each-alike, drop-past, getD-past, length-listed, getD-listed, each-part, length-each, getD-each, rejoin, part-listed}
+use Rattle.rules.proofs.laws.Indexed.{
+  map-each,
+  each-map,
+  each-same,
+  map-alike,
+  each-alike,
+  drop-past,
+  getD-past,
+  length-listed,
+  getD-listed,
+  each-part,
+  length-each,
+  getD-each,
+  rejoin,
+  part-listed,
+}
 use Rattle.rules.proofs.images.Tables.{widths, values}
 use Rattle.rules.specs.declared.State.{State}
 use Rattle.rules.specs.declared.Reader.{Reader}

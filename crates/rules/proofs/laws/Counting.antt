@@ -75,7 +75,8 @@ swap-count N A v x lv lx av ax =
 pub plus-count : (N x : ℕ) (A : Set) → x < N → num (A x) ≡ 0 → count N (plus A x) ≡ count N A + 1
 plus-count N x A l a =
     let up : count N A + count N (one x) ≤ count N (plus A x) + count N empty =
-    four N A (one x) (plus A x) empty (λ k. key x k (λ b. num (A k) + num b ≤ num (b || A k) + 0) (λ e. omega (arith, ap (λ j. num (A j)) e)) (λ _. omega arith)) in
+    four N A (one x) (plus A x) empty
+    (λ k. key x k (λ b. num (A k) + num b ≤ num (b || A k) + 0) (λ e. omega (arith, ap (λ j. num (A j)) e)) (λ _. omega arith)) in
     let down : count N (plus A x) + count N empty ≤ count N A + count N (one x) =
     four N (plus A x) empty A (one x) (λ k. key x k (λ b. num (b || A k) + 0 ≤ num (A k) + num b) (λ e. omega arith) (λ _. omega arith)) in
     omega (arith, count-only N x l, count-empty N)

@@ -37,7 +37,9 @@ count-range P a (suc n) =
     let e : count (a + suc n) P ≡ count (a + 1 + n) P = ap (λ m. count m P) (omega arith) in
     e ∙ count-range P (a + 1) n ∙ go (P a) refl
   where
-    go : (t : Bool) → P a ≡ t → count (a + 1) P + length (only P (range (a + 1) n)) ≡ count a P + length (cond t (a ∷ only P (range (a + 1) n)) (only P (range (a + 1) n)))
+    go : (t : Bool) → P a ≡ t
+        → count (a + 1) P + length (only P (range (a + 1) n))
+        ≡ count a P + length (cond t (a ∷ only P (range (a + 1) n)) (only P (range (a + 1) n)))
     go true e = omega (arith, count-one P a, ap num e)
     go false e = omega (arith, count-one P a, ap num e)
 
@@ -53,7 +55,12 @@ module _ (s : State) (small : (f : ℕ) → size s f ≤ 1024) (P : Set) (inside
   file-count : (f : ℕ) → count (f * 1024 + 1024) P ≡ count (f * 1024) P + length (only P (range (f * 1024) (size s f)))
   file-count f =
       let m = small f in
-      let p = count-past P (f * 1024 + size s f) (1024 - size s f) (λ k l h. absent k (λ g. let e : fileOf k ≡ f = omega arith in let q : pageOf k ≤ size s f = subst (λ i. pageOf k ≤ size s i) e (g .there) in omega arith)) in
+      let p = count-past P (f * 1024 + size s f) (1024 - size s f)
+      (λ k l h.
+      absent k
+      (λ g. let e : fileOf k ≡ f = omega arith in
+      let q : pageOf k ≤ size s f = subst (λ i. pageOf k ≤ size s i) e (g .there) in
+      omega arith)) in
       let e : count (f * 1024 + 1024) P ≡ count (f * 1024 + size s f + (1024 - size s f)) P = ap (λ m. count m P) (omega arith) in
       omega (arith, count-range P (f * 1024) (size s f))
 
@@ -65,7 +72,8 @@ module _ (s : State) (small : (f : ℕ) → size s f ≤ 1024) (P : Set) (inside
       let more : List ℕ = each (λ f. range (f * 1024) (size s f)) (range (a + 1) n) in
       let e : count ((a + suc n) * 1024) P ≡ count ((a + 1 + n) * 1024) P = ap (λ m. count m P) (omega arith) in
       let e′ : count ((a + 1) * 1024) P ≡ count (a * 1024 + 1024) P = ap (λ m. count m P) (omega arith) in
-      let l : length (only P (here ++ more)) ≡ length (only P here) + length (only P more) = ap length (only-append P here more) ∙ length-append (only P here) (only P more) in
+      let l : length (only P (here ++ more)) ≡ length (only P here) + length (only P more) =
+      ap length (only-append P here more) ∙ length-append (only P here) (only P more) in
       omega (arith, files-count (a + 1) n, file-count a)
 
   none : count 0 P ≡ 0

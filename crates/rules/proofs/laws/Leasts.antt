@@ -12,7 +12,8 @@ pub some-mono : (m : ℕ) (P R : ℕ → Bool) → ((j : ℕ) → T (P j) → T 
 unfolding some-of
 some-mono zero P R h a = absurd a
 some-mono (suc m) P R h a₀ =
-    both (P m) (λ t. (T t → T (R m)) → T (t || some-of m P) → T (R m || some-of m R)) (λ _ r _. or-left (R m) _ (r tt)) (λ _ r a. or-right (R m) _ (some-mono m P R h a)) (h m) a₀
+    both (P m) (λ t. (T t → T (R m)) → T (t || some-of m P) → T (R m || some-of m R)) (λ _ r _. or-left (R m) _ (r tt))
+    (λ _ r a. or-right (R m) _ (some-mono m P R h a)) (h m) a₀
 
 pub some-at : (m : ℕ) (P : ℕ → Bool) → T (some-of m P) → (j : ℕ) × (j < m) × T (P j)
 unfolding some-of

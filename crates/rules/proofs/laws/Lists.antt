@@ -63,7 +63,8 @@ written-front l at b bytes h =
     (set-at (take at l) (getD l at 0) r b at (length-take-le at l (omega arith)))
 
 -- more bytes behind those written
-pub written-more : (l : List ℕ) (at : ℕ) (xs ys : List ℕ) → at + length xs + length ys ≤ length l → written (written l at xs) (at + length xs) ys ≡ written l at (xs ++ ys)
+pub written-more : (l : List ℕ) (at : ℕ) (xs ys : List ℕ) → at + length xs + length ys ≤ length l
+    → written (written l at xs) (at + length xs) ys ≡ written l at (xs ++ ys)
 unfolding written
 written-more l at xs ys h =
     let n : ℕ = at + length xs in

@@ -33,7 +33,9 @@ module _ (P : ℕ → Bool) (Q : ℕ → Type 0) where
   pub all-only : (l : List ℕ) → All Q l → All (λ k. T (P k) × Q k) (only P l)
   unfolding only
   all-only [] h = tt
-  all-only (x ∷ l) h = both (P x) (λ t. All (λ k. T (P k) × Q k) (cond t (x ∷ only P l) (only P l))) (λ p. ((p, h .0), all-only l (h .1))) (λ _. all-only l (h .1))
+  all-only (x ∷ l) h =
+      both (P x) (λ t. All (λ k. T (P k) × Q k) (cond t (x ∷ only P l) (only P l)))
+      (λ p. ((p, h .0), all-only l (h .1))) (λ _. all-only l (h .1))
 
   pub only-all : (l : List ℕ) → All Q (only P l) → All (λ k. T (P k) → Q k) l
   unfolding only

@@ -23,7 +23,22 @@ use Rattle.rules.specs.Ranks.{rank, cachedAmong, victimAmong, lastCached
 use Rattle.rules.proofs.orders.Ranks.{seen-ahead, seen-small}
 use Rattle.rules.proofs.orders.LookAheads.{before-is, is-before, sees-before, sees-earlier, seen-by, use-sees, use-least, use-rises, met-by}
 use Rattle.rules.proofs.laws.Numbered.{smaller-first, none-in, none-of}
-use Rattle.rules.proofs.orders.Distinct.{Stretch, behind, unseen, in-use, stretch, rank-positive, among-cached, among-top, among-none, head-is, wanted-page, fetch-wanted, fetch-first, fetch-head-is}
+use Rattle.rules.proofs.orders.Distinct.{
+  Stretch,
+  behind,
+  unseen,
+  in-use,
+  stretch,
+  rank-positive,
+  among-cached,
+  among-top,
+  among-none,
+  head-is,
+  wanted-page,
+  fetch-wanted,
+  fetch-first,
+  fetch-head-is,
+}
 use Rattle.rules.specs.declared.State.{State}
 use Rattle.rules.specs.declared.Reader.{Reader}
 
@@ -51,13 +66,17 @@ module _ (s : State) (w : Valid s) (k i : ℕ) (one-file : fileOf k ≡ fileOf i
       is-before s r k record {
         here = b .here;
         of-file = b .of-file ∙ sym one-file;
-        past = less (r .position) (pageOf k) (λ _. r .position < pageOf k) (λ p. p) (λ p. absurd (omega (arith, clear j l (b .here) (b .of-file ∙ sym one-file) p, b .past)));
+        past =
+            less (r .position) (pageOf k) (λ _. r .position < pageOf k) (λ p. p)
+            (λ p. absurd (omega (arith, clear j l (b .here) (b .of-file ∙ sym one-file) p, b .past)));
         in-file = omega (arith, b .in-file);
       }
 
   ahead-earlier : T (ahead s i) → T (ahead s k)
   unfolding ahead
-  ahead-earlier h = let a = some-at 16 (λ j. before s (readerAt s j) i) h in some-in 16 (a .0) (λ j. before s (readerAt s j) k) (a .1) (before-earlier (a .0) (a .1) (a .2))
+  ahead-earlier h =
+      let a = some-at 16 (λ j. before s (readerAt s j) i) h in
+      some-in 16 (a .0) (λ j. before s (readerAt s j) k) (a .1) (before-earlier (a .0) (a .1) (a .2))
 
   use-earlier : T (seen s i) → T (seen s k) × (useKey s k < useKey s i)
   use-earlier h =
@@ -85,7 +104,8 @@ module _ (s : State) (w : Valid s) (k i : ℕ) (one-file : fileOf k ≡ fileOf i
 -- the last cached page of its file, or the last at or before a reader's position
 pub data Candidate (s : State) (k : ℕ) : Type 0 where
   last-of-file : pageOf k ≡ lastCached s (fileOf k) 1024 → Candidate s k
-  last-by-slot : (j : ℕ) → j < 16 → T (attached (readerAt s j)) → readerAt s j .file ≡ fileOf k → pageOf k ≡ lastCached s (fileOf k) (readerAt s j .position) → Candidate s k
+  last-by-slot : (j : ℕ) → j < 16 → T (attached (readerAt s j)) → readerAt s j .file ≡ fileOf k
+      → pageOf k ≡ lastCached s (fileOf k) (readerAt s j .position) → Candidate s k
 
 set-cached : (s : State) (k : ℕ) → bit (s .cached) k ≡ 1 → T (cached s k)
 set-cached s k e = subst (λ b. T (eqb b 1)) (sym e) tt
@@ -94,7 +114,8 @@ cached-set : (s : State) (k : ℕ) → T (cached s k) → bit (s .cached) k ≡ 
 cached-set s k c = eqb→eq (bit (s .cached) k) 1 c
 
 -- a cached page is the last of the first n where no later one of these is set
-last-here : (s : State) (k n : ℕ) → T (cached s k) → pageOf k ≤ n → ((i : ℕ) → k < i → i < fileOf k * 1024 + n → bit (s .cached) i ≡ 1 → ⊥) → pageOf k ≡ lastCached s (fileOf k) n
+last-here : (s : State) (k n : ℕ) → T (cached s k) → pageOf k ≤ n
+    → ((i : ℕ) → k < i → i < fileOf k * 1024 + n → bit (s .cached) i ≡ 1 → ⊥) → pageOf k ≡ lastCached s (fileOf k) n
 last-here s k n c l clear =
     let e : fileOf k * 1024 + pageOf k - 1 ≡ k = omega arith in
     last-only (s .cached) (fileOf k * 1024) n (pageOf k) record {
@@ -120,7 +141,8 @@ stops-or-clear s k i = one-or-all (Stops s k i) (ClearAt s k i) slot 16
         r : Reader
         r = readerAt s j
 
-        go : T (attached r) ⊎ T (not (attached r)) → Dec (r .file ≡ fileOf k) → Dec (r .position < pageOf k) → Dec (r .position < pageOf i) → Stops s k i j ⊎ ClearAt s k i j
+        go : T (attached r) ⊎ T (not (attached r)) → Dec (r .file ≡ fileOf k) → Dec (r .position < pageOf k) → Dec (r .position < pageOf i)
+            → Stops s k i j ⊎ ClearAt s k i j
         go (inl h) (yes e) (no l) (yes u) = inl record { here = h; same-file = e; low = omega arith; high = u }
         go (inl h) (yes e) (no l) (no u) = inr (λ _ _ _. omega arith)
         go (inl h) (yes e) (yes l) _ = inr (λ _ _ m. absurd (omega arith))
@@ -221,7 +243,9 @@ module _ (s : State) where
 
   -- one slot more
   pub slot-below : (m b c : ℕ) → NoneBelow s m b → c ≤ b → (T (attached (readerAt s m)) → AtLeast s c m) → NoneBelow s (m + 1) c
-  slot-below m b c a l h = one-more (AtLeast s c) m (λ j p k g f. omega (arith, a j p k g f)) (λ k g f. h (before-is s (readerAt s m) k (f .ahead-of) .here) k g f)
+  slot-below m b c a l h =
+      one-more (AtLeast s c) m (λ j p k g f. omega (arith, a j p k g f))
+      (λ k g f. h (before-is s (readerAt s m) k (f .ahead-of) .here) k g f)
 
   -- the slot's first absent page, once found, is the only one to bound
   pub absent-least : (b j k : ℕ) → FirstAbsent s (readerAt s j) k → b ≤ useFor s k j → AtLeast s b j
@@ -233,7 +257,8 @@ module _ (s : State) where
 
 module _ (s : State) (w : Valid s) where
   -- the head of the fetch order is, for the slot that its use key is of, the first absent page
-  pub first-wanted : (k : ℕ) → head (fetchOrder s) ≡ some k → (j : ℕ) × (j < 16) × T (sees s (readerAt s j) k) × (useKey s k ≡ useFor s k j) × FirstAbsent s (readerAt s j) k
+  pub first-wanted : (k : ℕ) → head (fetchOrder s) ≡ some k
+      → (j : ℕ) × (j < 16) × T (sees s (readerAt s j) k) × (useKey s k ≡ useFor s k j) × FirstAbsent s (readerAt s j) k
   first-wanted k e = (m .0, m .1, m .2, m .3, record { ahead-of = sees-before s r k (m .2); lacking = and-second (seen s k) _ h; first = first })
     where
       h : T (wanted s k)

@@ -45,7 +45,9 @@ module _ (s : State) (w : Valid s) where
       let q = before-is s r i (sees-before s r i b) in
       let one : 1 ≤ r .pace = placed-at s w j (p .here) .pace-low in
       less (pageOf k) (pageOf i) (λ _. k ≡ i) (λ l. absurd (omega (arith, time-rises s r k i one (p .past) l)))
-      (λ l. less (pageOf i) (pageOf k) (λ _. k ≡ i) (λ m. absurd (omega (arith, time-rises s r i k one (q .past) m))) (λ m. omega (arith, p .of-file, q .of-file)))
+      (λ l.
+      less (pageOf i) (pageOf k) (λ _. k ≡ i) (λ m. absurd (omega (arith, time-rises s r i k one (q .past) m)))
+      (λ m. omega (arith, p .of-file, q .of-file)))
 
   -- no two pages have one use key
   pub use-one : (k i : ℕ) → T (seen s k) → T (seen s i) → useKey s k ≡ useKey s i → k ≡ i
@@ -57,7 +59,8 @@ module _ (s : State) (w : Valid s) where
       let seats : seat s (m .0) ≡ seat s (n .0) = omega (arith, m .3, n .3) in
       let times : timeFor s (readerAt s (m .0)) k ≡ timeFor s (readerAt s (n .0)) i = omega (arith, m .3, n .3) in
       let slot : m .0 ≡ n .0 = seat-one (s .turn) (m .0) (n .0) (w .turn-high) (m .1) (n .1) seats in
-      same-time (n .0) k i (subst (λ j. T (sees s (readerAt s j) k)) slot (m .2)) (n .2) (subst (λ j. timeFor s (readerAt s j) k ≡ timeFor s (readerAt s (n .0)) i) slot times)
+      same-time (n .0) k i (subst (λ j. T (sees s (readerAt s j) k)) slot (m .2)) (n .2)
+      (subst (λ j. timeFor s (readerAt s j) k ≡ timeFor s (readerAt s (n .0)) i) slot times)
 
 -- where a page stands in the steal order, and its rank there
 pub data Stretch (s : State) (k : ℕ) : Type 0 where
@@ -185,7 +188,9 @@ module _ (s : State) (w : Valid s) where
       go none e = among-none files .1 (λ k c. no-victim .0 e k (and-first (cached s k) _ c)) ∙ sym e
       go (some v) e =
           let c = victim-cached v e in
-          head-is files v (and-both (cached s v) _ c (has (fileOf v) (omega (arith, w .cached-in v c .low)))) (λ k h. victim-top v e k (and-first (cached s k) _ h)) ∙ sym e
+          head-is files v (and-both (cached s v) _ c (has (fileOf v) (omega (arith, w .cached-in v c .low))))
+          (λ k h. victim-top v e k (and-first (cached s k) _ h))
+          ∙ sym e
 
   -- ---- the fetch order
 

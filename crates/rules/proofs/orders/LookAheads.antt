@@ -102,7 +102,8 @@ module _ (s : State) (r : Reader) (k i : ℕ) where
       let near : steps r i ≤ n = leb→le (steps r i) n (and-first (leb (steps r i) n) C rest) in
       and-both (before s r k) _ b
       (and-both (leb (steps r k) n) _ (le→leb (steps r k) n (omega arith))
-      (not-T (pruned s (between s r k)) (λ c. T-not (pruned s (between s r i)) (and-second (leb (steps r i) n) C rest) (pruned-rises s (between s r k) (between s r i) (between-rises l) c))))
+      (not-T (pruned s (between s r k)) (λ c.
+      T-not (pruned s (between s r i)) (and-second (leb (steps r i) n) C rest) (pruned-rises s (between s r k) (between s r i) (between-rises l) c))))
 
 -- ---- use keys
 

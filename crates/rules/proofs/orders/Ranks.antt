@@ -64,7 +64,8 @@ pub pages-at : (s : State) (Q : ℕ → Type 0) (k : ℕ) → All Q (pages s) �
 unfolding pages
 pages-at s Q k h p =
     range-at Q (fileOf k * 1024) (size s (fileOf k)) k
-    (range-at (λ f. All Q (range (f * 1024) (size s f))) 0 8 (fileOf k) (each-at Q (λ f. range (f * 1024) (size s f)) (range 0 8) h) (omega arith) (omega arith))
+    (range-at (λ f. All Q (range (f * 1024) (size s f))) 0 8 (fileOf k) (each-at Q (λ f. range (f * 1024) (size s f)) (range 0 8) h)
+    (omega arith) (omega arith))
     (omega arith) (omega arith)
 
 module _ (s : State) (k : ℕ) where
@@ -101,7 +102,11 @@ module _ (s : State) (w : Valid s) where
   unfolding behindLast
   behind-part =
       alike-falling (rank s) place (λ k. T (cached s k && not (ahead s k)) × Page s k)
-      (λ x y p q. rw (rank-behind s x (and-second (cached s x) (not (ahead s x)) (p .0)), rank-behind s y (and-second (cached s y) (not (ahead s y)) (q .0))) (same-leb (2 * never) (place y) (place x)))
+      (λ x y p q.
+      rw (
+        rank-behind s x (and-second (cached s x) (not (ahead s x)) (p .0)),
+        rank-behind s y (and-second (cached s y) (not (ahead s y)) (q .0)),
+      ) (same-leb (2 * never) (place y) (place x)))
       (only (λ k. cached s k && not (ahead s k)) (pages s)) (all-only (λ k. cached s k && not (ahead s k)) (Page s) (pages s) (pages-in s w))
 
   unseen-part : falling (rank s) (only (λ k. cached s k && (ahead s k && not (seen s k))) (pages s)) ≡ notSeen s
@@ -109,10 +114,13 @@ module _ (s : State) (w : Valid s) where
   unseen-part =
       alike-falling (rank s) place (λ k. T (cached s k && (ahead s k && not (seen s k))) × Page s k)
       (λ x y p q. rw (at x (p .0), at y (q .0)) (same-leb never (place y) (place x)))
-      (only (λ k. cached s k && (ahead s k && not (seen s k))) (pages s)) (all-only (λ k. cached s k && (ahead s k && not (seen s k))) (Page s) (pages s) (pages-in s w))
+      (only (λ k. cached s k && (ahead s k && not (seen s k))) (pages s))
+      (all-only (λ k. cached s k && (ahead s k && not (seen s k))) (Page s) (pages s) (pages-in s w))
     where
       at : (k : ℕ) → T (cached s k && (ahead s k && not (seen s k))) → rank s k ≡ never + place k
-      at k h = let r = and-second (cached s k) (ahead s k && not (seen s k)) h in rank-unseen s k (and-first (ahead s k) (not (seen s k)) r) (and-second (ahead s k) (not (seen s k)) r)
+      at k h =
+          let r = and-second (cached s k) (ahead s k && not (seen s k)) h in
+          rank-unseen s k (and-first (ahead s k) (not (seen s k)) r) (and-second (ahead s k) (not (seen s k)) r)
 
   seen-part : falling (rank s) (only (λ k. cached s k && seen s k) (pages s)) ≡ useTime s
   unfolding useTime
@@ -136,12 +144,17 @@ module _ (s : State) (w : Valid s) where
   -- the steal order is the cached pages by falling rank
   pub steal-ranked : stealOrder s ≡ falling (rank s) (cachedPages s)
   unfolding stealOrder cachedPages
-  steal-ranked = sym (first ∙ ap₂ _++_ (ap (falling (rank s)) (only-only (cached s) (λ k. not (ahead s k)) (pages s)) ∙ behind-part) (ap (falling (rank s)) (only-only (cached s) (λ k. not (not (ahead s k))) (pages s)) ∙ second))
+  steal-ranked =
+      sym (first
+      ∙ ap₂ _++_ (ap (falling (rank s)) (only-only (cached s) (λ k. not (ahead s k)) (pages s)) ∙ behind-part)
+      (ap (falling (rank s)) (only-only (cached s) (λ k. not (not (ahead s k))) (pages s)) ∙ second))
     where
       later : ℕ → Bool
       later k = cached s k && not (not (ahead s k))
 
-      first : falling (rank s) (only (cached s) (pages s)) ≡ falling (rank s) (only (λ k. not (ahead s k)) (only (cached s) (pages s))) ++ falling (rank s) (only (λ k. not (not (ahead s k))) (only (cached s) (pages s)))
+      first : falling (rank s) (only (cached s) (pages s))
+          ≡ falling (rank s) (only (λ k. not (ahead s k)) (only (cached s) (pages s))) ++ falling (rank s)
+          (only (λ k. not (not (ahead s k))) (only (cached s) (pages s)))
       first = split-falling (rank s) (λ k. not (ahead s k)) (λ k. T (cached s k) × Page s k)
           (λ x y p q h n. omega (arith, rank-behind s x h, rank-ahead y (q .1) (not-not (ahead s y) n)))
           (only (cached s) (pages s)) (all-only (cached s) (Page s) (pages s) (pages-in s w))
@@ -149,8 +162,20 @@ module _ (s : State) (w : Valid s) where
       second : falling (rank s) (only (λ k. cached s k && not (not (ahead s k))) (pages s)) ≡ notSeen s ++ useTime s
       second =
           split-falling (rank s) (λ k. not (seen s k)) (λ k. T (cached s k && not (not (ahead s k))) × Page s k)
-          (λ x y p q h n. omega (arith, rank-unseen s x (not-not (ahead s x) (and-second (cached s x) _ (p .0))) h, rank-seen s y (not-not (seen s y) n), seen-small s y (w .look-high) (not-not (seen s y) n)))
+          (λ x y p q h n.
+          omega (
+            arith,
+            rank-unseen s x (not-not (ahead s x) (and-second (cached s x) _ (p .0))) h,
+            rank-seen s y (not-not (seen s y) n),
+            seen-small s y (w .look-high) (not-not (seen s y) n),
+          ))
           (only later (pages s)) (all-only later (Page s) (pages s) (pages-in s w))
           ∙ ap₂ _++_
-          (ap (falling (rank s)) (only-only later (λ k. not (seen s k)) (pages s) ∙ ap (λ P. only P (pages s)) (fun-ext (λ k. unseen-test (cached s k) (ahead s k) (seen s k)))) ∙ unseen-part)
-          (ap (falling (rank s)) (only-only later (λ k. not (not (seen s k))) (pages s) ∙ ap (λ P. only P (pages s)) (fun-ext (λ k. seen-test (cached s k) (ahead s k) (seen s k) (seen-ahead s k)))) ∙ seen-part)
+          (ap (falling (rank s))
+          (only-only later (λ k. not (seen s k)) (pages s)
+          ∙ ap (λ P. only P (pages s)) (fun-ext (λ k. unseen-test (cached s k) (ahead s k) (seen s k))))
+          ∙ unseen-part)
+          (ap (falling (rank s))
+          (only-only later (λ k. not (not (seen s k))) (pages s)
+          ∙ ap (λ P. only P (pages s)) (fun-ext (λ k. seen-test (cached s k) (ahead s k) (seen s k) (seen-ahead s k))))
+          ∙ seen-part)

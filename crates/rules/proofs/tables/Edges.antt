@@ -12,12 +12,41 @@ use Rattle.rules.specs.Pages.{keyOf, pages, cachedPages, fetchingPages, 
 use Rattle.rules.specs.Readers.{noReader}
 use Rattle.rules.specs.UseTimes.{before, present, missing, pruned, sees, timeFor, useFor, useKey, ahead, seen}
 use Rattle.rules.specs.Orders.{behindLast, notSeen, useTime, stealOrder, fetchOrder, victim}
-use Rattle.rules.specs.Calls.{idle, attachOf, readRunning, readOf, stealOf, full, dropped, woken, landed, forFetch, arriveOf, detachOf, lostOf, prefetchOf}
+use Rattle.rules.specs.Calls.{
+  idle,
+  attachOf,
+  readRunning,
+  readOf,
+  stealOf,
+  full,
+  dropped,
+  woken,
+  landed,
+  forFetch,
+  arriveOf,
+  detachOf,
+  lostOf,
+  prefetchOf,
+}
 use Rattle.rules.specs.Run.{fetchOpen, readTurn, turnOf, turnsOf, runOf}
 use Rattle.rules.specs.Listings.{countIn, refusalIn, Written, listed, stealListOf, fetchListOf, clustersOf}
 use Rattle.rules.specs.Image.{conditionNumber, layout, bytesOf, imageOf, Saved, saveOf}
 use Rattle.rules.specs.Entries.{code, Call, attach, detach, read, arrive, lost, run, callOf}
-use Rattle.rules.specs.Lines.{split, isDecimal, decimalValue, isField, wellFormed, digitsOf, lineOf, numbersOf, obeyed, respondOf, linesOf, answers, programOf}
+use Rattle.rules.specs.Lines.{
+  split,
+  isDecimal,
+  decimalValue,
+  isField,
+  wellFormed,
+  digitsOf,
+  lineOf,
+  numbersOf,
+  obeyed,
+  respondOf,
+  linesOf,
+  answers,
+  programOf,
+}
 use Rattle.rules.specs.Schedules.{num}
 use Rattle.rules.proofs.tables.Soundings.{stateWith, reader, at, f0}
 use Rattle.rules.proofs.tables.Sample.{bytes}
@@ -108,7 +137,8 @@ lists =
     ∷ []
 
 pub lists-hold : Hold lists
-unfolding lists written bit putBit range each only put sorted least some-of pages held ends clusters before present missing pruned sees timeFor useFor useKey ahead seen behindLast notSeen useTime stealOrder fetchOrder listed stealListOf fetchListOf clustersOf
+unfolding lists written bit putBit range each only put sorted least some-of pages held ends clusters before present missing pruned
+    sees timeFor useFor useKey ahead seen behindLast notSeen useTime stealOrder fetchOrder listed stealListOf fetchListOf clustersOf
 lists-hold = refl
 
 -- ---- "The number returned is the refusal's, or the answer letter's ASCII code × 65,536 + (key + 1, or 0 without a page)"
@@ -209,7 +239,8 @@ orders =
     ∷ []
 
 pub orders-hold : Hold orders
-unfolding orders bit putBit range each only put sorted least some-of pages held ends clusters before present missing pruned sees timeFor useFor useKey ahead seen behindLast notSeen useTime stealOrder fetchOrder
+unfolding orders bit putBit range each only put sorted least some-of pages held ends clusters before present missing pruned sees
+    timeFor useFor useKey ahead seen behindLast notSeen useTime stealOrder fetchOrder
 orders-hold = refl
 
 -- ---- what Arrive, Lost, Detach and Steal leave
@@ -253,7 +284,9 @@ effects =
     ∷ []
 
 pub effects-hold : Hold effects
-unfolding effects leaves thenStolen bit putBit range each only put sorted least some-of pages cachedPages fetchingPages before present missing pruned sees timeFor useFor useKey ahead seen behindLast notSeen useTime stealOrder victim full dropped woken landed forFetch arriveOf lostOf detachOf stealOf
+unfolding effects leaves thenStolen bit putBit range each only put sorted least some-of pages cachedPages fetchingPages before
+    present missing pruned sees timeFor useFor useKey ahead seen behindLast notSeen useTime stealOrder victim full dropped woken landed
+    forFetch arriveOf lostOf detachOf stealOf
 effects-hold = refl
 
 -- ---- the program's lines
@@ -274,5 +307,8 @@ texts =
     ∷ []
 
 pub texts-hold : Hold texts
-unfolding texts bytes bit putBit range each only every put sorted least some-of pages cachedPages fetchingPages held ends clusters before present missing pruned sees timeFor useFor useKey ahead seen behindLast notSeen useTime stealOrder fetchOrder victim attachOf readRunning readOf stealOf full dropped woken landed forFetch arriveOf detachOf lostOf prefetchOf fetchOpen readTurn turnOf turnsOf runOf split isDecimal decimalValue isField wellFormed digitsOf lineOf obeyed respondOf linesOf answers programOf
+unfolding texts bytes bit putBit range each only every put sorted least some-of pages cachedPages fetchingPages held ends clusters
+    before present missing pruned sees timeFor useFor useKey ahead seen behindLast notSeen useTime stealOrder fetchOrder victim attachOf
+    readRunning readOf stealOf full dropped woken landed forFetch arriveOf detachOf lostOf prefetchOf fetchOpen readTurn turnOf turnsOf
+    runOf split isDecimal decimalValue isField wellFormed digitsOf lineOf obeyed respondOf linesOf answers programOf
 texts-hold = refl

@@ -103,5 +103,6 @@ table =
 
 -- every row holds, computed from the rules
 pub soundings : map (λ r. asked (r .question) (stateOf r)) table ≡ map (λ r. r .answer) table
-unfolding table putBit range each only put sorted least some-of bit pages before present missing pruned sees timeFor useFor useKey ahead seen behindLast notSeen useTime stealOrder fetchOrder held ends clusters
+unfolding table putBit range each only put sorted least some-of bit pages before present missing pruned sees timeFor useFor useKey
+    ahead seen behindLast notSeen useTime stealOrder fetchOrder held ends clusters
 soundings = refl

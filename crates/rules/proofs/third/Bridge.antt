@@ -54,7 +54,8 @@ away-at far s k j = go (attached (readerAt s j))
     r = readerAt s j
 
     go : (t : Bool) → away far (cond t (reader (r .file) (r .position) (lastPage (s .sizes) r)) vacant) (s .turn) (k / 1024) (k % 1024) j
-        ≡ cond (t && (eqb (r .file) (fileOf k) && (ltb (r .position) (pageOf k) && leb (pageOf k) (lastPage (s .sizes) r)))) (16 * (steps r k - 1) + seat s j) far
+        ≡ cond (t && (eqb (r .file) (fileOf k) && (ltb (r .position) (pageOf k) && leb (pageOf k) (lastPage (s .sizes) r))))
+        (16 * (steps r k - 1) + seat s j) far
     go true = refl
     go false = refl
 
@@ -91,7 +92,8 @@ module _ (s : State) (v : Valid s) (w : ℕ) (p : Premises s w) where
   use-not k j h = rw (is-false (before s (readerAt s j) k) h)
 
   -- the distance of a slot
-  away-in : (far k j : ℕ) → T (before s (readerAt s j) k) → away far (slots s j) (s .turn) (k / 1024) (k % 1024) j ≡ 16 * (steps (readerAt s j) k - 1) + seat s j
+  away-in : (far k j : ℕ) → T (before s (readerAt s j) k)
+      → away far (slots s j) (s .turn) (k / 1024) (k % 1024) j ≡ 16 * (steps (readerAt s j) k - 1) + seat s j
   away-in far k j h = away-at far s k j ∙ ap (λ t. cond t (16 * (steps (readerAt s j) k - 1) + seat s j) far) (is-true (before s (readerAt s j) k) h)
 
   away-not : (far k j : ℕ) → T (not (before s (readerAt s j) k)) → away far (slots s j) (s .turn) (k / 1024) (k % 1024) j ≡ far
@@ -109,16 +111,20 @@ module _ (s : State) (v : Valid s) (w : ℕ) (p : Premises s w) where
   -- a page of no higher rank is read no later
   rank-nearest : (far k i : ℕ) → rank s k ≤ rank s i → nearest far (slots s) (s .turn) k ≤ nearest far (slots s) (s .turn) i
   unfolding nearest useKey seen
-  rank-nearest far k i le = leq far (least 16 (at i) far) (λ _. least 16 (at k) far ≤ least 16 (at i) far) (λ l. omega (arith, least-far 16 (at k) far)) (λ l. read (least-met 16 (at i) far l))
+  rank-nearest far k i le =
+      leq far (least 16 (at i) far) (λ _. least 16 (at k) far ≤ least 16 (at i) far) (λ l. omega (arith, least-far 16 (at k) far))
+      (λ l. read (least-met 16 (at i) far l))
     where
       at : ℕ → ℕ → ℕ
       at k j = away far (slots s j) (s .turn) (k / 1024) (k % 1024) j
 
-      meets : (j j′ : ℕ) → j′ < 16 → T (before s (readerAt s j) i) → T (before s (readerAt s j′) k) → useFor s k j′ ≤ useFor s i j → least 16 (at k) far ≤ at i j
+      meets : (j j′ : ℕ) → j′ < 16 → T (before s (readerAt s j) i) → T (before s (readerAt s j′) k) → useFor s k j′ ≤ useFor s i j
+          → least 16 (at k) far ≤ at i j
       meets j j′ l′ h h′ le′ =
           let c = before-is s (readerAt s j) i h in
           let c′ = before-is s (readerAt s j′) k h′ in
-          let o = order (steps (readerAt s j′) k) (steps (readerAt s j) i) (seat s j′) (seat s j) w (paced i j h) (omega arith) (omega arith) (omega arith) (omega arith)
+          let o = order (steps (readerAt s j′) k) (steps (readerAt s j) i) (seat s j′) (seat s j) w (paced i j h) (omega arith) (omega arith)
+          (omega arith) (omega arith)
           (omega (arith, use-at k j′ h′, use-at i j h)) in
           omega (arith, away-in far i j h, away-in far k j′ h′, least-le 16 (at k) far j′ l′)
 
@@ -139,7 +145,8 @@ module _ (s : State) (v : Valid s) (w : ℕ) (p : Premises s w) where
           let up = least-le 16 (useFor s i) never j lj in
           met j (m .0) h (m .1) (omega (arith, m .2)) (omega (arith, m .2)) (side (before s (readerAt s (m .0)) k))
 
-      by : (j : ℕ) → j < 16 → least 16 (at i) far ≡ at i j → T (before s (readerAt s j) i) ⊎ T (not (before s (readerAt s j) i)) → least 16 (at k) far ≤ least 16 (at i) far
+      by : (j : ℕ) → j < 16 → least 16 (at i) far ≡ at i j → T (before s (readerAt s j) i) ⊎ T (not (before s (readerAt s j) i))
+          → least 16 (at k) far ≤ least 16 (at i) far
       by j l e (inl b) = omega (arith, found j l b)
       by j l e (inr b) = omega (arith, away-not far i j b, least-far 16 (at k) far)
 
@@ -150,4 +157,9 @@ module _ (s : State) (v : Valid s) (w : ℕ) (p : Premises s w) where
   pub victim-last : (n i : ℕ) → victim s ≡ some i → (k : ℕ) → T (cached s k)
       → nextUse (requests n (slots s) (s .turn)) k ≤ nextUse (requests n (slots s) (s .turn)) i
   victim-last n i e k c =
-      omega (arith, rank-nearest n k i (victim-top s v i e k c), next-use n (slots s) (s .turn) k (v .turn-high) (fits s v), next-use n (slots s) (s .turn) i (v .turn-high) (fits s v))
+      omega (
+        arith,
+        rank-nearest n k i (victim-top s v i e k c),
+        next-use n (slots s) (s .turn) k (v .turn-high) (fits s v),
+        next-use n (slots s) (s .turn) i (v .turn-high) (fits s v),
+      )

@@ -40,7 +40,8 @@ abbrev pub left : State → List ℕ → List ℕ → State
 left s held fetching = withFetching (withCached (withReaders (nextTurn s) (movedOn (s .sizes) (s .readers) (s .turn))) held) fetching
 
 -- a reader that is in its file goes on where it is not yet at the last page
-goes-below : (sizes : List ℕ) (r : Reader) → (T (attached r) → r .position ≤ lastPage sizes r) → goes sizes r ≡ (attached r && ltb (r .position) (lastPage sizes r))
+goes-below : (sizes : List ℕ) (r : Reader) → (T (attached r) → r .position ≤ lastPage sizes r)
+    → goes sizes r ≡ (attached r && ltb (r .position) (lastPage sizes r))
 unfolding goes
 goes-below sizes r = go (attached r)
   where
@@ -51,7 +52,8 @@ goes-below sizes r = go (attached r)
         (λ ne. less (r .position) (lastPage sizes r) (λ b. true ≡ b) (λ _. refl) (λ h. absurd (omega (arith, l tt))))
 
 -- such a reader's slot after its turn
-slot-on : (sizes : List ℕ) (r : Reader) → (T (attached r) → r .position ≤ lastPage sizes r) → scanned sizes (cond (goes sizes r) (onward r) r) ≡ advance (scanned sizes r)
+slot-on : (sizes : List ℕ) (r : Reader) → (T (attached r) → r .position ≤ lastPage sizes r)
+    → scanned sizes (cond (goes sizes r) (onward r) r) ≡ advance (scanned sizes r)
 unfolding scanned advance
 slot-on sizes r l = rw (goes-below sizes r l) (go (attached r) (ltb (r .position) (lastPage sizes r)) refl refl)
   where
@@ -62,11 +64,14 @@ slot-on sizes r l = rw (goes-below sizes r l) (go (attached r) (ltb (r .position
     go false b e e′ = rw e
 
 -- what such a reader reads at its turn
-pub page-now : (sizes : List ℕ) (r : Reader) → (T (attached r) → r .position ≤ lastPage sizes r) → pageAt (scanned sizes r) 0 ≡ cond (goes sizes r) (some (nextKey r)) none
+pub page-now : (sizes : List ℕ) (r : Reader) → (T (attached r) → r .position ≤ lastPage sizes r)
+    → pageAt (scanned sizes r) 0 ≡ cond (goes sizes r) (some (nextKey r)) none
 unfolding scanned pageAt
 page-now sizes r l = rw (goes-below sizes r l) (go (attached r))
   where
-    go : (a : Bool) → pageAt (cond a (reader (r .file) (r .position) (lastPage sizes r)) vacant) 0 ≡ cond (a && ltb (r .position) (lastPage sizes r)) (some (nextKey r)) none
+    go : (a : Bool)
+        → pageAt (cond a (reader (r .file) (r .position) (lastPage sizes r)) vacant) 0
+        ≡ cond (a && ltb (r .position) (lastPage sizes r)) (some (nextKey r)) none
     go true =
         let here : r .position + 0 ≡ r .position = omega arith in
         let k : code (r .file) (r .position + 0) ≡ nextKey r = omega arith in
@@ -79,9 +84,20 @@ module _ (s : State) (v : Valid s) where
   position-in j a = placed-at s v j a .position-in
 
   -- slot j's record after the turn
-  moved-at : (j : ℕ) → getD (movedOn (s .sizes) (s .readers) (s .turn)) j noReader ≡ cond (eqb (s .turn) j) (cond (goes (s .sizes) (readerAt s j)) (onward (readerAt s j)) (readerAt s j)) (readerAt s j)
-  moved-at j = key (s .turn) j (λ b. getD (movedOn (s .sizes) (s .readers) (s .turn)) j noReader ≡ cond b (cond (goes (s .sizes) (readerAt s j)) (onward (readerAt s j)) (readerAt s j)) (readerAt s j))
-      (λ e. subst (λ i. getD (movedOn (s .sizes) (s .readers) (s .turn)) i noReader ≡ cond (goes (s .sizes) (readerAt s i)) (onward (readerAt s i)) (readerAt s i)) e (own (goesNow s)))
+  moved-at : (j : ℕ)
+      → getD (movedOn (s .sizes) (s .readers) (s .turn)) j noReader
+      ≡ cond (eqb (s .turn) j) (cond (goes (s .sizes) (readerAt s j)) (onward (readerAt s j)) (readerAt s j)) (readerAt s j)
+  moved-at j =
+      key (s .turn) j
+      (λ b.
+      getD (movedOn (s .sizes) (s .readers) (s .turn)) j noReader
+      ≡ cond b (cond (goes (s .sizes) (readerAt s j)) (onward (readerAt s j)) (readerAt s j)) (readerAt s j))
+      (λ e.
+      subst
+      (λ i.
+      getD (movedOn (s .sizes) (s .readers) (s .turn)) i noReader
+      ≡ cond (goes (s .sizes) (readerAt s i)) (onward (readerAt s i)) (readerAt s i))
+      e (own (goesNow s)))
       (λ ne. other ne (goesNow s))
     where
       own : (t : Bool) → getD (cond t (set (s .readers) (s .turn) (onward (nowAt s))) (s .readers)) (s .turn) noReader ≡ cond t (onward (nowAt s)) (nowAt s)
@@ -108,7 +124,11 @@ module _ (s : State) (v : Valid s) where
     where
       go : (j : ℕ) → scanned (s .sizes) (cond (eqb (s .turn) j) (cond (goes (s .sizes) (readerAt s j)) (onward (readerAt s j)) (readerAt s j)) (readerAt s j))
           ≡ cond (eqb (s .turn) j) (advance (scanned (s .sizes) (readerAt s j))) (scanned (s .sizes) (readerAt s j))
-      go j = key (s .turn) j (λ b. scanned (s .sizes) (cond b (cond (goes (s .sizes) (readerAt s j)) (onward (readerAt s j)) (readerAt s j)) (readerAt s j)) ≡ cond b (advance (scanned (s .sizes) (readerAt s j))) (scanned (s .sizes) (readerAt s j)))
+      go j =
+          key (s .turn) j
+          (λ b.
+          scanned (s .sizes) (cond b (cond (goes (s .sizes) (readerAt s j)) (onward (readerAt s j)) (readerAt s j)) (readerAt s j))
+          ≡ cond b (advance (scanned (s .sizes) (readerAt s j))) (scanned (s .sizes) (readerAt s j)))
           (λ _. slot-on (s .sizes) (readerAt s j) (position-in j)) (λ _. refl)
 
   -- the premises are kept where no other page is in fetch

@@ -44,7 +44,8 @@ module _ (s : State) {A : Set} where
   hit-laid (evicts g l a f v o lv av e) = rw (is-true (goesNow s) g)
 
   -- the set after it has the page
-  serves-on : {c : ℕ} {h : List ℕ} (R : List ℕ) (Bs : List Set) → Step s A c h → count 8192 A ≤ s .frames → Serves 8192 (s .frames) R Bs → Serves 8192 (s .frames) (h ++ R) (onHit h A Bs)
+  serves-on : {c : ℕ} {h : List ℕ} (R : List ℕ) (Bs : List Set) → Step s A c h → count 8192 A ≤ s .frames
+      → Serves 8192 (s .frames) R Bs → Serves 8192 (s .frames) (h ++ R) (onHit h A Bs)
   unfolding Serves
   serves-on R Bs (passes g e) l r = r
   serves-on R Bs (finds g a e) l r = (subst (λ S. T (S (keyNow s))) (sym e) a, l, r)
@@ -55,13 +56,29 @@ module _ (s : State) {A : Set} where
   cost-on : {c : ℕ} {h : List ℕ} (Bs : List Set) (d : ℕ) → Step s A c h → fetchesIn 8192 A Bs ≡ d → fetchesIn 8192 (cached s) (onHit h A Bs) ≡ c + d
   unfolding fetchesIn
   cost-on Bs d (passes g e) r = ap (λ S. fetchesIn 8192 S Bs) (sym e) ∙ omega arith
-  cost-on Bs d (finds g a e) r = omega (arith, ap (λ S. count 8192 (added (cached s) S)) e, same-count 8192 (added (cached s) (cached s)) empty (λ j. old (cached s j) (cached s j) (λ i. i)), count-empty 8192)
+  cost-on Bs d (finds g a e) r =
+      omega (
+        arith,
+        ap (λ S. count 8192 (added (cached s) S)) e,
+        same-count 8192 (added (cached s) (cached s)) empty (λ j. old (cached s j) (cached s j) (λ i. i)),
+        count-empty 8192,
+      )
   cost-on Bs d (fills g low a f e) r =
       let k : ℕ = keyNow s in
-      omega (arith, ap (λ S. count 8192 (added (cached s) S)) e, added-one 8192 k (cached s) (plus (cached s) k) low (num-out (cached s k) a) (in-self k (cached s k)) (λ j ne i. but-key k j (cached s j) ne i))
+      omega (
+        arith,
+        ap (λ S. count 8192 (added (cached s) S)) e,
+        added-one 8192 k (cached s) (plus (cached s) k) low (num-out (cached s k) a) (in-self k (cached s k))
+            (λ j ne i. but-key k j (cached s j) ne i),
+      )
   cost-on Bs d (evicts g low a f v o lv av e) r =
       let k : ℕ = keyNow s in
-      omega (arith, ap (λ S. count 8192 (added (cached s) S)) e, added-one 8192 k (cached s) (swap (cached s) v k) low (num-out (cached s k) a) (in-self k _) (λ j ne i. and-second (not (eqb v j)) (cached s j) (but-key k j _ ne i)))
+      omega (
+        arith,
+        ap (λ S. count 8192 (added (cached s) S)) e,
+        added-one 8192 k (cached s) (swap (cached s) v k) low (num-out (cached s k) a) (in-self k _)
+            (λ j ne i. and-second (not (eqb v j)) (cached s j) (but-key k j _ ne i)),
+      )
 
 -- an equal cost, and an equal set
 cost-as : {rs : Requests} {F : ℕ} {A : Set} (c d : ℕ) → c ≡ d → Furthest 8192 F rs A c → Furthest 8192 F rs A d
@@ -94,7 +111,8 @@ module _ (n : ℕ) (s : State) (v : Valid s) (w : ℕ) (p : Premises s w) where
   asks-not g = ap (λ o. o ∷ more) (asked s v ∙ ap (λ b. cond b (some (keyNow s)) none) (is-false (goesNow s) g))
 
   -- a turn of the policy
-  furthest-on : {A : Set} {c : ℕ} {h : List ℕ} {d : ℕ} → Step s A c h → Furthest 8192 (s .frames) more A d → Furthest 8192 (s .frames) (requests (suc n) (slots s) (s .turn)) (cached s) (c + d)
+  furthest-on : {A : Set} {c : ℕ} {h : List ℕ} {d : ℕ} → Step s A c h → Furthest 8192 (s .frames) more A d
+      → Furthest 8192 (s .frames) (requests (suc n) (slots s) (s .turn)) (cached s) (c + d)
   furthest-on {d = d} (passes g e) r = rw (asks-not g) (cost-as d (0 + d) (omega arith) (idle (set-as e r)))
   furthest-on {d = d} (finds g a e) r = rw (asks g) (cost-as d (0 + d) (omega arith) (hit a (set-as e r)))
   furthest-on {d = d} (fills g low a f e) r = rw (asks g) (cost-as (suc d) (1 + d) (omega arith) (fill low a f (set-as e r)))
@@ -108,7 +126,8 @@ module _ (n : ℕ) (s : State) (v : Valid s) (w : ℕ) (p : Premises s w) where
   unfolding laidDown requests
   step t (turn-case {held} {fetching} same d) after-valid hits sets fetches r =
       let e : slots (left s held fetching) ≡ after (slots s) (s .turn) = slots-left s v held fetching in
-      let next : Furthest 8192 (s .frames) more (cached (left s held fetching)) fetches = subst (λ σ. Furthest 8192 (s .frames) (requests n σ ((s .turn + 1) % 16)) (cached (left s held fetching)) fetches) e (r .furthest) in
+      let next : Furthest 8192 (s .frames) more (cached (left s held fetching)) fetches =
+      subst (λ σ. Furthest 8192 (s .frames) (requests n σ ((s .turn + 1) % 16)) (cached (left s held fetching)) fetches) e (r .furthest) in
       record {
         reads-laid = ap₂ _++_ (hit-laid s d) (r .reads-laid);
         serves = serves-on s hits sets d (counted (left s held fetching) after-valid) (r .serves);

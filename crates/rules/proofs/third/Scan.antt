@@ -28,7 +28,9 @@ next-head (some x) rs k P y n = key x k (λ b. P (cond b 0 (suc (nextUse rs k)))
 next-len : (n : ℕ) (g : ℕ → Option ℕ) (k : ℕ) → nextUse (listed n g) k ≤ n
 unfolding listed nextUse
 next-len zero g k = zero-le
-next-len (suc n) g k = let ih = next-len n (λ i. g (suc i)) k in next-head (g 0) (listed n (λ i. g (suc i))) k (λ m. m ≤ suc n) (λ _. zero-le) (λ _. omega arith)
+next-len (suc n) g k =
+    let ih = next-len n (λ i. g (suc i)) k in
+    next-head (g 0) (listed n (λ i. g (suc i))) k (λ m. m ≤ suc n) (λ _. zero-le) (λ _. omega arith)
 
 next-le : (n : ℕ) (g : ℕ → Option ℕ) (k i : ℕ) → g i ≡ some k → nextUse (listed n g) k ≤ i
 unfolding listed nextUse
@@ -136,7 +138,9 @@ turnAt σ u i = pageAt (σ ((u + i) % 16)) (i / 16)
 turn-suc : (σ : Slots) (u i : ℕ) → u < 16 → turnAt (after σ u) ((u + 1) % 16) i ≡ turnAt σ u (suc i)
 turn-suc σ u i l =
     let same : ((u + 1) % 16 + i) % 16 ≡ (u + suc i) % 16 = omega arith in
-    rw same (key u ((u + suc i) % 16) (λ b. pageAt (cond b (advance (σ ((u + suc i) % 16))) (σ ((u + suc i) % 16))) (i / 16) ≡ pageAt (σ ((u + suc i) % 16)) (suc i / 16))
+    rw same
+    (key u ((u + suc i) % 16)
+    (λ b. pageAt (cond b (advance (σ ((u + suc i) % 16))) (σ ((u + suc i) % 16))) (i / 16) ≡ pageAt (σ ((u + suc i) % 16)) (suc i / 16))
     (λ e. advance-page (σ ((u + suc i) % 16)) (i / 16) ∙ ap (pageAt (σ ((u + suc i) % 16))) (omega (arith, round-on u i l e)))
     (λ ne. ap (pageAt (σ ((u + suc i) % 16))) (round-in u i l ne)))
 
@@ -144,7 +148,8 @@ requests-listed : (n : ℕ) (σ : Slots) (u : ℕ) → u < 16 → requests n σ 
 unfolding requests listed
 requests-listed zero σ u l = refl
 requests-listed (suc n) σ u l =
-    ap₂ _∷_ (ap (λ j. pageAt (σ j) 0) (omega arith)) (requests-listed n (after σ u) ((u + 1) % 16) (omega arith) ∙ ap (listed n) (fun-ext (λ i. turn-suc σ u i l)))
+    ap₂ _∷_ (ap (λ j. pageAt (σ j) 0) (omega arith))
+    (requests-listed n (after σ u) ((u + 1) % 16) (omega arith) ∙ ap (listed n) (fun-ext (λ i. turn-suc σ u i l)))
 
 -- ---- the least distance
 
@@ -161,7 +166,9 @@ comes-cases g c z f p P y n =
 comes-true : (g c z f p : ℕ) → g ≡ f → c ≤ p → p < z → comes g c z f p ≡ true
 comes-true g c z f p e l h =
     key g f (λ b. (b && (ltb c (p + 1) && leb (p + 1) z)) ≡ true)
-    (λ _. less c (p + 1) (λ b. (b && leb (p + 1) z) ≡ true) (λ _. leq (p + 1) z (λ b. b ≡ true) (λ _. refl) (λ k. absurd (omega arith))) (λ k. absurd (omega arith)))
+    (λ _.
+    less c (p + 1) (λ b. (b && leb (p + 1) z) ≡ true) (λ _. leq (p + 1) z (λ b. b ≡ true) (λ _. refl) (λ k. absurd (omega arith)))
+    (λ k. absurd (omega arith)))
     (λ ne. absurd (ne e))
 
 -- how many turns off slot j's read of page p + 1 of file f is, from turn u; far, where it does not come
@@ -180,9 +187,13 @@ away-reads : (far : ℕ) (s : Slot) (u f p j : ℕ) → u < 16 → j < 16 → (P
 unfolding away pageAt
 away-reads far vacant u f p j lu lj P n y = n
 away-reads far (reader g c z) u f p j lu lj P n y =
-    comes-cases g c z f p (λ b. P (cond b (16 * (p + 1 - c - 1) + distance u j) far)) (λ e l h. y (16 * (p + 1 - c - 1) + distance u j) (seat-turn u j (p + 1 - c - 1) lu lj) (paged e l h)) n
+    comes-cases g c z f p (λ b. P (cond b (16 * (p + 1 - c - 1) + distance u j) far))
+    (λ e l h. y (16 * (p + 1 - c - 1) + distance u j) (seat-turn u j (p + 1 - c - 1) lu lj) (paged e l h)) n
   where
-    paged : g ≡ f → c ≤ p → p < z → cond (ltb (c + (16 * (p + 1 - c - 1) + distance u j) / 16) z) (some (code g (c + (16 * (p + 1 - c - 1) + distance u j) / 16))) none ≡ some (code f p)
+    paged : g ≡ f → c ≤ p → p < z
+        → cond (ltb (c + (16 * (p + 1 - c - 1) + distance u j) / 16) z) (some (code g (c + (16 * (p + 1 - c - 1) + distance u j) / 16)))
+        none
+        ≡ some (code f p)
     paged e l h =
         let at = sixteen (16 * (p + 1 - c - 1) + distance u j) (p + 1 - c - 1) (distance u j) refl (omega arith) in
         rw (at .0) (less (c + (p + 1 - c - 1)) z (λ b. cond b (some (code g (c + (p + 1 - c - 1)))) none ≡ some (code f p))
@@ -193,7 +204,10 @@ reads-away : (far : ℕ) (s : Slot) (u f p j q : ℕ) → Fits s → p < 1024 �
 unfolding away pageAt Fits
 reads-away far vacant u f p j q w lp h = let z : _≡_ {A = ℕ} 0 1 = cc in absurd (omega arith)
 reads-away far (reader g c z) u f p j q w lp h =
-    less (c + q) z (λ b. cond b (some (code g (c + q))) none ≡ some (code f p) → cond (comes g c z f p) (16 * (p + 1 - c - 1) + distance u j) far ≡ 16 * q + distance u j)
+    less (c + q) z
+    (λ b.
+    cond b (some (code g (c + q))) none ≡ some (code f p)
+    → cond (comes g c z f p) (16 * (p + 1 - c - 1) + distance u j) far ≡ 16 * q + distance u j)
     (λ l e.
     let codes : code g (c + q) ≡ code f p = cc in
     let file : g ≡ f = omega arith in

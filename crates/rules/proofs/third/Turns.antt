@@ -16,7 +16,23 @@ use Rattle.rules.specs.Pages.{size, cached, inFetch, Page, pages, cached
 use Rattle.rules.specs.Readers.{noReader, readerAt, attached, byCondition, lastPage, nextKey, awaits, inCondition, onward}
 use Rattle.rules.specs.Valid.{Valid, Placed, ReaderIn, PageMap}
 use Rattle.rules.specs.Orders.{victim}
-use Rattle.rules.specs.Calls.{reply, without, withReaders, withCached, withFetching, withReader, withFetch, readRunning, readOf, full, dropped, woken, landed, forFetch, arriveOf}
+use Rattle.rules.specs.Calls.{
+  reply,
+  without,
+  withReaders,
+  withCached,
+  withFetching,
+  withReader,
+  withFetch,
+  readRunning,
+  readOf,
+  full,
+  dropped,
+  woken,
+  landed,
+  forFetch,
+  arriveOf,
+}
 use Rattle.rules.specs.Run.{Turn, fetchOpen, onFetch, nextTurn, ended, readTurn, turnOf}
 use Rattle.rules.specs.Schedules.{Set, count}
 use Rattle.rules.specs.Third.{goes}
@@ -107,7 +123,8 @@ read-hit s u l e q c = rw (low-slot u l, e, q, c)
 abbrev awaiting : State → ℕ → State
 awaiting s u = withFetch (withReader s u (inCondition Waiting (readerAt s u))) (nextKey (readerAt s u))
 
-read-fetch : (s : State) (u : ℕ) → u < 16 → readerAt s u .condition ≡ Running → atEnd (s .sizes) (readerAt s u) ≡ false → cached s (nextKey (readerAt s u)) ≡ false
+read-fetch : (s : State) (u : ℕ) → u < 16 → readerAt s u .condition ≡ Running → atEnd (s .sizes) (readerAt s u) ≡ false
+    → cached s (nextKey (readerAt s u)) ≡ false
     → inFetch s (nextKey (readerAt s u)) ≡ false → readOf s u ≡ reply (awaiting s u) (Fetch (readerAt s u .file) (readerAt s u .position + 1))
 unfolding readOf readRunning
 read-fetch s u l e q c f = rw (low-slot u l, e, q, c, f)
@@ -195,7 +212,8 @@ module _ (s : State) (v : Valid s) (closed : (k : ℕ) → T (inFetch s k) → �
     unfolding woken
     woken-paused = map-set-same (woken (keyNow s)) (s .readers) (s .turn) (inCondition Waiting (nowAt s)) noReader
         (ap (λ b. cond b (inCondition Running (nowAt s)) (inCondition Waiting (nowAt s))) (is-true (eqb (keyNow s) (keyNow s)) (eqb-refl (keyNow s)))
-        ∙ ap (λ c. inCondition c (nowAt s)) (sym (awake (s .turn) here)) ∙ sym (woken-still (nowAt s .condition) (nowAt s) _ (awake (s .turn)))) ∙ woken-all (keyNow s)
+        ∙ ap (λ c. inCondition c (nowAt s)) (sym (awake (s .turn) here)) ∙ sym (woken-still (nowAt s .condition) (nowAt s) _ (awake (s .turn))))
+        ∙ woken-all (keyNow s)
 
     -- the cached map after Arrive, by what is dropped
     abbrev stored : Option ℕ → List ℕ
@@ -206,18 +224,24 @@ module _ (s : State) (v : Valid s) (closed : (k : ℕ) → T (inFetch s k) → �
     emptied = without (putBit (s .fetching) (keyNow s) 1) (keyNow s)
 
     eased-map : PageMap (onOption (dropped s) (without (s .cached)) (s .cached))
-    eased-map = option-all PageMap (dropped s) (without (s .cached)) (s .cached) (λ k _. map-put (s .cached) k 0 (omega arith) (v .cached-map)) (λ _. v .cached-map)
+    eased-map =
+        option-all PageMap (dropped s) (without (s .cached)) (s .cached) (λ k _. map-put (s .cached) k 0 (omega arith) (v .cached-map))
+        (λ _. v .cached-map)
 
     -- a turn that meets F
     module _ (out : T (not (cached s (keyNow s)))) where
       -- the first Read puts the page in fetch
       asked : readOf s (s .turn) ≡ reply (awaiting s (s .turn)) (Fetch (nowAt s .file) (nowAt s .position + 1))
-      asked = read-fetch s (s .turn) (v .turn-high) (awake (s .turn) here) short (is-false (cached s (keyNow s)) out) (is-false (inFetch s (keyNow s)) (not-T (inFetch s (keyNow s)) (closed (keyNow s))))
+      asked =
+          read-fetch s (s .turn) (v .turn-high) (awake (s .turn) here) short (is-false (cached s (keyNow s)) out)
+          (is-false (inFetch s (keyNow s)) (not-T (inFetch s (keyNow s)) (closed (keyNow s))))
 
       -- Arrive drops what would have been dropped before the turn
       dropped-same : dropped (awaiting s (s .turn)) ≡ dropped s
       unfolding dropped full victim cachedPages pages
-      dropped-same = ap (λ l. cond (full s) (head l) none) (steal-same s v (s .turn) (v .turn-high) here (putBit (s .fetching) (keyNow s) 1) (rw asked at (read-kept s (s .turn) v)))
+      dropped-same =
+          ap (λ l. cond (full s) (head l) none)
+          (steal-same s v (s .turn) (v .turn-high) here (putBit (s .fetching) (keyNow s) 1) (rw asked at (read-kept s (s .turn) v)))
 
       landed-at : landed (awaiting s (s .turn)) (keyNow s) ≡ withFetching (withCached s (stored (dropped s))) emptied
       unfolding landed
@@ -227,9 +251,11 @@ module _ (s : State) (v : Valid s) (closed : (k : ℕ) → T (inFetch s k) → �
       unfolding arriveOf forFetch
       arrived =
           let a : ltb 7 (nowAt s .file) ≡ false = less 7 (nowAt s .file) (λ b. b ≡ false) (λ l. absurd (omega (arith, placed .file-high))) (λ _. refl) in
-          let b : eqb (size s (nowAt s .file)) 0 ≡ false = key (size s (nowAt s .file)) 0 (λ b. b ≡ false) (λ e. absurd (omega (arith, placed .file-there))) (λ _. refl) in
+          let b : eqb (size s (nowAt s .file)) 0 ≡ false =
+          key (size s (nowAt s .file)) 0 (λ b. b ≡ false) (λ e. absurd (omega (arith, placed .file-there))) (λ _. refl) in
           let c : leb 1 (nowAt s .position + 1) ≡ true = leq 1 (nowAt s .position + 1) (λ b. b ≡ true) (λ _. refl) (λ l. absurd (omega arith)) in
-          let d : leb (nowAt s .position + 1) (size s (nowAt s .file)) ≡ true = leq (nowAt s .position + 1) (size s (nowAt s .file)) (λ b. b ≡ true) (λ _. refl) (λ l. absurd (omega (arith, inside))) in
+          let d : leb (nowAt s .position + 1) (size s (nowAt s .file)) ≡ true =
+          leq (nowAt s .position + 1) (size s (nowAt s .file)) (λ b. b ≡ true) (λ _. refl) (λ l. absurd (omega (arith, inside))) in
           rw (a, b, c, d, is-true (on (putBit (s .fetching) (keyNow s) 1) (keyNow s)) (put-on (s .fetching) (v .fetching-map) (keyNow s) low))
 
       -- the second Read finds the page
@@ -243,9 +269,11 @@ module _ (s : State) (v : Valid s) (closed : (k : ℕ) → T (inFetch s k) → �
 
       -- the pages in fetch are as before
       emptied-same : on emptied ≡ inFetch s
-      emptied-same = fun-ext (λ j. off-put (putBit (s .fetching) (keyNow s) 1) (map-put (s .fetching) (keyNow s) 1 (omega arith) (v .fetching-map)) (keyNow s) low j
+      emptied-same =
+          fun-ext (λ j. off-put (putBit (s .fetching) (keyNow s) 1) (map-put (s .fetching) (keyNow s) 1 (omega arith) (v .fetching-map)) (keyNow s) low j
           ∙ ap (λ b. not (eqb (keyNow s) j) && b) (on-put (s .fetching) (v .fetching-map) (keyNow s) low j)
-          ∙ key (keyNow s) j (λ b. (not b && (b || inFetch s j)) ≡ inFetch s j) (λ _. sym (is-false (inFetch s j) (not-T (inFetch s j) (closed j)))) (λ _. refl))
+          ∙ key (keyNow s) j (λ b. (not b && (b || inFetch s j)) ≡ inFetch s j)
+          (λ _. sym (is-false (inFetch s j) (not-T (inFetch s j) (closed j)))) (λ _. refl))
 
       fill-step : count 8192 (cached s) < s .frames → Step s (on (stored none)) 1 (keyNow s ∷ [])
       fill-step l = fills on-goes low out l (fun-ext (on-put (s .cached) (v .cached-map) (keyNow s) low))
@@ -256,7 +284,9 @@ module _ (s : State) (v : Valid s) (closed : (k : ℕ) → T (inFetch s k) → �
           let c : T (cached s k) = dropped-some s v k e in
           let p : Page s k = v .cached-in k c in
           let f : (full s ≡ true) × (victim s ≡ some k) = full-dropped s v k e in
-          evicts on-goes low out (omega (arith, leb-true (s .frames) (length (cachedPages s)) (f .0), cached-count s (v .sizes-high) (v .cached-in))) k (f .1) (p .low) c
+          evicts on-goes low out
+          (omega (arith, leb-true (s .frames) (length (cachedPages s)) (f .0), cached-count s (v .sizes-high) (v .cached-in))) k (f .1)
+          (p .low) c
           (fun-ext (λ j. on-put (without (s .cached) k) (map-put (s .cached) k 0 (omega arith) (v .cached-map)) (keyNow s) low j
           ∙ ap (λ b. eqb (keyNow s) j || b) (off-put (s .cached) (v .cached-map) k (p .low) j)))
 

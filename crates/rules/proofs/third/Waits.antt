@@ -24,11 +24,22 @@ paused s u = set (s .readers) u (inCondition Waiting (readerAt s u))
 module _ (s : State) (v : Valid s) (u : ℕ) (l : u < 16) (here : T (attached (readerAt s u))) where
   paused-alike : (j : ℕ) → AlikeReader (getD (paused s u) j noReader) (readerAt s j)
   paused-alike j = key u j (λ _. AlikeReader (getD (paused s u) j noReader) (readerAt s j))
-      (λ e. rw (← e, getD-set-same (s .readers) u _ noReader (omega arith)) (record { attached-same = sym (is-true _ here); file-same = refl; pace-same = refl; position-same = refl }))
+      (λ e.
+      rw (← e, getD-set-same (s .readers) u _ noReader (omega arith))
+      (record { attached-same = sym (is-true _ here); file-same = refl; pace-same = refl; position-same = refl }))
       (λ ne. alike-same (getD-set-other (s .readers) u j _ noReader (λ e. ne (sym e))))
 
   -- the steal order once reader u waits, whatever is in fetch and whatever T: q does not look at the fetch map (present-same, in Local.antt). Where it does,
   -- this needs T = 0, which the third statement has.
-  pub steal-same : (fetching : List ℕ) → Valid (withFetching (withReaders s (paused s u)) fetching) → stealOrder (withFetching (withReaders s (paused s u)) fetching) ≡ stealOrder s
+  pub steal-same : (fetching : List ℕ) → Valid (withFetching (withReaders s (paused s u)) fetching)
+      → stealOrder (withFetching (withReaders s (paused s u)) fetching) ≡ stealOrder s
   steal-same fetching w = steal-local (withFetching (withReaders s (paused s u)) fetching) s w v
-      (λ f. record { turn-same = refl; look-same = refl; time-same = refl; size-same = refl; readers-same = λ j. inl (paused-alike j); bits-same = λ k _. refl })
+      (λ f.
+      record {
+        turn-same = refl;
+        look-same = refl;
+        time-same = refl;
+        size-same = refl;
+        readers-same = λ j. inl (paused-alike j);
+        bits-same = λ k _. refl;
+      })

@@ -61,7 +61,9 @@ lead-premises = record {
 
 -- 16,384 turns, the most that are permitted, fetch seven times for two frames and six pages: pages are given up, and one is fetched twice
 pub lead-answer : runOf lead 16384 .answer ≡ Ran 7 9
-unfolding bit putBit range each only put sorted least some-of pages cachedPages fetchingPages before present missing pruned sees timeFor useFor useKey ahead seen behindLast notSeen useTime stealOrder victim readRunning readOf full dropped woken landed forFetch arriveOf fetchOpen readTurn turnOf turnsOf runOf
+unfolding bit putBit range each only put sorted least some-of pages cachedPages fetchingPages before present missing pruned sees
+    timeFor useFor useKey ahead seen behindLast notSeen useTime stealOrder victim readRunning readOf full dropped woken landed forFetch
+    arriveOf fetchOpen readTurn turnOf turnsOf runOf
 lead-answer = refl
 
 -- the first reader's six pages, and the second's three between them
