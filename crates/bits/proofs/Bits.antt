@@ -59,7 +59,9 @@ pub or-is : (words : List ℕ) (k : ℕ) → set words (k / 64) (bitOr (getD wor
 or-is words k = rw (shl-one (k % 64) (omega arith), or-put (getD words (k / 64) 0) (k % 64)) (sym (put-is words k 1))
 
 -- what `clear_bit` writes
-pub xor-is : (words : List ℕ) (k : ℕ) → set words (k / 64) (bitXor (getD words (k / 64) 0) (bitAnd (getD words (k / 64) 0) (1 * 2 ^ (k % 64) % 2 ^ 64))) ≡ putBit words k 0
+pub xor-is : (words : List ℕ) (k : ℕ)
+    → set words (k / 64) (bitXor (getD words (k / 64) 0) (bitAnd (getD words (k / 64) 0) (1 * 2 ^ (k % 64) % 2 ^ 64)))
+    ≡ putBit words k 0
 xor-is words k = rw (shl-one (k % 64) (omega arith), xor-put (getD words (k / 64) 0) (k % 64)) (sym (put-is words k 0))
 
 -- the bit of k is v

@@ -36,7 +36,9 @@ ones-add words a m (suc n) =
 -- equal bits are counted alike
 pub ones-same : (xs : List ℕ) (a : ℕ) (ys : List ℕ) (b n : ℕ) → Same xs a ys b n → ones xs a n ≡ ones ys b n
 ones-same xs a ys b zero s = ones-none xs a ∙ sym (ones-none ys b)
-ones-same xs a ys b (suc n) s = rw (ones-more xs a n, ones-more ys b n) (ap₂ (λ (x y : ℕ). x + y) (ones-same xs a ys b n (λ j h. s j (omega arith))) (s n (omega arith)))
+ones-same xs a ys b (suc n) s =
+    rw (ones-more xs a n, ones-more ys b n)
+    (ap₂ (λ (x y : ℕ). x + y) (ones-same xs a ys b n (λ j h. s j (omega arith))) (s n (omega arith)))
 
 -- no bit is set
 pub ones-clear : (words : List ℕ) (a n : ℕ) → ((j : ℕ) → j < n → bit words (a + j) ≡ 0) → ones words a n ≡ 0
@@ -71,13 +73,15 @@ pub ones-shl : (w s n : ℕ) → s + n ≤ 64 → ones ((w / 2 ^ s * 2 ^ (64 - n
 ones-shl w s n h =
     let x : ℕ = w / 2 ^ s * 2 ^ (64 - n) % 2 ^ 64 in
     let e : 64 ≡ 64 - n + n = omega arith in
-    let z : ones (x ∷ []) 0 (64 - n) ≡ 0 = ones-clear (x ∷ []) 0 (64 - n) (λ j p. rw zero-add (bit-word x j (omega arith) ∙ shl-low (w / 2 ^ s) (64 - n) 64 j (omega arith) p)) in
+    let z : ones (x ∷ []) 0 (64 - n) ≡ 0 =
+    ones-clear (x ∷ []) 0 (64 - n) (λ j p. rw zero-add (bit-word x j (omega arith) ∙ shl-low (w / 2 ^ s) (64 - n) 64 j (omega arith) p)) in
     let t : ones (x ∷ []) (64 - n) n ≡ ones (w ∷ []) s n = ones-same (x ∷ []) (64 - n) (w ∷ []) s n (λ j p.
     bit-word x (64 - n + j) (omega arith) ∙ shl-high (w / 2 ^ s) (64 - n) 64 j (omega arith) ∙ digit-shr w s j ∙ sym (bit-word w (s + j) (omega arith))) in
     ap (ones (x ∷ []) 0) e ∙ ones-add (x ∷ []) 0 (64 - n) n ∙ rw (z, zero-add (64 - n), t) (omega arith)
 
 -- one word more
-pub ones-words : (words : List ℕ) (first i : ℕ) → first ≤ i → ones words (first * 64) ((i + 1 - first) * 64) ≡ ones words (first * 64) ((i - first) * 64) + ones (getD words i 0 ∷ []) 0 64
+pub ones-words : (words : List ℕ) (first i : ℕ) → first ≤ i
+    → ones words (first * 64) ((i + 1 - first) * 64) ≡ ones words (first * 64) ((i - first) * 64) + ones (getD words i 0 ∷ []) 0 64
 ones-words words first i h =
     let e : (i + 1 - first) * 64 ≡ (i - first) * 64 + 64 = omega arith in
     let f : first * 64 + (i - first) * 64 ≡ i * 64 = omega arith in
@@ -85,7 +89,9 @@ ones-words words first i h =
 
 -- a part of the first word, whole words, a part of the last
 pub ones-parts : (words : List ℕ) (a n : ℕ) → 64 - a % 64 < n
-    → ones words a n ≡ ones words a (64 - a % 64) + ones words ((a / 64 + 1) * 64) (((a + n) / 64 - (a / 64 + 1)) * 64) + ones words (a + n - (a + n) % 64) ((a + n) % 64)
+    → ones words a n
+    ≡ ones words a (64 - a % 64) + ones words ((a / 64 + 1) * 64) (((a + n) / 64 - (a / 64 + 1)) * 64) + ones words
+    (a + n - (a + n) % 64) ((a + n) % 64)
 ones-parts words a n h =
     let x : ℕ = 64 - a % 64 in
     let y : ℕ = ((a + n) / 64 - (a / 64 + 1)) * 64 in

@@ -58,7 +58,8 @@ unfolding nextBit
 next-is words v a zero = record { low = omega arith; high = omega arith; before = λ k l u d. omega arith; found = λ h. absurd (omega arith) }
 next-is words v a (suc n) = go (eqb (bit words a) v) refl (next-is words v (a + 1) n)
   where
-    go : (b : Bool) → eqb (bit words a) v ≡ b → Next words v (a + 1) n (nextBit words v (a + 1) n) → Next words v a (suc n) (cond b a (nextBit words v (a + 1) n))
+    go : (b : Bool) → eqb (bit words a) v ≡ b → Next words v (a + 1) n (nextBit words v (a + 1) n)
+        → Next words v a (suc n) (cond b a (nextBit words v (a + 1) n))
     go true e t = next-here words v a n (eqb-true (bit words a) v e)
     go false e t = next-there words v a n (nextBit words v (a + 1) n) (eqb-false (bit words a) v e) t
 
@@ -77,7 +78,8 @@ next-only words v a n r s =
     le-antisymm (next-le words v a n r (nextBit words v a n) s t) (next-le words v a n (nextBit words v a n) r t s)
 
 -- where the bits that are looked for stand alike, so does the first
-next-alike : (xs ys : List ℕ) (v u a b n : ℕ) → ((j : ℕ) → j < n → eqb (bit xs (a + j)) v ≡ eqb (bit ys (b + j)) u) → b + nextBit xs v a n ≡ a + nextBit ys u b n
+next-alike : (xs ys : List ℕ) (v u a b n : ℕ) → ((j : ℕ) → j < n → eqb (bit xs (a + j)) v ≡ eqb (bit ys (b + j)) u)
+    → b + nextBit xs v a n ≡ a + nextBit ys u b n
 unfolding nextBit
 next-alike xs ys v u a b zero s = omega arith
 next-alike xs ys v u a b (suc n) s =
@@ -87,7 +89,8 @@ next-alike xs ys v u a b (suc n) s =
     shift : (x j : ℕ) → x + 1 + j ≡ x + suc j
     shift x j = omega arith
 
-    go : (p : Bool) → b + 1 + nextBit xs v (a + 1) n ≡ a + 1 + nextBit ys u (b + 1) n → b + cond p a (nextBit xs v (a + 1) n) ≡ a + cond p b (nextBit ys u (b + 1) n)
+    go : (p : Bool) → b + 1 + nextBit xs v (a + 1) n ≡ a + 1 + nextBit ys u (b + 1) n
+        → b + cond p a (nextBit xs v (a + 1) n) ≡ a + cond p b (nextBit ys u (b + 1) n)
     go true i = omega arith
     go false i = omega arith
 
@@ -108,7 +111,8 @@ next-not w s h =
     omega (
       arith,
       next-alike (w ∷ []) (x ∷ []) 0 1 s s (64 - s) (λ j p.
-          rw (bit-word w (s + j) (omega arith), bit-word x (s + j) (omega arith)) (other (digit x (s + j)) (digit w (s + j)) (digit-not 64 w (s + j) h (omega arith)))),
+          rw (bit-word w (s + j) (omega arith), bit-word x (s + j) (omega arith))
+          (other (digit x (s + j)) (digit w (s + j)) (digit-not 64 w (s + j) h (omega arith)))),
     )
 
 -- the next 1 of a word, by the zeros below it
@@ -131,10 +135,12 @@ next-shr w s h = next-only (w ∷ []) 1 s (64 - s) (min (s + t) 64) record {
         bit-word w k u ∙ ap (digit w) e ∙ sym (digit-shr w s (k - s))
 
 -- the first key from a on, in a's own word
-pub next-word : (words : List ℕ) (v a r : ℕ) → r ≡ nextBit (getD words (a / 64) 0 ∷ []) v (a % 64) (64 - a % 64) → Next words v a (64 - a % 64) (a / 64 * 64 + r)
+pub next-word : (words : List ℕ) (v a r : ℕ) → r ≡ nextBit (getD words (a / 64) 0 ∷ []) v (a % 64) (64 - a % 64)
+    → Next words v a (64 - a % 64) (a / 64 * 64 + r)
 next-word words v a r e =
     let n : ℕ = 64 - a % 64 in
-    let f : a / 64 * 64 + r ≡ nextBit words v a n = omega (arith, next-same words a (getD words (a / 64) 0 ∷ []) (a % 64) n v (word-same words a n (omega arith))) in
+    let f : a / 64 * 64 + r ≡ nextBit words v a n =
+    omega (arith, next-same words a (getD words (a / 64) 0 ∷ []) (a % 64) n v (word-same words a n (omega arith))) in
     rw f (next-is words v a n)
 
 -- the walk has come to a key with the bit v
@@ -143,7 +149,9 @@ next-at words v a n r l u s e = next-only words v a n r record { low = l; high =
 
 -- the walk has come to the end
 pub next-none : (words : List ℕ) (v a n b : ℕ) → a + n ≤ b → Without words v a b → a + n ≡ nextBit words v a n
-next-none words v a n b h s = next-only words v a n (a + n) record { low = omega arith; high = omega arith; before = λ k l u e. s k l (omega arith) e; found = λ u. absurd (omega arith) }
+next-none words v a n b h s =
+    next-only words v a n (a + n)
+    record { low = omega arith; high = omega arith; before = λ k l u e. s k l (omega arith) e; found = λ u. absurd (omega arith) }
 
 -- ---- the last set bit
 

@@ -29,7 +29,8 @@ count-words-requires c κs = search needs
 
 add-result : tie.Need-add-result
 add-result c =
-    let a = c .before .before .before .args in
+    let at-start = c .before .before .before in
+    let a = at-start .args in
     let h : 64 - a .from % 64 < a .n = omega arith in
     omega (arith, ones-parts (a .words .now) (a .from) (a .n) h, ones-le (a .words .now) (a .from) (a .n))
 
@@ -41,13 +42,15 @@ count-part-requires-3 c κs = search needs
 
 add-result-2 : tie.Need-add-result-2
 add-result-2 c =
-    let a = c .before .before .before .before .args in
+    let at-start = c .before .before .before .before in
+    let a = at-start .args in
     let h : 64 - a .from % 64 < a .n = omega arith in
     omega (arith, ones-parts (a .words .now) (a .from) (a .n) h, ones-le (a .words .now) (a .from) (a .n))
 
 returns-2 : tie.Need-returns-2
 returns-2 c =
-    let a = c .before .before .before .before .args in
+    let at-start = c .before .before .before .before in
+    let a = at-start .args in
     let h : 64 - a .from % 64 < a .n = omega arith in
     omega (arith, ones-parts (a .words .now) (a .from) (a .n) h)
 

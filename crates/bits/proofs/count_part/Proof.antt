@@ -23,10 +23,11 @@ part-ones-requires c κs = search needs
 
 returns-2 : tie.Need-returns-2
 returns-2 c =
-    let s = c .before .before .before in
-    let a = s .args in
+    let at-start = c .before .before .before in
+    let a = at-start .args in
     let w = getD (a .words .now) (a .from / 64) 0 in
-    c .part-ones .ensures ∙ sym (ones-same (a .words .now) (a .from) (w ∷ []) (a .from % 64) (a .n) (word-same (a .words .now) (a .from) (a .n) (s .pre .0)))
+    c .part-ones .ensures
+    ∙ sym (ones-same (a .words .now) (a .from) (w ∷ []) (a .from % 64) (a .n) (word-same (a .words .now) (a .from) (a .n) (at-start .pre .0)))
 
 pub count-part-spec : {M : Type 1} → statement M
 count-part-spec =

@@ -34,9 +34,15 @@ word-ones-requires c κs = search needs
 
 add-n : tie.Need-add-n Inv-loop μ-loop
 add-n c =
-    let l = c .before .before .before in
-    let a = l .before .args in
-    omega (arith, c .word-ones .ensures, ones-le (a .words .now) (a .first * 64) ((l .loop .i - a .first) * 64), ones-le (getD (a .words .now) (l .loop .i) 0 ∷ []) 0 64)
+    let at-loop = c .before .before .before in
+    let at-start = at-loop .before in
+    let a = at-start .args in
+    omega (
+      arith,
+      c .word-ones .ensures,
+      ones-le (a .words .now) (a .first * 64) ((at-loop .loop .i - a .first) * 64),
+      ones-le (getD (a .words .now) (at-loop .loop .i) 0 ∷ []) 0 64,
+    )
 
 add-i : tie.Need-add-i Inv-loop μ-loop
 add-i c = search needs
@@ -46,15 +52,17 @@ loop-less c = search needs
 
 loop-again : tie.Need-loop-again Inv-loop μ-loop
 loop-again c =
-    let l = c .before .before .before in
-    let a = l .before .args in
-    (search needs, search needs, omega (arith, c .word-ones .ensures, ones-words (a .words .now) (a .first) (l .loop .i) (l .loop .inv .0)))
+    let at-loop = c .before .before .before in
+    let at-start = at-loop .before in
+    let a = at-start .args in
+    (search needs, search needs, omega (arith, c .word-ones .ensures, ones-words (a .words .now) (a .first) (at-loop .loop .i) (at-loop .loop .inv .0)))
 
 returns : tie.Need-returns Inv-loop μ-loop
 returns c =
-    let l = c .before in
-    let e : l .before .args .end ≡ l .loop .i = omega arith in
-    rw e (l .loop .inv .2)
+    let at-loop = c .before in
+    let at-start = at-loop .before in
+    let e : at-start .args .end ≡ at-loop .loop .i = omega arith in
+    rw e (at-loop .loop .inv .2)
 
 pub count-words-spec : {M : Type 1} → statement M
 count-words-spec =

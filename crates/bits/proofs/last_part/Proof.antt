@@ -26,9 +26,12 @@ last-one-requires c κs = search needs
 
 returns-2 : tie.Need-returns-2
 returns-2 c =
-    let a = c .before .before .before .args in
+    let at-start = c .before .before .before in
+    let a = at-start .args in
     let i = a .end / 64 in
-    c .last-one .ensures ∙ sym (last-same (a .words .now) (i * 64) (getD (a .words .now) i 0 ∷ []) 0 (a .end % 64) (whole-same (a .words .now) i (a .end % 64) (omega arith)))
+    c .last-one .ensures
+    ∙ sym (last-same (a .words .now) (i * 64) (getD (a .words .now) i 0 ∷ []) 0 (a .end % 64)
+    (whole-same (a .words .now) i (a .end % 64) (omega arith)))
 
 pub last-part-spec : {M : Type 1} → statement M
 last-part-spec =

@@ -21,27 +21,38 @@ cleared c =
     rw e at (last-without (a .words .now) ((a .from + a .n) / 64 * 64) ((a .from + a .n) % 64) (c .last-part .result) (part c))
 
 -- the last set bit of the whole words
-whole : (c : tie.After-last-words) → let a = c .before .before .before .args in Last (a .words .now) (a .from / 64 * 64) (((a .from + a .n) / 64 - a .from / 64) * 64) (c .last-words .result)
-whole c = let a = c .before .before .before .args in rw (c .last-words .ensures) (last-is (a .words .now) (a .from / 64 * 64) (((a .from + a .n) / 64 - a .from / 64) * 64))
+whole : (c : tie.After-last-words) →
+    let at-start = c .before .before .before in
+    let a = at-start .args in
+    Last (a .words .now) (a .from / 64 * 64) (((a .from + a .n) / 64 - a .from / 64) * 64) (c .last-words .result)
+whole c =
+    let at-start = c .before .before .before in
+    let a = at-start .args in
+    rw (c .last-words .ensures) (last-is (a .words .now) (a .from / 64 * 64) (((a .from + a .n) / 64 - a .from / 64) * 64))
 
 -- no bit is set from `at` on, and the one before it is set, if it is one of the keys
-reached : (c : tie.Joined1) → let a = c .before .before .args in (c .if1 .at ≤ a .from + a .n) × Without (a .words .now) 1 (c .if1 .at) (a .from + a .n) × (a .from < c .if1 .at → bit (a .words .now) (c .if1 .at - 1) ≡ 1)
+reached : (c : tie.Joined1) →
+    let at-start = c .before .before in
+    let a = at-start .args in
+    (c .if1 .at ≤ a .from + a .n) × Without (a .words .now) 1 (c .if1 .at) (a .from + a .n) × (a .from < c .if1 .at → bit (a .words .now) (c .if1 .at - 1) ≡ 1)
 reached c =
-    let p = c .before in
-    let a = p .before .args in
+    let after-last-part = c .before in
+    let at-start = after-last-part .before in
+    let a = at-start .args in
     let b = (a .from + a .n) / 64 in
     let f = a .from / 64 in
     ⊎-elim
     (λ w.
-    let t = whole record { before = record { before = p; if1 = w .0 }; last-words = w .1 } in
+    let t = whole record { before = record { before = after-last-part; if1 = w .0 }; last-words = w .1 } in
     let e : f * 64 + (b - f) * 64 ≡ b * 64 = omega arith in
-    let g : b * 64 + p .last-part .result ≡ b * 64 = omega (arith, w .0 .taken) in
+    let g : b * 64 + after-last-part .last-part .result ≡ b * 64 = omega (arith, w .0 .taken) in
     rw (w .2) (
       omega (arith, t .high),
-      without-join (a .words .now) 1 (f * 64 + w .1 .result) (b * 64) (a .from + a .n) (rw e at (last-without (a .words .now) (f * 64) ((b - f) * 64) (w .1 .result) t)) (rw g at (cleared p)),
+      without-join (a .words .now) 1 (f * 64 + w .1 .result) (b * 64) (a .from + a .n)
+          (rw e at (last-without (a .words .now) (f * 64) ((b - f) * 64) (w .1 .result) t)) (rw g at (cleared after-last-part)),
       λ l. t .found (omega arith),
     ))
-    (λ w. rw (w .1) (omega (arith, part p .high), cleared p, λ l. part p .found (omega (arith, w .0 .left))))
+    (λ w. rw (w .1) (omega (arith, part after-last-part .high), cleared after-last-part, λ l. part after-last-part .found (omega (arith, w .0 .left))))
     (c .if1 .came)
 
 add-end : tie.Need-add-end
@@ -70,17 +81,19 @@ sub-result c = search needs
 
 returns : tie.Need-returns
 returns c =
-    let j = c .before .before in
-    let a = j .before .before .args in
-    let r = reached j in
-    last-reached (a .words .now) (a .from) (a .n) (j .if1 .at) (r .0) (r .1) (r .2)
+    let joined-1 = c .before .before in
+    let at-start = joined-1 .before .before in
+    let a = at-start .args in
+    let r = reached joined-1 in
+    last-reached (a .words .now) (a .from) (a .n) (joined-1 .if1 .at) (r .0) (r .1) (r .2)
 
 returns-2 : tie.Need-returns-2
 returns-2 c =
-    let j = c .before in
-    let a = j .before .before .args in
-    let r = reached j in
-    omega (arith, c .if2 .left, last-reached (a .words .now) (a .from) (a .n) (j .if1 .at) (r .0) (r .1) (r .2))
+    let joined-1 = c .before in
+    let at-start = joined-1 .before .before in
+    let a = at-start .args in
+    let r = reached joined-1 in
+    omega (arith, c .if2 .left, last-reached (a .words .now) (a .from) (a .n) (joined-1 .if1 .at) (r .0) (r .1) (r .2))
 
 pub last-set-spec : {M : Type 1} → statement M
 last-set-spec =

@@ -38,14 +38,16 @@ loop-less c = search needs
 
 loop-again : tie.Need-loop-again Inv-loop μ-loop
 loop-again c =
-    let l = c .before .before .before .before in
-    let a = l .before .args in
-    let b = (l .loop .i - 1) * 64 in
+    let then-1 = c .before .before in
+    let at-loop = then-1 .before .before in
+    let at-start = at-loop .before in
+    let a = at-start .args in
+    let b = (at-loop .loop .i - 1) * 64 in
     let r = c .last-one .result in
-    let t = last-word (a .words .now) (l .loop .i - 1) 64 r (omega arith) (c .last-one .ensures) in
-    let e : b + 64 ≡ l .loop .i * 64 + l .loop .r = omega (arith, eqb-true (l .loop .r) 0 (c .before .before .if1 .taken)) in (
+    let t = last-word (a .words .now) (at-loop .loop .i - 1) 64 r (omega arith) (c .last-one .ensures) in
+    let e : b + 64 ≡ at-loop .loop .i * 64 + at-loop .loop .r = omega (arith, eqb-true (at-loop .loop .r) 0 (then-1 .if1 .taken)) in (
       (omega arith, omega (arith, t .high)),
-      without-join (a .words .now) 1 (b + r) (b + 64) (a .end * 64) (last-without (a .words .now) b 64 r t) (rw e (l .loop .inv .1)),
+      without-join (a .words .now) 1 (b + r) (b + 64) (a .end * 64) (last-without (a .words .now) b 64 r t) (rw e (at-loop .loop .inv .1)),
       t .found,
     )
 
@@ -60,11 +62,17 @@ add-result c = search needs
 
 returns : tie.Need-returns Inv-loop μ-loop
 returns c =
-    let l = c .before in
-    let a = l .before .args in
+    let at-loop = c .before in
+    let at-start = at-loop .before in
+    let a = at-start .args in
     let e : a .first * 64 + (a .end - a .first) * 64 ≡ a .end * 64 = omega arith in
-    let set : a .first * 64 < l .loop .i * 64 + l .loop .r → 0 < l .loop .r = λ h. ⊎-elim (λ w. omega (arith, eqb-false (l .loop .r) 0 (w .1 .left))) (λ w. omega (arith, w .left)) (c .loop-test .came) in
-    omega (arith, last-reached (a .words .now) (a .first * 64) ((a .end - a .first) * 64) (l .loop .i * 64 + l .loop .r) (rw e (l .loop .inv .0 .1)) (rw e (l .loop .inv .1)) (λ h. l .loop .inv .2 (set h)))
+    let set : a .first * 64 < at-loop .loop .i * 64 + at-loop .loop .r → 0 < at-loop .loop .r =
+    λ h. ⊎-elim (λ w. omega (arith, eqb-false (at-loop .loop .r) 0 (w .1 .left))) (λ w. omega (arith, w .left)) (c .loop-test .came) in
+    omega (
+      arith,
+      last-reached (a .words .now) (a .first * 64) ((a .end - a .first) * 64) (at-loop .loop .i * 64 + at-loop .loop .r)
+          (rw e (at-loop .loop .inv .0 .1)) (rw e (at-loop .loop .inv .1)) (λ h. at-loop .loop .inv .2 (set h)),
+    )
 
 pub last-words-spec : {M : Type 1} → statement M
 last-words-spec =

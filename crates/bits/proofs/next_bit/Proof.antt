@@ -16,11 +16,15 @@ abbrev μ-loop : tie.MeasureT-loop
 μ-loop words v from n end at₀ at = end - at
 
 -- the next bit v of the turn's word
-found : (c : tie.After-next-digit Inv-loop μ-loop)
-    → Next (c .before .before .before .before .args .words .now) (c .before .before .before .before .args .v) (c .before .before .before .loop .at) (64 - c .before .before .before .loop .at % 64) (c .before .before .before .loop .at / 64 * 64 + c .next-digit .result)
+found : (c : tie.After-next-digit Inv-loop μ-loop) →
+    let at-loop = c .before .before .before in
+    let at-start = at-loop .before in
+    Next (at-start .args .words .now) (at-start .args .v) (at-loop .loop .at) (64 - at-loop .loop .at % 64)
+    (at-loop .loop .at / 64 * 64 + c .next-digit .result)
 found c =
-    let l = c .before .before .before in
-    next-word (l .before .args .words .now) (l .before .args .v) (l .loop .at) (c .next-digit .result) (c .next-digit .ensures)
+    let at-loop = c .before .before .before in
+    let at-start = at-loop .before in
+    next-word (at-start .args .words .now) (at-start .args .v) (at-loop .loop .at) (c .next-digit .result) (c .next-digit .ensures)
 
 add-end : tie.Need-add-end Inv-loop μ-loop
 add-end c = search needs
@@ -45,11 +49,14 @@ add-at c = omega (arith, found c)
 
 returns : tie.Need-returns Inv-loop μ-loop
 returns c =
-    let l = c .before .before .before .before .before in
-    let a = l .before .args in
-    let t = found (c .before .before) in
-    let q = l .loop .at / 64 * 64 + c .before .before .next-digit .result in
-    next-at (a .words .now) (a .v) (a .from) (a .n) q (omega arith) (omega (arith, ltb-true)) (without-join (a .words .now) (a .v) (a .from) (l .loop .at) q (l .loop .inv .1) (t .before)) (t .found (omega arith))
+    let after-next-digit = c .before .before in
+    let at-loop = after-next-digit .before .before .before in
+    let at-start = at-loop .before in
+    let a = at-start .args in
+    let t = found after-next-digit in
+    let q = at-loop .loop .at / 64 * 64 + after-next-digit .next-digit .result in
+    next-at (a .words .now) (a .v) (a .from) (a .n) q (omega arith) (omega (arith, ltb-true))
+    (without-join (a .words .now) (a .v) (a .from) (at-loop .loop .at) q (at-loop .loop .inv .1) (t .before)) (t .found (omega arith))
 
 loop-less : tie.Need-loop-less Inv-loop μ-loop
 loop-less c =
@@ -58,16 +65,22 @@ loop-less c =
 
 loop-again : tie.Need-loop-again Inv-loop μ-loop
 loop-again c =
-    let l = c .before .before .before .before in
-    let a = l .before .args in
-    let t = found (c .before) in
-    (omega arith, without-join (a .words .now) (a .v) (a .from) (l .loop .at) (l .loop .at / 64 * 64 + c .before .next-digit .result) (l .loop .inv .1) (t .before))
+    let after-next-digit = c .before in
+    let at-loop = after-next-digit .before .before .before in
+    let at-start = at-loop .before in
+    let a = at-start .args in
+    let t = found after-next-digit in (
+      omega arith,
+      without-join (a .words .now) (a .v) (a .from) (at-loop .loop .at)
+          (at-loop .loop .at / 64 * 64 + after-next-digit .next-digit .result) (at-loop .loop .inv .1) (t .before),
+    )
 
 returns-2 : tie.Need-returns-2 Inv-loop μ-loop
 returns-2 c =
-    let l = c .before in
-    let a = l .before .args in
-    next-none (a .words .now) (a .v) (a .from) (a .n) (l .loop .at) (c .loop-test .left) (l .loop .inv .1)
+    let at-loop = c .before in
+    let at-start = at-loop .before in
+    let a = at-start .args in
+    next-none (a .words .now) (a .v) (a .from) (a .n) (at-loop .loop .at) (c .loop-test .left) (at-loop .loop .inv .1)
 
 pub next-bit-spec : {M : Type 1} → statement M
 next-bit-spec =

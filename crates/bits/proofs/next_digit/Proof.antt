@@ -17,9 +17,9 @@ next-one-requires-2 c κs = search needs
 
 returns-2 : tie.Need-returns-2
 returns-2 c =
-    let s = c .before .before in
-    let e : s .args .v ≡ 0 = omega arith in
-    rw e (c .next-one2 .ensures ∙ next-not (s .args .w) (s .args .s) (s .fits .w .fits))
+    let at-start = c .before .before in
+    let e : at-start .args .v ≡ 0 = omega arith in
+    rw e (c .next-one2 .ensures ∙ next-not (at-start .args .w) (at-start .args .s) (at-start .fits .w .fits))
 
 pub next-digit-spec : {M : Type 1} → statement M
 next-digit-spec = tie.close (tie.spec next-one-requires returns next-one-requires-2 returns-2)
