@@ -49,13 +49,15 @@ starts-alone (b ∷ []) n e = sym (with-letter b [] n)
 starts-alone (b ∷ (c ∷ bs)) n e = absurd (omega arith)
 
 -- a letter and a comma
-pub starts-well : (line : List ℕ) → (length line ≡ 0 → ⊥) → (getD line 0 0 ≡ ascii "," → ⊥) → (length line ≡ 1 → ⊥) → getD line 1 0 ≡ ascii "," → true ≡ startsWell line
+pub starts-well : (line : List ℕ) → (length line ≡ 0 → ⊥) → (getD line 0 0 ≡ ascii "," → ⊥) → (length line ≡ 1 → ⊥)
+    → getD line 1 0 ≡ ascii "," → true ≡ startsWell line
 starts-well [] z n o e = absurd (z refl)
 starts-well (b ∷ []) z n o e = absurd (o refl)
 starts-well (b ∷ (c ∷ bs)) z n o e = sym (with-letter b (c ∷ bs) n ∙ rw (split-at (ascii ",") c bs (eq-eqb _ _ e)))
 
 -- two letters
-pub starts-twice : (line : List ℕ) → (length line ≡ 0 → ⊥) → (getD line 0 0 ≡ ascii "," → ⊥) → (length line ≡ 1 → ⊥) → (getD line 1 0 ≡ ascii "," → ⊥) → false ≡ startsWell line
+pub starts-twice : (line : List ℕ) → (length line ≡ 0 → ⊥) → (getD line 0 0 ≡ ascii "," → ⊥) → (length line ≡ 1 → ⊥)
+    → (getD line 1 0 ≡ ascii "," → ⊥) → false ≡ startsWell line
 starts-twice [] z n o e = absurd (z refl)
 starts-twice (b ∷ []) z n o e = absurd (o refl)
 starts-twice (b ∷ (c ∷ bs)) z n o e =
@@ -232,7 +234,9 @@ obeyed-many s c x h =
 
 -- a line is answered by its command
 pub responds : (s : State) (line : List ℕ)
-    → respondOf s line ≡ cond (commandOf line .ok) (obeyed s (commandOf line .letter) (take (commandOf line .count) (commandOf line .fields))) (told (refused s 14))
+    → respondOf s line
+    ≡ cond (commandOf line .ok) (obeyed s (commandOf line .letter) (take (commandOf line .count) (commandOf line .fields)))
+    (told (refused s 14))
 unfolding respondOf
 responds s line =
     by-test (commandOf line .ok)

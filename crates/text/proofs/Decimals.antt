@@ -171,5 +171,10 @@ module _ (line : List ℕ) (from i value : ℕ) (d : Digits line from i value) w
         let b = getD line i 0 in
         let more = firstPiece (ascii ",") (drop (i + 1) line) in
         let p : firstPiece (ascii ",") (drop from line) ≡ slice from i line ++ b ∷ more
-        = rw (walked-more (ascii ",") line from i w h n .pieces, split-some (ascii ",") (drop (i + 1) line), slice-more from i line (d .order) h, append-assoc) in
+        = rw (
+          walked-more (ascii ",") line from i w h n .pieces,
+          split-some (ascii ",") (drop (i + 1) line),
+          slice-more from i line (d .order) h,
+          append-assoc,
+        ) in
         rw (p, bad-byte (slice from i line) b more (rw (← d .value-is) e))

@@ -160,7 +160,8 @@ pub feed-none : (f : Fed) → OnePiece (ascii "\n") (f .text) → feed f [] ≡ 
 unfolding feed complete rest stateAfter answers
 feed-none f e = rw (append-nil (f .text), e, append-nil)
 
-ended-on : (sep b : ℕ) (bs : List ℕ) → eqb b sep ≡ false → (others : List (List ℕ)) → split sep bs ≡ firstPiece sep bs ∷ others → split sep (b ∷ bs) ≡ firstPiece sep (b ∷ bs) ∷ others
+ended-on : (sep b : ℕ) (bs : List ℕ) → eqb b sep ≡ false → (others : List (List ℕ)) → split sep bs ≡ firstPiece sep bs ∷ others
+    → split sep (b ∷ bs) ≡ firstPiece sep (b ∷ bs) ∷ others
 ended-on sep b bs e others h = split-on sep b bs e ∙ rw (h, first-on sep b bs e)
 
 on-count : (sep b : ℕ) (bs : List ℕ) → eqb b sep ≡ false → length (split sep (b ∷ bs)) ≡ length (split sep bs)
@@ -213,7 +214,8 @@ module _ (chunk : List ℕ) (at : ℕ) (piece : List ℕ) where
         rw (← sums, ← drop-drop) (sym (ap (drop 1) two))
 
   -- the line is answered, and the bytes after it are left
-  pub feed-line : (f : Fed) → OnePiece (ascii "\n") (f .text) → (more : List ℕ) (pieces : List (List ℕ)) → split (ascii "\n") (drop at chunk) ≡ piece ∷ (more ∷ pieces)
+  pub feed-line : (f : Fed) → OnePiece (ascii "\n") (f .text) → (more : List ℕ) (pieces : List (List ℕ))
+      → split (ascii "\n") (drop at chunk) ≡ piece ∷ (more ∷ pieces)
       → feed f (drop at chunk) ≡ feed (answered f (f .text ++ piece)) (drop (at + length piece + 1) chunk)
   unfolding feed stateAfter answers complete rest
   feed-line f one more pieces e =

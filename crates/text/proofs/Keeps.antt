@@ -50,7 +50,9 @@ module _ (chunk : List ℕ) (from : ℕ) where
       let parts = split-ended (ascii "\n") l two .pieces in
       let behind : from + suc n ≡ endOf chunk from + 1 = omega arith in
       let width : n ≡ endOf chunk from - from = omega arith in
-      parts ∙ rw (drop-drop, behind) (ap (λ x. x ∷ split (ascii "\n") (drop (endOf chunk from + 1) chunk)) (first-front (ascii "\n") l ∙ ap (λ m. take m l) width))
+      parts
+      ∙ rw (drop-drop, behind)
+      (ap (λ x. x ∷ split (ascii "\n") (drop (endOf chunk from + 1) chunk)) (first-front (ascii "\n") l ∙ ap (λ m. take m l) width))
     where
       one : length (split (ascii "\n") (drop from chunk)) ≤ 1 → ⊥
       one few =

@@ -17,7 +17,8 @@ use Rattle.text.specs.Written.{Put}
 -- ---- a buffer
 
 -- bytes put behind bytes
-pub put-more : (l m out : List ℕ) (at i j : ℕ) (xs ys : List ℕ) → Put l at xs m i → Put m i ys out j → at + length xs + length ys ≤ length l → Put l at (xs ++ ys) out j
+pub put-more : (l m out : List ℕ) (at i j : ℕ) (xs ys : List ℕ) → Put l at xs m i → Put m i ys out j
+    → at + length xs + length ys ≤ length l → Put l at (xs ++ ys) out j
 put-more l m out at i j xs ys p q h =
     let place : j ≡ at + length (xs ++ ys) = rw length-append (omega (arith, p .next-is, q .next-is)) in
     record { buffer = q .buffer ∙ rw (p .next-is, p .buffer) (written-more l at xs ys h); next-is = place }

@@ -18,7 +18,9 @@ same-length : tie.Need-same-length
 same-length c = search needs
 
 returns : tie.Need-returns
-returns c = append-long _ _ (c .before .before .before .before .pre) (c .if1 .taken)
+returns c =
+    let at-start = c .before .before .before .before in
+    append-long _ _ (at-start .pre) (c .if1 .taken)
 
 slice-write-text-2 : tie.Need-slice-write-text-2
 slice-write-text-2 c = search needs
@@ -27,7 +29,10 @@ same-length-2 : tie.Need-same-length-2
 same-length-2 c = search needs
 
 returns-2 : tie.Need-returns-2
-returns-2 c = append-over _ _ (c .before .before .before .before .before .pre) (c .before .if1 .left) (c .if2 .taken)
+returns-2 c =
+    let else-1 = c .before in
+    let at-start = else-1 .before .before .before .before in
+    append-over _ _ (at-start .pre) (else-1 .if1 .left) (c .if2 .taken)
 
 add-put-bytes : tie.Need-add-put-bytes
 add-put-bytes c = search needs
@@ -49,9 +54,11 @@ same-length-3 c = search needs
 
 returns-3 : tie.Need-returns-3
 returns-3 c =
-    let room = c .before .before .before .before in
-    let start = room .before .before .before .before .before in
-    rw (c .before .before .put-bytes .ensures) (append-fits _ _ (start .pre) (room .before .if1 .left) (room .if2 .left))
+    let after-put-bytes = c .before .before in
+    let else-2 = after-put-bytes .before .before in
+    let else-1 = else-2 .before in
+    let at-start = else-1 .before .before .before .before in
+    rw (after-put-bytes .put-bytes .ensures) (append-fits _ _ (at-start .pre) (else-1 .if1 .left) (else-2 .if2 .left))
 
 pub append-spec : {M : Type 1} → statement M
 append-spec =

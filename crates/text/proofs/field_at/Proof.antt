@@ -27,8 +27,10 @@ field-of-requires c κs = search needs
 
 returns : tie.Need-returns Inv-loop μ-loop
 returns c =
-    let l = c .before .before .before .before in
-    c .field-of .ensures ∙ field-comma _ _ _ _ (l .loop .inv .1) (l .loop .inv .0) (c .before .before .before .loop-test .taken) (c .before .if1 .taken)
+    let then-1 = c .before in
+    let at-loop-test = then-1 .before .before in
+    let at-loop = at-loop-test .before in
+    c .field-of .ensures ∙ field-comma _ _ _ _ (at-loop .loop .inv .1) (at-loop .loop .inv .0) (at-loop-test .loop-test .taken) (then-1 .if1 .taken)
 
 grown-requires : tie.Need-grown-requires Inv-loop μ-loop
 grown-requires c κs = search needs
@@ -41,8 +43,12 @@ enum-told c = c .match .keys2
 
 returns-2 : tie.Need-returns-2 Inv-loop μ-loop
 returns-2 c =
-    let l = c .before .before .before .before .before .before in
-    field-bad _ _ _ _ (l .loop .inv .1) (l .loop .inv .0) (c .before .before .before .before .before .loop-test .taken) (c .before .before .before .if1 .left) (sym (c .before .before .grown .ensures) ∙ c .enum-told .given .1)
+    let after-grown = c .before .before in
+    let else-1 = after-grown .before in
+    let at-loop-test = else-1 .before .before in
+    let at-loop = at-loop-test .before in
+    field-bad _ _ _ _ (at-loop .loop .inv .1) (at-loop .loop .inv .0) (at-loop-test .loop-test .taken) (else-1 .if1 .left)
+    (sym (after-grown .grown .ensures) ∙ c .enum-told .given .1)
 
 add-i : tie.Need-add-i Inv-loop μ-loop
 add-i c = search needs
@@ -52,17 +58,24 @@ loop-less c = search needs
 
 loop-again : tie.Need-loop-again Inv-loop μ-loop
 loop-again c =
-    let l = c .before .before .before .before .before .before .before in
-    let h = c .before .before .before .before .before .before .loop-test .taken in
-    (walked-more _ _ _ _ (l .loop .inv .0) h (c .before .before .before .before .if1 .left), digits-step _ _ _ _ (l .loop .inv .1) _ h (sym (c .before .before .before .grown .ensures) ∙ c .before .more .given .1))
+    let after-more = c .before in
+    let after-grown = after-more .before .before in
+    let else-1 = after-grown .before in
+    let at-loop-test = else-1 .before .before in
+    let at-loop = at-loop-test .before in
+    let h = at-loop-test .loop-test .taken in (
+      walked-more _ _ _ _ (at-loop .loop .inv .0) h (else-1 .if1 .left),
+      digits-step _ _ _ _ (at-loop .loop .inv .1) _ h (sym (after-grown .grown .ensures) ∙ after-more .more .given .1),
+    )
 
 field-of-requires-2 : tie.Need-field-of-requires-2 Inv-loop μ-loop
 field-of-requires-2 c κs = search needs
 
 returns-3 : tie.Need-returns-3 Inv-loop μ-loop
 returns-3 c =
-    let l = c .before .before in
-    c .field-of2 .ensures ∙ field-last _ _ _ _ (l .loop .inv .1) (l .loop .inv .0) (c .before .loop-test .left)
+    let after-loop = c .before in
+    let at-loop = after-loop .before in
+    c .field-of2 .ensures ∙ field-last _ _ _ _ (at-loop .loop .inv .1) (at-loop .loop .inv .0) (after-loop .loop-test .left)
 
 pub field-at-spec : {M : Type 1} → statement M
 field-at-spec =

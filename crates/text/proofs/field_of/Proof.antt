@@ -20,15 +20,15 @@ shared-slice-read-if3 c = search needs
 
 returns-3 : tie.Need-returns-3
 returns-3 c =
-    let s = c .before .before .before .before in
-    let more : s .args .from + 1 < s .args .to = omega (arith, s .pre .order) in
-    field-zero _ _ _ _ (s .pre) more (c .if3 .taken)
+    let at-start = c .before .before .before .before in
+    let more : at-start .args .from + 1 < at-start .args .to = omega (arith, at-start .pre .order) in
+    field-zero _ _ _ _ (at-start .pre) more (c .if3 .taken)
 
 returns-4 : tie.Need-returns-4
 returns-4 c =
-    let s = c .before .before .before .before in
-    let more : s .args .from + 1 < s .args .to = omega (arith, s .pre .order) in
-    field-more _ _ _ _ (s .pre) more (c .if3 .left)
+    let at-start = c .before .before .before .before in
+    let more : at-start .args .from + 1 < at-start .args .to = omega (arith, at-start .pre .order) in
+    field-more _ _ _ _ (at-start .pre) more (c .if3 .left)
 
 pub field-of-spec : {M : Type 1} → statement M
 field-of-spec =

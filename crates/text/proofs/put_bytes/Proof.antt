@@ -36,19 +36,21 @@ loop-less c = search needs
 
 loop-again : tie.Need-loop-again Inv-loop μ-loop
 loop-again c =
-    let start = c .before .before .before in
-    let at-loop = c .before .before .loop in
-    let low : start .args .at + at-loop .i < length (start .args .out .now) = omega arith in
-    let step = paste-suc (start .args .out .now) (start .args .at) (start .args .bytes .now) (at-loop .i) 0 low (search needs) in
-    (search needs, rw (at-loop .inv .1, add-one) step, search needs)
+    let at-loop = c .before .before in
+    let at-start = at-loop .before in
+    let low : at-start .args .at + at-loop .loop .i < length (at-start .args .out .now) = omega arith in
+    let step = paste-suc (at-start .args .out .now) (at-start .args .at) (at-start .args .bytes .now) (at-loop .loop .i) 0 low (search needs) in
+    (search needs, rw (at-loop .loop .inv .1, add-one) step, search needs)
 
 same-length : tie.Need-same-length Inv-loop μ-loop
 same-length c = search needs
 
 returns : tie.Need-returns Inv-loop μ-loop
 returns c =
-    let all : c .before .loop .i ≡ length (c .before .before .args .bytes .now) = omega arith in
-    c .before .loop .inv .1 ∙ copied _ _ _ _ all
+    let at-loop = c .before in
+    let at-start = at-loop .before in
+    let all : at-loop .loop .i ≡ length (at-start .args .bytes .now) = omega arith in
+    at-loop .loop .inv .1 ∙ copied _ _ _ _ all
 
 pub put-bytes-spec : {M : Type 1} → statement M
 put-bytes-spec =

@@ -18,10 +18,14 @@ add-end : tie.Need-add-end Inv-loop μ-loop
 add-end c = search needs
 
 sub-i : tie.Need-sub-i Inv-loop μ-loop
-sub-i c = omega (arith, c .width .ensures, digits-some 9 (c .before .before .args .n))
+sub-i c =
+    let at-start = c .before .before in
+    omega (arith, c .width .ensures, digits-some 9 (at-start .args .n))
 
 loop-holds : tie.Need-loop-holds Inv-loop μ-loop
-loop-holds c = back-start _ _ _ _ (c .before .before .pre .0) (omega (arith, c .width .ensures, digits-some 9 (c .before .before .args .n)))
+loop-holds c =
+    let at-start = c .before .before in
+    back-start _ _ _ _ (at-start .pre .0) (omega (arith, c .width .ensures, digits-some 9 (at-start .args .n)))
 
 cast-out : tie.Need-cast-out Inv-loop μ-loop
 cast-out c = search needs
@@ -39,7 +43,9 @@ loop-less : tie.Need-loop-less Inv-loop μ-loop
 loop-less c = search needs
 
 loop-again : tie.Need-loop-again Inv-loop μ-loop
-loop-again c = back-step _ _ _ _ _ _ (c .before .loop .inv) (c .loop-test .taken) (search needs) (back-room _ _ _ _ _ _ (c .before .loop .inv) (c .loop-test .taken) (search needs))
+loop-again c =
+    back-step _ _ _ _ _ _ (c .before .loop .inv) (c .loop-test .taken) (search needs)
+    (back-room _ _ _ _ _ _ (c .before .loop .inv) (c .loop-test .taken) (search needs))
 
 cast-out-2 : tie.Need-cast-out-2 Inv-loop μ-loop
 cast-out-2 c = search needs

@@ -16,8 +16,10 @@ same-length c = search needs
 
 returns : tie.Need-returns
 returns c =
-    let s = c .before .before .before .before .before .before .before .before .before in
-    put-more _ _ _ _ _ _ _ _ (c .before .before .before .before .before .before .put-byte .ensures) (c .before .before .put-digits .ensures) (omega (arith, s .pre .1))
+    let after-put-digits = c .before .before in
+    let after-put-byte = after-put-digits .before .before .before .before in
+    let at-start = after-put-byte .before .before .before in
+    put-more _ _ _ _ _ _ _ _ (after-put-byte .put-byte .ensures) (after-put-digits .put-digits .ensures) (omega (arith, at-start .pre .1))
 
 pub put-field-spec : {M : Type 1} → statement M
 put-field-spec = tie.close (tie.spec put-byte-requires put-digits-requires same-length returns)

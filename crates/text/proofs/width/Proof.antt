@@ -20,8 +20,10 @@ loop-holds c = ([], left-all _ (c .pre), refl)
 
 add-digits : tie.Need-add-digits Inv-loop μ-loop
 add-digits c =
-    let i = c .before .loop .inv in
-    omega (arith, left-some _ _ _ (i .1), digits-length 10 (c .before .before .args .n))
+    let at-loop = c .before in
+    let at-start = at-loop .before in
+    let i = at-loop .loop .inv in
+    omega (arith, left-some _ _ _ (i .1), digits-length 10 (at-start .args .n))
 
 loop-less : tie.Need-loop-less Inv-loop μ-loop
 loop-less c = search needs
