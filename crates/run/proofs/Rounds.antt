@@ -58,7 +58,8 @@ module _ (s : State) (v : Valid s) (r : Reply) (e : r ≡ readOf s (s .turn)) wh
       h ∙ ap tally (t ∙ turn-reads s (v .turn-high))
 
   -- it is F: Arrive of that page and Read again
-  pub turn-fetch : (file page : ℕ) (m again : Reply) (q : Tally) → r .answer ≡ Fetch file page → m ≡ arriveOf (r .state) file page → again ≡ readOf (m .state) (s .turn)
+  pub turn-fetch : (file page : ℕ) (m again : Reply) (q : Tally) → r .answer ≡ Fetch file page → m ≡ arriveOf (r .state) file page
+      → again ≡ readOf (m .state) (s .turn)
       → q ≡ tally (ended 1 again) → q ≡ tally (turnOf s)
   unfolding readTurn
   turn-fetch file page m again q k a b h =
@@ -156,9 +157,12 @@ module _ (s : State) (v : Valid s) (n : ℕ) (few : n ≤ 16384) (q : ℕ) (e : 
       cond-no (λ x. r ≡ x) (ltb 16384 n) _ _ (search outcomes) (cond-yes (λ x. r ≡ x) (not (eqb (length (fetchingPages s)) 0)) _ _ (rw (in-fetch, o)) k)
 
   -- all turns are made
-  pub run-done : (t : State) (fetches reads i : ℕ) (r : Reply) → q ≡ 0 → soFar t fetches reads ≡ turnsOf i s → i ≤ n → n ≤ i → r ≡ reply t (Ran fetches reads) → r ≡ runOf s n
+  pub run-done : (t : State) (fetches reads i : ℕ) (r : Reply) → q ≡ 0 → soFar t fetches reads ≡ turnsOf i s → i ≤ n → n ≤ i
+      → r ≡ reply t (Ran fetches reads) → r ≡ runOf s n
   unfolding runOf fetchOpen
   run-done t fetches reads i r h a l m k =
       let o : eqb q 0 ≡ true = search outcomes in
       let b : soFar t fetches reads ≡ turnsOf n s = a ∙ ap (λ j. turnsOf j s) (omega arith) in
-      cond-no (λ x. r ≡ x) (ltb 16384 n) _ _ (search outcomes) (cond-no (λ x. r ≡ x) (not (eqb (length (fetchingPages s)) 0)) _ _ (rw (in-fetch, o)) (k ∙ ap (λ ts. reply (ts .after) (Ran (ts .fetches) (ts .reads))) b))
+      cond-no (λ x. r ≡ x) (ltb 16384 n) _ _ (search outcomes)
+      (cond-no (λ x. r ≡ x) (not (eqb (length (fetchingPages s)) 0)) _ _ (rw (in-fetch, o))
+      (k ∙ ap (λ ts. reply (ts .after) (Ran (ts .fetches) (ts .reads))) b))

@@ -11,7 +11,8 @@ use Rattle.run.proofs.run.Tie as tie
 
 abbrev Inv-loop : tie.InvT-loop
 Inv-loop cached₀ fetching₀ turns w₀ fetches₀ reads₀ i₀ cached fetching w fetches reads i =
-    (i ≤ turns) × (fetches ≤ i) × (reads ≤ i) × Valid (stateOf w cached fetching) × (soFar (stateOf w cached fetching) fetches reads ≡ turnsOf i (stateOf w₀ cached₀ fetching₀))
+    (i ≤ turns) × (fetches ≤ i) × (reads ≤ i) × Valid (stateOf w cached fetching)
+    × (soFar (stateOf w cached fetching) fetches reads ≡ turnsOf i (stateOf w₀ cached₀ fetching₀))
 
 abbrev μ-loop : tie.MeasureT-loop
 μ-loop cached₀ fetching₀ turns w₀ fetches₀ reads₀ i₀ cached fetching w fetches reads i = turns - i
@@ -51,9 +52,15 @@ loop-less c = search needs
 
 loop-again : tie.Need-loop-again Inv-loop μ-loop
 loop-again c =
-    let at = c .before .before .before in
-    let l = at .before .before .before .before .loop in
-    (search needs, search needs, search needs, turn-valid _ (l .inv .3) _ (at .turn .ensures .0), turns-more _ _ _ _ _ _ (l .inv .4) (at .turn .ensures .0))
+    let after-turn = c .before .before .before in
+    let at-loop = after-turn .before .before .before .before in
+    let l = at-loop .loop in (
+      search needs,
+      search needs,
+      search needs,
+      turn-valid _ (l .inv .3) _ (after-turn .turn .ensures .0),
+      turns-more _ _ _ _ _ _ (l .inv .4) (after-turn .turn .ensures .0),
+    )
 
 returns-3 : tie.Need-returns-3 Inv-loop μ-loop
 returns-3 c = with-third _ _ _ (search (run-done, needs))
