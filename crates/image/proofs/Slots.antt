@@ -34,7 +34,8 @@ module _ (sizes fetching : List ℕ) (r : Reader) where
   holds-running t e f = rw e f
 
   -- a waiting reader that is not in its place
-  pub holds-stop : (t : Bool) → r .condition ≡ Waiting → t ≡ readerPlaced (sizedWith sizes []) r → not t ≡ true → false ≡ readerHolds (sizedWith sizes fetching) r
+  pub holds-stop : (t : Bool) → r .condition ≡ Waiting → t ≡ readerPlaced (sizedWith sizes []) r → not t ≡ true
+      → false ≡ readerHolds (sizedWith sizes fetching) r
   unfolding readerHolds readerPlaced awaits
   holds-stop t e f n = rw e (call-stop (readerPlaced (sizedWith sizes []) r) (awaits (sizedWith sizes fetching) r) t f n)
 

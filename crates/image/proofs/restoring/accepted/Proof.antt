@@ -16,10 +16,11 @@ settings-hold-requires c κs = search needs
 
 returns : tie.Need-returns
 returns c =
-    let read = c .before .before .before in
-    let start = read .before .before in
-    verdict-is (start .args .image .now) _ _ _ (read .sizes-in .ensures) (start .pre .1) (start .pre .2) _
-    (search (call-stop, c .before .settings-hold .ensures, c .if1 .taken) depth 9)
+    let after-settings-hold = c .before in
+    let after-sizes-in = after-settings-hold .before .before in
+    let at-start = after-sizes-in .before .before in
+    verdict-is (at-start .args .image .now) _ _ _ (after-sizes-in .sizes-in .ensures) (at-start .pre .1) (at-start .pre .2) _
+    (search (call-stop, after-settings-hold .settings-hold .ensures, c .if1 .taken) depth 9)
 
 get-u8-requires : tie.Need-get-u8-requires
 get-u8-requires c κs = search needs
@@ -32,49 +33,58 @@ within-requires c κs = search needs
 
 returns-2 : tie.Need-returns-2
 returns-2 c =
-    let read = c .before .before .before .before .before .before in
-    let start = read .before .before in
-    verdict-is (start .args .image .now) _ _ _ (read .sizes-in .ensures) (start .pre .1) (start .pre .2) _
-    (search (and-later, call-stop, c .before .within .ensures ∙ ap (within 0 15) (c .before .before .get-u8 .ensures), c .if2 .taken) depth 9)
+    let after-within = c .before in
+    let after-get-u8 = after-within .before in
+    let after-sizes-in = after-get-u8 .before .before .before .before in
+    let at-start = after-sizes-in .before .before in
+    verdict-is (at-start .args .image .now) _ _ _ (after-sizes-in .sizes-in .ensures) (at-start .pre .1) (at-start .pre .2) _
+    (search (and-later, call-stop, after-within .within .ensures ∙ ap (within 0 15) (after-get-u8 .get-u8 .ensures), c .if2 .taken) depth 9)
 
 slots-hold-requires : tie.Need-slots-hold-requires
 slots-hold-requires c κs =
-    let e₁ = c .before .before .before .before in
-    let read = e₁ .before .before .before in
-    let start = read .before .before in (
-      record { long = start .pre .0; sizes-read = read .sizes-in .ensures; fetching-read = start .pre .2 },
-      sizes-low (start .args .image .now) (read .sizes-in .result) _ (e₁ .before .settings-hold .ensures) (e₁ .if1 .left),
+    let else-1 = c .before .before .before .before in
+    let after-settings-hold = else-1 .before in
+    let after-sizes-in = after-settings-hold .before .before in
+    let at-start = after-sizes-in .before .before in (
+      record { long = at-start .pre .0; sizes-read = after-sizes-in .sizes-in .ensures; fetching-read = at-start .pre .2 },
+      sizes-low (at-start .args .image .now) (after-sizes-in .sizes-in .result) _ (after-settings-hold .settings-hold .ensures) (else-1 .if1 .left),
     )
 
 returns-3 : tie.Need-returns-3
 returns-3 c =
-    let read = c .before .before .before .before .before .before .before .before .before in
-    let start = read .before .before in
-    verdict-is (start .args .image .now) _ _ _ (read .sizes-in .ensures) (start .pre .1) (start .pre .2) _
-    (search (and-later, call-stop, c .before .slots-hold .ensures, c .if3 .taken) depth 9)
+    let after-slots-hold = c .before in
+    let after-sizes-in = after-slots-hold .before .before .before .before .before .before .before .before in
+    let at-start = after-sizes-in .before .before in
+    verdict-is (at-start .args .image .now) _ _ _ (after-sizes-in .sizes-in .ensures) (at-start .pre .1) (at-start .pre .2) _
+    (search (and-later, call-stop, after-slots-hold .slots-hold .ensures, c .if3 .taken) depth 9)
 
 is-apart-requires : tie.Need-is-apart-requires
 is-apart-requires c κs = search needs
 
 returns-4 : tie.Need-returns-4
 returns-4 c =
-    let read = c .before .before .before .before .before .before .before .before .before .before .before in
-    let start = read .before .before in
-    verdict-is (start .args .image .now) _ _ _ (read .sizes-in .ensures) (start .pre .1) (start .pre .2) _
-    (search (and-later, call-stop, c .before .is-apart .ensures, c .if4 .taken) depth 9)
+    let after-is-apart = c .before in
+    let after-sizes-in = after-is-apart .before .before .before .before .before .before .before .before .before .before in
+    let at-start = after-sizes-in .before .before in
+    verdict-is (at-start .args .image .now) _ _ _ (after-sizes-in .sizes-in .ensures) (at-start .pre .1) (at-start .pre .2) _
+    (search (and-later, call-stop, after-is-apart .is-apart .ensures, c .if4 .taken) depth 9)
 
 files-hold-requires : tie.Need-files-hold-requires
 files-hold-requires c κs =
-    let e₁ = c .before .before .before .before .before .before .before .before .before in
-    let read = e₁ .before .before .before in
-    sizes-low (read .before .before .args .image .now) (read .sizes-in .result) _ (e₁ .before .settings-hold .ensures) (e₁ .if1 .left)
+    let else-1 = c .before .before .before .before .before .before .before .before .before in
+    let after-settings-hold = else-1 .before in
+    let after-sizes-in = after-settings-hold .before .before in
+    let at-start = after-sizes-in .before .before in
+    sizes-low (at-start .args .image .now) (after-sizes-in .sizes-in .result) _ (after-settings-hold .settings-hold .ensures) (else-1 .if1 .left)
 
 returns-5 : tie.Need-returns-5
 returns-5 c =
-    let read = c .before .before .before .before .before .before .before .before .before .before .before .before .before .before in
-    let start = read .before .before in
-    verdict-is (start .args .image .now) _ _ _ (read .sizes-in .ensures) (start .pre .1) (start .pre .2) _
-    (search (and-later, call-stop, c .before .files-hold .ensures, c .if5 .taken) depth 9)
+    let after-files-hold = c .before in
+    let else-2 = after-files-hold .before .before .before .before .before .before .before in
+    let after-sizes-in = else-2 .before .before .before .before .before .before in
+    let at-start = after-sizes-in .before .before in
+    verdict-is (at-start .args .image .now) _ _ _ (after-sizes-in .sizes-in .ensures) (at-start .pre .1) (at-start .pre .2) _
+    (search (and-later, call-stop, after-files-hold .files-hold .ensures, c .if5 .taken) depth 9)
 
 get-u16-requires : tie.Need-get-u16-requires
 get-u16-requires c κs = search needs
@@ -87,31 +97,42 @@ count-requires c κs = search needs
 
 returns-6 : tie.Need-returns-6
 returns-6 c =
-    let read = c .before .before .before .before .before .before .before .before .before .before .before .before .before .before .before .before .before in
-    let start = read .before .before in
-    verdict-is (start .args .image .now) _ _ _ (read .sizes-in .ensures) (start .pre .1) (start .pre .2) _
-    (search (and-later, and-stop, room-stop, c .before .count .ensures, c .before .before .get-u16 .ensures, c .if6 .taken) depth 9)
+    let after-count = c .before in
+    let after-get-u16 = after-count .before in
+    let else-3 = after-get-u16 .before .before .before .before .before .before in
+    let after-sizes-in = else-3 .before .before .before .before .before .before .before .before .before in
+    let at-start = after-sizes-in .before .before in
+    verdict-is (at-start .args .image .now) _ _ _ (after-sizes-in .sizes-in .ensures) (at-start .pre .1) (at-start .pre .2) _
+    (search (and-later, and-stop, room-stop, after-count .count .ensures, after-get-u16 .get-u16 .ensures, c .if6 .taken) depth 9)
 
 gaps-hold-requires : tie.Need-gaps-hold-requires
 gaps-hold-requires c κs = search needs
 
 returns-7 : tie.Need-returns-7
 returns-7 c =
-    let e₆ = c .before in
-    let e₅ = e₆ .before .before .before in
-    let e₄ = e₅ .before .before .before in
-    let e₃ = e₄ .before .before in
-    let e₂ = e₃ .before .before .before in
-    let e₁ = e₂ .before .before .before in
-    let read = e₁ .before .before .before in
-    let start = read .before .before in
-    verdict-is (start .args .image .now) _ _ _ (read .sizes-in .ensures) (start .pre .1) (start .pre .2) _
-    (call-pass _ _ _ _ (e₁ .before .settings-hold .ensures) (e₁ .if1 .left)
-    (call-pass _ _ _ _ (e₂ .before .within .ensures ∙ ap (within 0 15) (e₂ .before .before .get-u8 .ensures)) (e₂ .if2 .left)
-    (call-pass _ _ _ _ (e₃ .before .slots-hold .ensures) (e₃ .if3 .left)
-    (call-pass _ _ _ _ (e₄ .before .is-apart .ensures) (e₄ .if4 .left)
-    (call-pass _ _ _ _ (e₅ .before .files-hold .ensures) (e₅ .if5 .left)
-    (and-pass _ _ _ (room-pass _ _ _ _ (e₆ .before .count .ensures) (e₆ .before .before .get-u16 .ensures) (e₆ .if6 .left)) (c .gaps-hold .ensures)))))))
+    let else-6 = c .before in
+    let after-count = else-6 .before in
+    let after-get-u16 = after-count .before in
+    let else-5 = after-get-u16 .before in
+    let after-files-hold = else-5 .before in
+    let else-4 = after-files-hold .before .before in
+    let after-is-apart = else-4 .before in
+    let else-3 = after-is-apart .before in
+    let after-slots-hold = else-3 .before in
+    let else-2 = after-slots-hold .before .before in
+    let after-within = else-2 .before in
+    let after-get-u8 = after-within .before in
+    let else-1 = after-get-u8 .before in
+    let after-settings-hold = else-1 .before in
+    let after-sizes-in = after-settings-hold .before .before in
+    let at-start = after-sizes-in .before .before in
+    verdict-is (at-start .args .image .now) _ _ _ (after-sizes-in .sizes-in .ensures) (at-start .pre .1) (at-start .pre .2) _
+    (call-pass _ _ _ _ (after-settings-hold .settings-hold .ensures) (else-1 .if1 .left)
+    (call-pass _ _ _ _ (after-within .within .ensures ∙ ap (within 0 15) (after-get-u8 .get-u8 .ensures)) (else-2 .if2 .left)
+    (call-pass _ _ _ _ (after-slots-hold .slots-hold .ensures) (else-3 .if3 .left)
+    (call-pass _ _ _ _ (after-is-apart .is-apart .ensures) (else-4 .if4 .left)
+    (call-pass _ _ _ _ (after-files-hold .files-hold .ensures) (else-5 .if5 .left)
+    (and-pass _ _ _ (room-pass _ _ _ _ (after-count .count .ensures) (after-get-u16 .get-u16 .ensures) (else-6 .if6 .left)) (c .gaps-hold .ensures)))))))
 
 pub accepted-spec : {M : Type 1} → statement M
 accepted-spec =

@@ -25,7 +25,9 @@ element-copy-out-file-holds : tie.Need-element-copy-out-file-holds Inv-loop μ-l
 element-copy-out-file-holds c = search needs
 
 file-holds-requires : tie.Need-file-holds-requires Inv-loop μ-loop
-file-holds-requires c κs = (search needs, c .before .before .before .pre _)
+file-holds-requires c κs =
+    let at-start = c .before .before .before in
+    (search needs, at-start .pre _)
 
 returns : tie.Need-returns Inv-loop μ-loop
 returns c = search (every-stop, needs)

@@ -11,17 +11,19 @@ get-u8-requires c κs = search needs
 
 returns : tie.Need-returns
 returns c =
-    let at-start = c .before .before .before in
-    rw (setting-at (at-start .args .image .now) 2 (omega arith), ← c .before .get-u8 .ensures) (search (stops, needs))
+    let after-get-u8 = c .before in
+    let at-start = after-get-u8 .before .before in
+    rw (setting-at (at-start .args .image .now) 2 (omega arith), ← after-get-u8 .get-u8 .ensures) (search (stops, needs))
 
 get-u32-requires : tie.Need-get-u32-requires
 get-u32-requires c κs = search needs
 
 returns-2 : tie.Need-returns-2
 returns-2 c =
-    let at-start = c .before .before .before .before in
+    let after-get-u8 = c .before .before in
+    let at-start = after-get-u8 .before .before in
     let image = at-start .args .image .now in
-    rw (setting-at image 2 (omega arith), gap-at image, ← c .before .before .get-u8 .ensures, ← c .get-u32 .ensures) (search (passes, needs))
+    rw (setting-at image 2 (omega arith), gap-at image, ← after-get-u8 .get-u8 .ensures, ← c .get-u32 .ensures) (search (passes, needs))
 
 pub gaps-hold-spec : {M : Type 1} → statement M
 gaps-hold-spec = tie.close (tie.spec get-u8-requires returns get-u32-requires returns-2)

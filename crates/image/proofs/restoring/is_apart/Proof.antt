@@ -45,7 +45,8 @@ loop-again c = search (more-told, both-tells, needs)
 
 returns : tie.Need-returns Inv-loop μ-loop
 returns c =
-    let a = c .before .before .args in
+    let at-start = c .before .before in
+    let a = at-start .args in
     search (all-told (apartAt (a .cached .now) (a .fetching .now)) 0 128, needs)
 
 pub is-apart-spec : {M : Type 1} → statement M

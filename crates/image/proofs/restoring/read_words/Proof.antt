@@ -40,7 +40,8 @@ loop-less c = search needs
 
 loop-again : tie.Need-loop-again Inv-loop μ-loop
 loop-again c =
-    let a = c .before .before .before .before .before .args in
+    let at-start = c .before .before .before .before .before in
+    let a = at-start .args in
     search (filled-more (numberFrom 8 (a .image .now) (a .at)) 128 0, needs)
 
 same-length : tie.Need-same-length Inv-loop μ-loop
@@ -48,7 +49,8 @@ same-length c = search needs
 
 returns : tie.Need-returns Inv-loop μ-loop
 returns c =
-    let a = c .before .before .before .before .args in
+    let at-start = c .before .before .before .before in
+    let a = at-start .args in
     search (filled-all (numberFrom 8 (a .image .now) (a .at)) 128 0, needs)
 
 pub read-words-spec : {M : Type 1} → statement M

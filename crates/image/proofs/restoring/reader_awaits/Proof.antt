@@ -15,22 +15,29 @@ last-page-requires c κs = search needs
 
 returns : tie.Need-returns
 unfolding awaits
-returns c = and-stop _ _ (le-ltb _ _ (rw (c .before .before .last-page .ensures) at (c .if1 .taken)))
+returns c =
+    let after-last-page = c .before .before in
+    and-stop _ _ (le-ltb _ _ (rw (after-last-page .last-page .ensures) at (c .if1 .taken)))
 
 next-key-requires : tie.Need-next-key-requires
 next-key-requires c κs = search needs
 
 has-bit-requires : tie.Need-has-bit-requires
 has-bit-requires c κs =
-    let start = c .before .before .before .before .before in
-    omega (arith, c .next-key .ensures, c .before .before .before .last-page .ensures, c .before .if1 .left, start .pre .1 (start .args .r .file))
+    let else-1 = c .before in
+    let after-last-page = else-1 .before .before in
+    let at-start = after-last-page .before .before in
+    omega (arith, c .next-key .ensures, after-last-page .last-page .ensures, else-1 .if1 .left, at-start .pre .1 (at-start .args .r .file))
 
 returns-2 : tie.Need-returns-2
 unfolding awaits
 returns-2 c =
-    let start = c .before .before .before .before .before .before in
-    and-pass _ _ _ (lt-ltb _ _ (rw (c .before .before .before .before .last-page .ensures) at (c .before .before .if1 .left)))
-    (c .has-bit .ensures ∙ ap (λ k. eqb (bit (start .args .fetching .now) k) 1) (c .before .next-key .ensures))
+    let after-next-key = c .before in
+    let else-1 = after-next-key .before in
+    let after-last-page = else-1 .before .before in
+    let at-start = after-last-page .before .before in
+    and-pass _ _ _ (lt-ltb _ _ (rw (after-last-page .last-page .ensures) at (else-1 .if1 .left)))
+    (c .has-bit .ensures ∙ ap (λ k. eqb (bit (at-start .args .fetching .now) k) 1) (after-next-key .next-key .ensures))
 
 pub reader-awaits-spec : {M : Type 1} → statement M
 reader-awaits-spec =

@@ -27,18 +27,34 @@ within-requires c κs = search needs
 
 returns-2 : tie.Need-returns-2
 unfolding readerPlaced
-returns-2 c = rw (sym (c .before .before .before .before .no-file .ensures) ∙ c .before .before .before .if1 .left) (call-stop _ _ _ (c .before .within .ensures) (c .if2 .taken))
+returns-2 c =
+    let after-within = c .before in
+    let else-1 = after-within .before .before in
+    let after-no-file = else-1 .before in
+    rw (sym (after-no-file .no-file .ensures) ∙ else-1 .if1 .left) (call-stop _ _ _ (after-within .within .ensures) (c .if2 .taken))
 
 last-page-requires : tie.Need-last-page-requires
 last-page-requires c κs =
-    let a = c .before .before .before .before .before .before .before .args in
-    let there = file-there (sizedWith (a .sizes .now) noPages) (a .r .file) (sym (c .before .before .before .before .no-file .ensures) ∙ c .before .before .before .if1 .left) in
+    let else-1 = c .before .before .before in
+    let after-no-file = else-1 .before in
+    let at-start = after-no-file .before .before .before in
+    let a = at-start .args in
+    let there = file-there (sizedWith (a .sizes .now) noPages) (a .r .file) (sym (after-no-file .no-file .ensures) ∙ else-1 .if1 .left) in
     there .0
 
 returns-3 : tie.Need-returns-3
 unfolding readerPlaced
 returns-3 c =
-    rw (sym (c .before .before .before .before .before .before .no-file .ensures) ∙ c .before .before .before .before .before .if1 .left, sym (c .before .before .before .within .ensures) ∙ not-false _ (c .before .before .if2 .left), c .before .last-page .ensures)
+    let after-last-page = c .before in
+    let else-2 = after-last-page .before in
+    let after-within = else-2 .before in
+    let else-1 = after-within .before .before in
+    let after-no-file = else-1 .before in
+    rw (
+      sym (after-no-file .no-file .ensures) ∙ else-1 .if1 .left,
+      sym (after-within .within .ensures) ∙ not-false _ (else-2 .if2 .left),
+      after-last-page .last-page .ensures,
+    )
 
 pub reader-placed-spec : {M : Type 1} → statement M
 reader-placed-spec =

@@ -38,12 +38,14 @@ loop-less c = search needs
 
 loop-again : tie.Need-loop-again Inv-loop μ-loop
 loop-again c =
-    let a = c .before .before .before .before .before .args in
+    let at-start = c .before .before .before .before .before in
+    let a = at-start .args in
     search (filled-more (readerFrom (imageNumbers (a .image .now))) 16 noReader, needs)
 
 returns : tie.Need-returns Inv-loop μ-loop
 returns c =
-    let a = c .before .before .before .before .args in
+    let at-start = c .before .before .before .before in
+    let a = at-start .args in
     search (filled-all (readerFrom (imageNumbers (a .image .now))) 16 noReader, needs)
 
 pub readers-in-spec : {M : Type 1} → statement M

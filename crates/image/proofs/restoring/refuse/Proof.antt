@@ -13,7 +13,10 @@ idle-requires : tie.Need-idle-requires
 idle-requires c κs = search needs
 
 returns : tie.Need-returns
-returns c = rw (c .before .clear-all2 .ensures, c .before .before .before .clear-all .ensures, c .idle .ensures)
+returns c =
+    let after-clear-all-2 = c .before in
+    let after-clear-all = after-clear-all-2 .before .before in
+    rw (after-clear-all-2 .clear-all2 .ensures, after-clear-all .clear-all .ensures, c .idle .ensures)
 
 pub refuse-spec : {M : Type 1} → statement M
 refuse-spec = tie.close (tie.spec clear-all-requires clear-all-requires-2 idle-requires returns)

@@ -11,9 +11,9 @@ refuse-requires c κs = search needs
 
 returns : tie.Need-returns
 returns c =
-    let at-length = c .before .before .before in
-    let at-start = at-length .before .before in
-    c .refuse .ensures ∙ restore-short (at-start .args .image .now) (at-length .if1 .taken)
+    let then-1 = c .before .before .before in
+    let at-start = then-1 .before .before in
+    c .refuse .ensures ∙ restore-short (at-start .args .image .now) (then-1 .if1 .taken)
 
 read-words-requires : tie.Need-read-words-requires
 read-words-requires c κs = search needs
@@ -23,35 +23,39 @@ read-words-requires-2 c κs = search needs
 
 accepted-requires : tie.Need-accepted-requires
 accepted-requires c κs =
-    let at-fetching = c .before .before in
-    let at-cached = at-fetching .before .before in
-    let at-length = at-cached .before .before in
-    let image = at-length .before .before .args .image .now in
-    (at-length .if1 .left, at-cached .read-words .ensures ∙ cached-read image, at-fetching .read-words2 .ensures ∙ fetching-read image)
+    let after-read-words-2 = c .before .before in
+    let after-read-words = after-read-words-2 .before .before in
+    let else-1 = after-read-words .before .before in
+    let at-start = else-1 .before .before in
+    let image = at-start .args .image .now in
+    (else-1 .if1 .left, after-read-words .read-words .ensures ∙ cached-read image, after-read-words-2 .read-words2 .ensures ∙ fetching-read image)
 
 refuse-requires-2 : tie.Need-refuse-requires-2
 refuse-requires-2 c κs = search needs
 
 returns-2 : tie.Need-returns-2
 returns-2 c =
-    let at-tests = c .before .before .before in
-    let at-fetching = at-tests .before .before .before .before in
-    let at-length = at-fetching .before .before .before .before in
-    let image = at-length .before .before .args .image .now in
-    c .refuse2 .ensures ∙ restore-stop image (at-length .if1 .left) _ (at-tests .before .accepted .ensures) (at-tests .if2 .taken)
+    let then-2 = c .before .before .before in
+    let after-accepted = then-2 .before in
+    let else-1 = after-accepted .before .before .before .before .before .before .before in
+    let at-start = else-1 .before .before in
+    let image = at-start .args .image .now in
+    c .refuse2 .ensures ∙ restore-stop image (else-1 .if1 .left) _ (after-accepted .accepted .ensures) (then-2 .if2 .taken)
 
 view-in-requires : tie.Need-view-in-requires
 view-in-requires c κs = search needs
 
 returns-3 : tie.Need-returns-3
 returns-3 c =
-    let at-tests = c .before in
-    let at-fetching = at-tests .before .before .before .before in
-    let at-cached = at-fetching .before .before in
-    let at-length = at-cached .before .before in
-    let image = at-length .before .before .args .image .now in
-    restore-pass image (at-length .if1 .left) _ _ (at-tests .before .accepted .ensures) (at-tests .if2 .left)
-    (state-read image _ _ _ (c .view-in .ensures) (at-cached .read-words .ensures) (at-fetching .read-words2 .ensures))
+    let else-2 = c .before in
+    let after-accepted = else-2 .before in
+    let after-read-words-2 = after-accepted .before .before .before in
+    let after-read-words = after-read-words-2 .before .before in
+    let else-1 = after-read-words .before .before in
+    let at-start = else-1 .before .before in
+    let image = at-start .args .image .now in
+    restore-pass image (else-1 .if1 .left) _ _ (after-accepted .accepted .ensures) (else-2 .if2 .left)
+    (state-read image _ _ _ (c .view-in .ensures) (after-read-words .read-words .ensures) (after-read-words-2 .read-words2 .ensures))
 
 pub restore-spec : {M : Type 1} → statement M
 restore-spec =

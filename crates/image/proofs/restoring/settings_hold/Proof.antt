@@ -20,7 +20,9 @@ within-requires c κs = search needs
 returns : tie.Need-returns
 unfolding settingsIn
 returns c =
-    search (call-stop, c .before .within .ensures ∙ ap (within 1 1024) (c .before .before .get-u16 .ensures), c .if1 .taken)
+    let after-within = c .before in
+    let after-get-u16 = after-within .before in
+    search (call-stop, after-within .within .ensures ∙ ap (within 1 1024) (after-get-u16 .get-u16 .ensures), c .if1 .taken)
 
 get-u32-requires : tie.Need-get-u32-requires
 get-u32-requires c κs = search needs
@@ -34,7 +36,9 @@ within-requires-2 c κs = search needs
 returns-2 : tie.Need-returns-2
 unfolding settingsIn
 returns-2 c =
-    search (and-later, call-stop, c .before .within2 .ensures ∙ ap (within 1 2000000) (c .before .before .get-u32 .ensures), c .if2 .taken)
+    let after-within-2 = c .before in
+    let after-get-u32 = after-within-2 .before in
+    search (and-later, call-stop, after-within-2 .within2 .ensures ∙ ap (within 1 2000000) (after-get-u32 .get-u32 .ensures), c .if2 .taken)
 
 get-u32-requires-2 : tie.Need-get-u32-requires-2
 get-u32-requires-2 c κs = search needs
@@ -48,7 +52,9 @@ within-requires-3 c κs = search needs
 returns-3 : tie.Need-returns-3
 unfolding settingsIn
 returns-3 c =
-    search (and-later, call-stop, c .before .within3 .ensures ∙ ap (within 0 2000000) (c .before .before .get-u322 .ensures), c .if3 .taken)
+    let after-within-3 = c .before in
+    let after-get-u32-2 = after-within-3 .before in
+    search (and-later, call-stop, after-within-3 .within3 .ensures ∙ ap (within 0 2000000) (after-get-u32-2 .get-u322 .ensures), c .if3 .taken)
 
 sizes-hold-requires : tie.Need-sizes-hold-requires
 sizes-hold-requires c κs = search needs
@@ -56,18 +62,24 @@ sizes-hold-requires c κs = search needs
 returns-4 : tie.Need-returns-4
 unfolding settingsIn
 returns-4 c =
-    let p₃ = c .before in
-    let p₂ = p₃ .before .before .before in
-    let p₁ = p₂ .before .before .before in
+    let else-3 = c .before in
+    let after-within-3 = else-3 .before in
+    let after-get-u32-2 = after-within-3 .before in
+    let else-2 = after-get-u32-2 .before in
+    let after-within-2 = else-2 .before in
+    let after-get-u32 = after-within-2 .before in
+    let else-1 = after-get-u32 .before in
+    let after-within = else-1 .before in
+    let after-get-u16 = after-within .before in
     search (
       call-pass,
       c .sizes-hold .ensures,
-      p₃ .before .within3 .ensures ∙ ap (within 0 2000000) (p₃ .before .before .get-u322 .ensures),
-      p₃ .if3 .left,
-      p₂ .before .within2 .ensures ∙ ap (within 1 2000000) (p₂ .before .before .get-u32 .ensures),
-      p₂ .if2 .left,
-      p₁ .before .within .ensures ∙ ap (within 1 1024) (p₁ .before .before .get-u16 .ensures),
-      p₁ .if1 .left,
+      after-within-3 .within3 .ensures ∙ ap (within 0 2000000) (after-get-u32-2 .get-u322 .ensures),
+      else-3 .if3 .left,
+      after-within-2 .within2 .ensures ∙ ap (within 1 2000000) (after-get-u32 .get-u32 .ensures),
+      else-2 .if2 .left,
+      after-within .within .ensures ∙ ap (within 1 1024) (after-get-u16 .get-u16 .ensures),
+      else-1 .if1 .left,
     ) depth 9
 
 pub settings-hold-spec : {M : Type 1} → statement M

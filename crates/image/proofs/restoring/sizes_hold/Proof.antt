@@ -34,9 +34,9 @@ size-holds-requires c κs = search needs
 
 returns : tie.Need-returns Inv-loop μ-loop
 returns c =
-    let start = c .before .before .before .before .before in
-    let sizes = start .args .sizes .now in
-    rw (every-listed (within 0 1024) sizes 8 tt (start .pre)) (search (every-stop (low sizes), needs))
+    let at-start = c .before .before .before .before .before in
+    let sizes = at-start .args .sizes .now in
+    rw (every-listed (within 0 1024) sizes 8 tt (at-start .pre)) (search (every-stop (low sizes), needs))
 
 add-f : tie.Need-add-f Inv-loop μ-loop
 add-f c = search needs
@@ -45,13 +45,15 @@ loop-less : tie.Need-loop-less Inv-loop μ-loop
 loop-less c = search needs
 
 loop-again : tie.Need-loop-again Inv-loop μ-loop
-loop-again c = search (every-more (low (c .before .before .before .before .before .args .sizes .now)), needs)
+loop-again c =
+    let at-start = c .before .before .before .before .before in
+    search (every-more (low (at-start .args .sizes .now)), needs)
 
 returns-2 : tie.Need-returns-2 Inv-loop μ-loop
 returns-2 c =
-    let start = c .before .before in
-    let sizes = start .args .sizes .now in
-    rw (every-listed (within 0 1024) sizes 8 tt (start .pre)) (search (every-end (low sizes), needs))
+    let at-start = c .before .before in
+    let sizes = at-start .args .sizes .now in
+    rw (every-listed (within 0 1024) sizes 8 tt (at-start .pre)) (search (every-end (low sizes), needs))
 
 pub sizes-hold-spec : {M : Type 1} → statement M
 sizes-hold-spec =

@@ -42,12 +42,14 @@ loop-less c = search needs
 
 loop-again : tie.Need-loop-again Inv-loop μ-loop
 loop-again c =
-    let a = c .before .before .before .before .args in
+    let at-start = c .before .before .before .before in
+    let a = at-start .args in
     search (filled-more (numberFrom 2 (a .image .now) sizesAt) 8 0, needs)
 
 returns : tie.Need-returns Inv-loop μ-loop
 returns c =
-    let a = c .before .before .before .args in
+    let at-start = c .before .before .before in
+    let a = at-start .args in
     rw (← sizes-read (a .image .now)) (search (filled-all (numberFrom 2 (a .image .now) sizesAt) 8 0, needs))
 
 pub sizes-in-spec : {M : Type 1} → statement M

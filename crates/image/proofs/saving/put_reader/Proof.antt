@@ -44,16 +44,19 @@ same-length c = search needs
 returns : tie.Need-returns
 unfolding readerBytes
 returns c =
-    let p₅ = c .before .before in
-    let p₄ = p₅ .before .before .before .before in
-    let p₃ = p₄ .before .before .before .before in
-    let p₂ = p₃ .before .before .before .before in
-    let p₁ = p₂ .before .before .before .before in
-    let a = p₁ .before .before .before .before .args in
+    let after-put-u16-3 = c .before .before in
+    let after-put-u16-2 = after-put-u16-3 .before .before .before .before in
+    let after-put-u16 = after-put-u16-2 .before .before .before .before in
+    let after-put-u8-2 = after-put-u16 .before .before .before .before in
+    let after-put-u8 = after-put-u8-2 .before .before .before .before in
+    let after-condition-number = after-put-u8 .before in
+    let at-start = after-condition-number .before .before .before in
+    let a = at-start .args in
     written-five (field 1 (conditionNumber (a .r .condition))) (field 1 (a .r .file)) (field 2 (a .r .pace)) (field 2 (a .r .position)) (field 2 0)
     (a .buffer .now) _ _ _ _ _ (a .at)
-    (p₁ .put-u8 .ensures ∙ ap (λ n. written (a .buffer .now) (a .at) (bytesOf 1 n)) (p₁ .before .condition-number .ensures))
-    (p₂ .put-u82 .ensures) (p₃ .put-u16 .ensures) (p₄ .put-u162 .ensures) (p₅ .put-u163 .ensures) (search needs)
+    (after-put-u8 .put-u8 .ensures ∙ ap (λ n. written (a .buffer .now) (a .at) (bytesOf 1 n)) (after-condition-number .condition-number .ensures))
+    (after-put-u8-2 .put-u82 .ensures) (after-put-u16 .put-u16 .ensures) (after-put-u16-2 .put-u162 .ensures)
+    (after-put-u16-3 .put-u163 .ensures) (search needs)
 
 pub put-reader-spec : {M : Type 1} → statement M
 put-reader-spec =

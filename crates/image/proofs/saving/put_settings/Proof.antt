@@ -25,14 +25,16 @@ same-length c = search needs
 
 returns : tie.Need-returns
 returns c =
-    let p₅ = c .before .before in
-    let p₄ = p₅ .before .before .before .before in
-    let p₃ = p₄ .before .before .before .before in
-    let p₂ = p₃ .before .before .before .before in
-    let p₁ = p₂ .before .before .before .before in
-    let a = p₁ .before .before .before .args in
+    let after-put-u32-2 = c .before .before in
+    let after-put-u32 = after-put-u32-2 .before .before .before .before in
+    let after-put-u8-2 = after-put-u32 .before .before .before .before in
+    let after-put-u8 = after-put-u8-2 .before .before .before .before in
+    let after-put-u16 = after-put-u8 .before .before .before .before in
+    let at-start = after-put-u16 .before .before .before in
+    let a = at-start .args in
     written-five (field 2 (a .frames)) (field 1 (a .turn)) (field 1 0) (field 4 (a .look-ahead)) (field 4 (a .fetch-time)) (a .buffer .now) _ _ _ _ _ 0
-    (p₁ .put-u16 .ensures) (p₂ .put-u8 .ensures) (p₃ .put-u82 .ensures) (p₄ .put-u32 .ensures) (p₅ .put-u322 .ensures) (search needs)
+    (after-put-u16 .put-u16 .ensures) (after-put-u8 .put-u8 .ensures) (after-put-u8-2 .put-u82 .ensures)
+    (after-put-u32 .put-u32 .ensures) (after-put-u32-2 .put-u322 .ensures) (search needs)
 
 pub put-settings-spec : {M : Type 1} → statement M
 put-settings-spec =

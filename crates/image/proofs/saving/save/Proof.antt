@@ -32,10 +32,10 @@ same-length c = search needs
 returns-2 : tie.Need-returns-2
 unfolding saveOf
 returns-2 c =
-    let at-save = c .before .before in
-    let at-length = at-save .before .before in
-    let at-start = at-length .before .before in
-    rw (le-ltb (length (at-start .args .buffer .now)) imageLength (at-length .if1 .left), at-save .save-whole .ensures)
+    let after-save-whole = c .before .before in
+    let else-1 = after-save-whole .before .before in
+    let at-start = else-1 .before .before in
+    rw (le-ltb (length (at-start .args .buffer .now)) imageLength (else-1 .if1 .left), after-save-whole .save-whole .ensures)
 
 pub save-spec : {M : Type 1} → statement M
 save-spec =

@@ -27,15 +27,16 @@ same-length c = search needs
 
 returns : tie.Need-returns
 returns c =
-    let p₆ = c .before .before in
-    let p₅ = p₆ .before .before .before .before in
-    let p₄ = p₅ .before .before .before .before in
-    let p₃ = p₄ .before .before .before .before in
-    let p₂ = p₃ .before .before .before .before .before in
-    let p₁ = p₂ .before .before .before .before .before .before in
-    let at-start = p₁ .before .before .before in
+    let after-put-words-2 = c .before .before in
+    let after-put-words = after-put-words-2 .before .before .before .before in
+    let after-put-u32 = after-put-words .before .before .before .before in
+    let after-put-readers = after-put-u32 .before .before .before .before in
+    let after-put-sizes = after-put-readers .before .before .before .before .before in
+    let after-put-settings = after-put-sizes .before .before .before .before .before .before in
+    let at-start = after-put-settings .before .before .before in
     written-image _ (at-start .pre .0) (at-start .args .buffer .now) _ _ _ _ _ _ (at-start .pre .1)
-    (p₁ .put-settings .ensures) (p₂ .put-sizes .ensures) (p₃ .put-readers .ensures) (p₄ .put-u32 .ensures) (p₅ .put-words .ensures) (p₆ .put-words2 .ensures)
+    (after-put-settings .put-settings .ensures) (after-put-sizes .put-sizes .ensures) (after-put-readers .put-readers .ensures)
+    (after-put-u32 .put-u32 .ensures) (after-put-words .put-words .ensures) (after-put-words-2 .put-words2 .ensures)
 
 pub save-whole-spec : {M : Type 1} → statement M
 save-whole-spec =
