@@ -41,7 +41,10 @@ module _ (image : List ℕ) (r : Reply) (restored : r ≡ restoreOf image) where
     not-done t d = true≢false (sym (ap carriedOut (ap (λ q. q .answer) restored ∙ d)) ∙ sym told ∙ not-true ok t)
 
     done : not ok ≡ false → restoreOf image .answer ≡ Done
-    done t = ⊎-elim (λ d. d) (λ n. absurd (true≢false (sym (not-false ok t) ∙ told ∙ ap (λ q. carriedOut (q .answer)) (restored ∙ restore-refused image n)))) (done-or-not image)
+    done t =
+        ⊎-elim (λ d. d)
+        (λ n. absurd (true≢false (sym (not-false ok t) ∙ told ∙ ap (λ q. carriedOut (q .answer)) (restored ∙ restore-refused image n))))
+        (done-or-not image)
 
     module _ (c : Call) where
       -- an image that Restore refuses: 13, and the buffer is left

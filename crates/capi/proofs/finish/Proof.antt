@@ -11,7 +11,10 @@ carried-out-requires : tie.Need-carried-out-requires
 carried-out-requires c κs = search needs
 
 returns : tie.Need-returns
-returns c = end-refused _ _ _ (c .before .carried-out .ensures) _ (c .before .before .number .ensures) (c .if1 .taken)
+returns c =
+    let after-carried-out = c .before in
+    let after-number = after-carried-out .before in
+    end-refused _ _ _ (after-carried-out .carried-out .ensures) _ (after-number .number .ensures) (c .if1 .taken)
 
 save-whole-requires : tie.Need-save-whole-requires
 save-whole-requires c κs = search needs
@@ -20,7 +23,12 @@ same-length : tie.Need-same-length
 same-length c = search needs
 
 returns-2 : tie.Need-returns-2
-returns-2 c = end-saved _ _ _ (c .before .before .before .before .before .carried-out .ensures) _ (c .before .before .before .before .before .before .number .ensures) (c .before .before .before .before .if1 .left) _ (c .before .before .save-whole .ensures)
+returns-2 c =
+    let after-save-whole = c .before .before in
+    let else-1 = after-save-whole .before .before in
+    let after-carried-out = else-1 .before in
+    let after-number = after-carried-out .before in
+    end-saved _ _ _ (after-carried-out .carried-out .ensures) _ (after-number .number .ensures) (else-1 .if1 .left) _ (after-save-whole .save-whole .ensures)
 
 pub finish-spec : {M : Type 1} → statement M
 finish-spec =

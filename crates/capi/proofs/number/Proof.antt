@@ -107,15 +107,24 @@ returns-2 c = search needs
 
 returns-3 : tie.Need-returns-3
 unfolding code
-returns-3 c = rw (c .before .before .before .a2 .given .1, c .lettered2 .ensures, c .before .page-number .ensures)
+returns-3 c =
+    let after-page-number = c .before in
+    let after-a-2 = after-page-number .before .before in
+    rw (after-a-2 .a2 .given .1, c .lettered2 .ensures, after-page-number .page-number .ensures)
 
 returns-4 : tie.Need-returns-4
 unfolding code
-returns-4 c = rw (c .before .before .before .a3 .given .1, c .lettered3 .ensures, c .before .page-number2 .ensures)
+returns-4 c =
+    let after-page-number-2 = c .before in
+    let after-a-3 = after-page-number-2 .before .before in
+    rw (after-a-3 .a3 .given .1, c .lettered3 .ensures, after-page-number-2 .page-number2 .ensures)
 
 returns-5 : tie.Need-returns-5
 unfolding code
-returns-5 c = rw (c .before .before .before .a4 .given .1, c .lettered4 .ensures, c .before .page-number3 .ensures)
+returns-5 c =
+    let after-page-number-3 = c .before in
+    let after-a-4 = after-page-number-3 .before .before in
+    rw (after-a-4 .a4 .given .1, c .lettered4 .ensures, after-page-number-3 .page-number3 .ensures)
 
 returns-6 : tie.Need-returns-6
 unfolding code
@@ -127,7 +136,10 @@ returns-7 c = search needs
 
 returns-8 : tie.Need-returns-8
 unfolding code
-returns-8 c = rw (c .before .before .before .a5 .given .1, c .lettered7 .ensures, c .before .page-number4 .ensures)
+returns-8 c =
+    let after-page-number-4 = c .before in
+    let after-a-5 = after-page-number-4 .before .before in
+    rw (after-a-5 .a5 .given .1, c .lettered7 .ensures, after-page-number-4 .page-number4 .ensures)
 
 returns-9 : tie.Need-returns-9
 unfolding code
@@ -135,7 +147,10 @@ returns-9 c = search needs
 
 returns-10 : tie.Need-returns-10
 unfolding code
-returns-10 c = rw (c .before .before .before .a6 .given .1, c .lettered9 .ensures, c .before .page-number5 .ensures)
+returns-10 c =
+    let after-page-number-5 = c .before in
+    let after-a-6 = after-page-number-5 .before .before in
+    rw (after-a-6 .a6 .given .1, c .lettered9 .ensures, after-page-number-5 .page-number5 .ensures)
 
 returns-11 : tie.Need-returns-11
 unfolding code

@@ -15,19 +15,36 @@ same-length : tie.Need-same-length
 same-length c = search needs
 
 returns : tie.Need-returns
-returns c = entry-unrestored _ _ (c .before .before .restore .ensures) _ (c .before .carried-out .ensures) (detach _) (c .if1 .taken)
+returns c =
+    let after-carried-out = c .before in
+    let after-restore = after-carried-out .before in
+    entry-unrestored _ _ (after-restore .restore .ensures) _ (after-carried-out .carried-out .ensures) (detach _) (c .if1 .taken)
 
 detach-requires : tie.Need-detach-requires
 detach-requires c κs = search needs
 
 finish-requires : tie.Need-finish-requires
-finish-requires c κs = entry-ready _ _ (c .before .before .before .before .before .before .restore .ensures) _ (c .before .before .before .before .before .carried-out .ensures) (detach _) (c .before .before .before .before .if1 .left) _ (c .before .before .before .detach .ensures .0 _ _) (c .before .before .before .before .before .before .before .before .before .before .slice-known .given)
+finish-requires c κs =
+    let after-detach = c .before .before .before in
+    let else-1 = after-detach .before in
+    let after-carried-out = else-1 .before in
+    let after-restore = after-carried-out .before in
+    let after-slice-known = after-restore .before .before .before .before in
+    entry-ready _ _ (after-restore .restore .ensures) _ (after-carried-out .carried-out .ensures) (detach _) (else-1 .if1 .left)
+    _ (after-detach .detach .ensures .0 _ _) (after-slice-known .slice-known .given)
 
 same-length-2 : tie.Need-same-length-2
 same-length-2 c = search needs
 
 returns-2 : tie.Need-returns-2
-returns-2 c = entry-restored _ _ (c .before .before .before .before .before .before .before .before .before .restore .ensures) _ (c .before .before .before .before .before .before .before .before .carried-out .ensures) (detach _) (c .before .before .before .before .before .before .before .if1 .left) _ (c .before .before .before .before .before .before .detach .ensures .0 _ _) _ (c .before .before .finish .ensures)
+returns-2 c =
+    let after-finish = c .before .before in
+    let after-detach = after-finish .before .before .before .before in
+    let else-1 = after-detach .before in
+    let after-carried-out = else-1 .before in
+    let after-restore = after-carried-out .before in
+    entry-restored _ _ (after-restore .restore .ensures) _ (after-carried-out .carried-out .ensures) (detach _) (else-1 .if1 .left)
+    _ (after-detach .detach .ensures .0 _ _) _ (after-finish .finish .ensures)
 
 pub quay-detach-spec : {M : Type 1} → statement M
 quay-detach-spec =
