@@ -66,7 +66,8 @@ unfolding lineOf each
 order-length first keys few low =
     let many : length keys < 10 ^ 4 = omega arith in
     let all = all-map Key (λ k. length (each fieldOf (pairOf k)) ≤ 7) keys pair-few low in
-    rw (each-each, length-append (digitsOf 10 (length keys))) (omega (arith, digits-few 3 10 (length keys) many, each-few (λ k. each fieldOf (pairOf k)) 7 keys all))
+    rw (each-each, length-append (digitsOf 10 (length keys)))
+    (omega (arith, digits-few 3 10 (length keys) many, each-few (λ k. each fieldOf (pairOf k)) 7 keys all))
 
 -- a line of clusters
 pub clusters-length : (numbers : List ℕ) → length numbers ≤ 2048 → All Key numbers → length (clustersLine numbers) ≤ 57350

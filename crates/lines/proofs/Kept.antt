@@ -21,7 +21,8 @@ abbrev Keeps : Response → Type 0
 Keeps r = Valid (r .state)
 
 -- Setup, carried out or refused
-setup-kept : (s : State) → Valid s → (c : ℕ) (x : List ℕ) → asks c x (ascii "S") 11 ≡ true → Keeps (toldSetup s (setupOf (getD x 0 0) (getD x 1 0) (getD x 2 0) (drop 3 x)))
+setup-kept : (s : State) → Valid s → (c : ℕ) (x : List ℕ) → asks c x (ascii "S") 11 ≡ true
+    → Keeps (toldSetup s (setupOf (getD x 0 0) (getD x 1 0) (getD x 2 0) (drop 3 x)))
 setup-kept s v c x e =
     let n : length x ≡ 11 = eqb-true _ _ (and-true (eqb c (ascii "S")) _ e .1) in
     let r = setupOf (getD x 0 0) (getD x 1 0) (getD x 2 0) (drop 3 x) in

@@ -24,7 +24,8 @@ Not c letter = c ≡ letter → ⊥
 
 module _ (s : State) (c : ℕ) where
   -- no letter takes so many fields
-  pub other-count : (x : List ℕ) (n : ℕ) → length x ≡ 11 → n ≤ 11 → Not n 0 → Not n 1 → Not n 2 → Not n 3 → Not n 11 → obeyed s c (take n x) ≡ told (refused s 14)
+  pub other-count : (x : List ℕ) (n : ℕ) → length x ≡ 11 → n ≤ 11 → Not n 0 → Not n 1 → Not n 2 → Not n 3 → Not n 11
+      → obeyed s c (take n x) ≡ told (refused s 14)
   unfolding obeyed
   other-count x n all few a b d e f =
       let long : length (take n x) ≡ n = length-take-le n x (omega arith) in

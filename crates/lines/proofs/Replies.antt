@@ -63,7 +63,8 @@ gives-told r q before after a e g = rw e at g
 -- ---- Setup
 
 -- the response of an equal reply
-pub gives-setup : (s : State) (r q : Reply) (before after : List ℕ) (a : Answered) → r ≡ q → Gives (toldSetup s r) before after a → Gives (toldSetup s q) before after a
+pub gives-setup : (s : State) (r q : Reply) (before after : List ℕ) (a : Answered) → r ≡ q → Gives (toldSetup s r) before after a
+    → Gives (toldSetup s q) before after a
 gives-setup s r q before after a e g = rw e at g
 
 -- by the variant that a `match` met, a call was refused or carried out
@@ -95,7 +96,8 @@ carried-by (Ran fetches reads) k = refl
 
 module _ (s : State) (r : Reply) (before after : List ℕ) (a : Answered) where
   -- refused, it leaves the old state
-  pub setup-left : OneOf (0 ∷ []) (tagOf the-type (r .answer)) → Gives (told (record { state = s; answer = r .answer })) before after a → Gives (toldSetup s r) before after a
+  pub setup-left : OneOf (0 ∷ []) (tagOf the-type (r .answer))
+      → Gives (told (record { state = s; answer = r .answer })) before after a → Gives (toldSetup s r) before after a
   setup-left k g = rw (refused-by (r .answer) k) g
 
   -- carried out, it gives its own
@@ -110,7 +112,8 @@ pub record Filled (numbers : List ℕ) (count : ℕ) (r : Listing) (after : List
   pub written : take (length numbers) after ≡ numbers
   pub room : length numbers ≤ length after
 
-pub filled : (numbers : List ℕ) (count : ℕ) (lent : List ℕ) (r : Listing) (after : List ℕ) → _≡_ {A = Written} (record { answer = r; list = after }) (listed numbers count lent)
+pub filled : (numbers : List ℕ) (count : ℕ) (lent : List ℕ) (r : Listing) (after : List ℕ)
+    → _≡_ {A = Written} (record { answer = r; list = after }) (listed numbers count lent)
     → length numbers ≤ length lent → Filled numbers count r after
 unfolding listed
 filled numbers count lent r after e h =

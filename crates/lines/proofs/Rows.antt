@@ -24,13 +24,15 @@ unfolding lineOf
 line-append first a b = ap (λ l. first ∷ l) (each-append fieldOf a b)
 
 -- a letter, then numbers
-pub put-numbers : (l m out : List ℕ) (i j first : ℕ) (numbers : List ℕ) → Put l 0 (first ∷ []) m i → Put m i (each fieldOf numbers) out j → length (lineOf first numbers) ≤ length l
+pub put-numbers : (l m out : List ℕ) (i j first : ℕ) (numbers : List ℕ) → Put l 0 (first ∷ []) m i
+    → Put m i (each fieldOf numbers) out j → length (lineOf first numbers) ≤ length l
     → Put l 0 (lineOf first numbers) out j
 unfolding lineOf
 put-numbers l m out i j first numbers p q h = put-more l m out 0 i j (first ∷ []) (each fieldOf numbers) p q (omega arith)
 
 -- room for them
-pub numbers-room : (l m : List ℕ) (i first : ℕ) (numbers : List ℕ) → Put l 0 (first ∷ []) m i → 1 + length numbers * 11 ≤ length l → i + length (each fieldOf numbers) ≤ length l
+pub numbers-room : (l m : List ℕ) (i first : ℕ) (numbers : List ℕ) → Put l 0 (first ∷ []) m i → 1 + length numbers * 11 ≤ length l
+    → i + length (each fieldOf numbers) ≤ length l
 unfolding lineOf
 numbers-room l m i first numbers p h = omega (arith, p .next-is, line-length first numbers)
 
@@ -44,7 +46,8 @@ unfolding each
 field-one p = append-nil (fieldOf p)
 
 -- a letter, then a number
-pub put-first : (l m out : List ℕ) (i j first n : ℕ) → Put l 0 (first ∷ []) m i → Put m i (fieldOf n) out j → 12 ≤ length l → Put l 0 (lineOf first (n ∷ [])) out j
+pub put-first : (l m out : List ℕ) (i j first n : ℕ) → Put l 0 (first ∷ []) m i → Put m i (fieldOf n) out j → 12 ≤ length l
+    → Put l 0 (lineOf first (n ∷ [])) out j
 put-first l m out i j first n p q h = put-numbers l m out i j first (n ∷ []) p (rw field-one q) (omega (arith, line-length first (n ∷ [])))
 
 -- a letter, then two
@@ -89,7 +92,8 @@ module _ (g : ℕ → List ℕ) (list : List ℕ) (n : ℕ) (all : n ≤ length 
       let rest : List ℕ = drop i (take n list) in
       let parts = sym (take-append-drop i (take n list)) ∙ ap (λ l. l ++ rest) (take-take i n list h) in
       let whole : rowOf g list n ≡ rowOf g list i ++ each fieldOf (each g rest)
-      = ap (λ l. each fieldOf (each g l)) parts ∙ ap (each fieldOf) (each-append g (take i list) rest) ∙ each-append fieldOf (each g (take i list)) (each g rest) in
+      = ap (λ l. each fieldOf (each g l)) parts ∙ ap (each fieldOf) (each-append g (take i list) rest)
+      ∙ each-append fieldOf (each g (take i list)) (each g rest) in
       omega (arith, ap length whole, length-append (rowOf g list i) (each fieldOf (each g rest)))
 
   module _ (l m : List ℕ) (from at i : ℕ) (h : i < n) (room : from + length (rowOf g list n) ≤ length l) (p : Put l from (rowOf g list i) m at) where
@@ -105,7 +109,8 @@ module _ (g : ℕ → List ℕ) (list : List ℕ) (n : ℕ) (all : n ≤ length 
     row-step out j q = rw (row-more i h) (put-more l m out from at j (rowOf g list i) (each fieldOf (g (getD list i 0))) p q row-fits)
 
 -- a line of a count and a list's numbers
-pub row-line : (first count : ℕ) (g : ℕ → List ℕ) (list l m out : List ℕ) (from at n : ℕ) → Put l 0 (lineOf first (count ∷ [])) m from → Put m from (rowOf g list n) out at
+pub row-line : (first count : ℕ) (g : ℕ → List ℕ) (list l m out : List ℕ) (from at n : ℕ)
+    → Put l 0 (lineOf first (count ∷ [])) m from → Put m from (rowOf g list n) out at
     → length (lineOf first (count ∷ each g (take n list))) ≤ length l → Put l 0 (lineOf first (count ∷ each g (take n list))) out at
 row-line first count g list l m out from at n p q h =
     let e = line-append first (count ∷ []) (each g (take n list)) in
@@ -113,7 +118,8 @@ row-line first count g list l m out from at n p q h =
     rw e (put-more l m out 0 from at (lineOf first (count ∷ [])) (rowOf g list n) p q (omega arith))
 
 -- room for the numbers behind the count
-pub line-room : (first count : ℕ) (numbers l m : List ℕ) (from : ℕ) → Put l 0 (lineOf first (count ∷ [])) m from → length (lineOf first (count ∷ numbers)) ≤ length l
+pub line-room : (first count : ℕ) (numbers l m : List ℕ) (from : ℕ) → Put l 0 (lineOf first (count ∷ [])) m from
+    → length (lineOf first (count ∷ numbers)) ≤ length l
     → from + length (each fieldOf numbers) ≤ length l
 line-room first count numbers l m from p h =
     omega (arith, p .next-is, ap length (line-append first (count ∷ []) numbers), length-append (lineOf first (count ∷ [])) (each fieldOf numbers))
@@ -128,7 +134,8 @@ row-end g list l m from at i n h k p = let e : i ≡ n = omega arith in rw e at 
 line-keys : (first n : ℕ) (keys : List ℕ) → n ≤ length keys → orderLine first (take n keys) ≡ lineOf first (n ∷ each pairOf (take n keys))
 line-keys first n keys h = rw (length-take-le n keys h)
 
-module _ (first n : ℕ) (keys l m : List ℕ) (from : ℕ) (all : n ≤ length keys) (p : Put l 0 (lineOf first (n ∷ [])) m from) (room : length (orderLine first (take n keys)) ≤ length l) where
+module _ (first n : ℕ) (keys l m : List ℕ) (from : ℕ) (all : n ≤ length keys) (p : Put l 0 (lineOf first (n ∷ [])) m from)
+    (room : length (orderLine first (take n keys)) ≤ length l) where
   wide : length (lineOf first (n ∷ each pairOf (take n keys))) ≤ length l
   wide = rw (line-keys first n keys all) at room
 
@@ -138,7 +145,9 @@ module _ (first n : ℕ) (keys l m : List ℕ) (from : ℕ) (all : n ≤ length 
 
   -- the line of the keys
   pub keys-end : (out : List ℕ) (at i : ℕ) → i ≤ n → n ≤ i → Put m from (rowOf pairOf keys i) out at → Put l 0 (orderLine first (take n keys)) out at
-  keys-end out at i h k q = rw (line-keys first n keys all) (row-line first n pairOf keys l m out from at n p (row-end pairOf keys m out from at i n h k q) wide)
+  keys-end out at i h k q =
+      rw (line-keys first n keys all)
+      (row-line first n pairOf keys l m out from at n p (row-end pairOf keys m out from at i n h k q) wide)
 
 each-one : (l : List ℕ) → each one l ≡ l
 unfolding each
@@ -149,7 +158,8 @@ each-one (x ∷ l) = ap (λ m. x ∷ m) (each-one l)
 line-clusters : (n : ℕ) (pages : List ℕ) → n ≤ length pages → clustersLine (take n pages) ≡ lineOf 67 (n / 2 ∷ each one (take n pages))
 line-clusters n pages h = rw (length-take-le n pages h, each-one)
 
-module _ (n : ℕ) (pages l m : List ℕ) (from : ℕ) (all : n ≤ length pages) (p : Put l 0 (lineOf 67 (n / 2 ∷ [])) m from) (room : length (clustersLine (take n pages)) ≤ length l) where
+module _ (n : ℕ) (pages l m : List ℕ) (from : ℕ) (all : n ≤ length pages) (p : Put l 0 (lineOf 67 (n / 2 ∷ [])) m from)
+    (room : length (clustersLine (take n pages)) ≤ length l) where
   long : length (lineOf 67 (n / 2 ∷ each one (take n pages))) ≤ length l
   long = rw (line-clusters n pages all) at room
 
@@ -159,4 +169,5 @@ module _ (n : ℕ) (pages l m : List ℕ) (from : ℕ) (all : n ≤ length pages
 
   -- the line of the clusters
   pub clusters-end : (out : List ℕ) (at i : ℕ) → i ≤ n → n ≤ i → Put m from (rowOf one pages i) out at → Put l 0 (clustersLine (take n pages)) out at
-  clusters-end out at i h k q = rw (line-clusters n pages all) (row-line 67 (n / 2) one pages l m out from at n p (row-end one pages m out from at i n h k q) long)
+  clusters-end out at i h k q =
+      rw (line-clusters n pages all) (row-line 67 (n / 2) one pages l m out from at n p (row-end one pages m out from at i n h k q) long)

@@ -25,7 +25,8 @@ front : (numbers list : List ℕ) (n count : ℕ) (r : Listing) → n ≡ length
 front numbers list n count r e f = record { room = omega (arith, f .room); is = rw e (f .written) }
 
 -- an order that was written, and its length counted
-order-front : (order lent list : List ℕ) (n : ℕ) (r : Listing) → n ≡ countIn r → _≡_ {A = Written} (record { answer = r; list = list }) (listed order (length order) lent)
+order-front : (order lent list : List ℕ) (n : ℕ) (r : Listing) → n ≡ countIn r
+    → _≡_ {A = Written} (record { answer = r; list = list }) (listed order (length order) lent)
     → length order ≤ length lent → Front order list n
 order-front order lent list n r e w h =
     let f = filled order (length order) lent r list w h in

@@ -55,7 +55,9 @@ taken-clipped room (piece ∷ (more ∷ pieces)) f at =
     by-most (length (f .output) + answerRoom) room
     (λ h.
     ap clipAll (taken-cons room (clip f) at piece more pieces h)
-    ∙ ap (λ r. clipAll (taken room (record { state = r .state; text = []; output = f .output ++ (r .line ++ lineEnd) }) (at + length piece + 1) (more ∷ pieces)))
+    ∙ ap (λ r.
+    clipAll (taken room (record { state = r .state; text = []; output = f .output ++ (r .line ++ lineEnd) }) (at + length piece + 1)
+    (more ∷ pieces)))
     (respond-more (f .state) (f .text) piece)
     ∙ ap clipAll (sym (taken-cons room f at piece more pieces h)))
     (λ h.
@@ -75,7 +77,8 @@ pub record FedOn (before chunk : List ℕ) (f : Fed) (at : ℕ) (r : Reached) : 
   pub one : OnePiece (ascii "\n") (r .fed .text)
   pub far : at ≤ r .next
 
-fed-on : (room : ℕ) (before chunk : List ℕ) (pieces : List (List ℕ)) (f : Fed) (at : ℕ) → split (ascii "\n") (drop at chunk) ≡ pieces → OnePiece (ascii "\n") (f .text)
+fed-on : (room : ℕ) (before chunk : List ℕ) (pieces : List (List ℕ)) (f : Fed) (at : ℕ)
+    → split (ascii "\n") (drop at chunk) ≡ pieces → OnePiece (ascii "\n") (f .text)
     → FedOn before chunk f at (taken room f at pieces)
 unfolding taken
 fed-on room before chunk [] f at e one = record { rest = refl; one = one; far = omega arith }
@@ -102,7 +105,8 @@ fed-on room before chunk (piece ∷ (more ∷ pieces)) f at e one =
     (λ h. subst (FedOn before chunk f at) (sym (taken-stop room f at piece more pieces h)) (record { rest = refl; one = one; far = omega arith }))
 
 -- the first line always has room, so something is taken of what is left
-taken-some : (room : ℕ) (chunk : List ℕ) (pieces : List (List ℕ)) (f : Fed) (at : ℕ) → split (ascii "\n") (drop at chunk) ≡ pieces → OnePiece (ascii "\n") (f .text)
+taken-some : (room : ℕ) (chunk : List ℕ) (pieces : List (List ℕ)) (f : Fed) (at : ℕ) → split (ascii "\n") (drop at chunk) ≡ pieces
+    → OnePiece (ascii "\n") (f .text)
     → f .output ≡ [] → answerRoom ≤ room → at < length chunk → at < taken room f at pieces .next
 unfolding taken
 taken-some room chunk [] f at e one none roomy h =
@@ -111,7 +115,8 @@ taken-some room chunk [] f at e one none roomy h =
 taken-some room chunk (piece ∷ []) f at e one none roomy h = omega (arith, ap length (piece-last chunk at piece e), length-drop at chunk)
 taken-some room chunk (piece ∷ (more ∷ pieces)) f at e one none roomy h =
     let room-left : length (f .output) + answerRoom ≤ room = rw none roomy in
-    let on = fed-on room [] chunk (more ∷ pieces) (answered f (f .text ++ piece)) (at + length piece + 1) (pieces-behind chunk at piece more pieces e) (none-one (ascii "\n")) in
+    let on = fed-on room [] chunk (more ∷ pieces) (answered f (f .text ++ piece)) (at + length piece + 1)
+    (pieces-behind chunk at piece more pieces e) (none-one (ascii "\n")) in
     rw (taken-cons room f at piece more pieces room-left) (omega (arith, on .far))
 
 -- ---- on lent buffers
@@ -153,7 +158,9 @@ module _ (image text chunk : List ℕ) (from : ℕ) (out : List ℕ) (f : Fed) (
   -- as far as the text matters it is the program's
   alike : clipAll (taken (length out) (startOf (f .state) text) from pieces) ≡ clipAll far
   unfolding far unsaid
-  alike = ap (λ t. clipAll (taken (length out) (record { state = f .state; text = t; output = [] }) from pieces)) (at .text-is) ∙ taken-clipped (length out) pieces unsaid from
+  alike =
+      ap (λ t. clipAll (taken (length out) (record { state = f .state; text = t; output = [] }) from pieces)) (at .text-is)
+      ∙ taken-clipped (length out) pieces unsaid from
 
   -- the parts of that
   state-is : taken (length out) (startOf (f .state) text) from pieces .fed .state ≡ far .fed .state
@@ -168,7 +175,8 @@ module _ (image text chunk : List ℕ) (from : ℕ) (out : List ℕ) (f : Fed) (
   next-is : taken (length out) (startOf (f .state) text) from pieces .next ≡ far .next
   next-is = ap (λ r. r .next) alike
 
-  stands : StandsIn (imageOf (taken (length out) (startOf (f .state) text) from pieces .fed .state)) (kept text (taken (length out) (startOf (f .state) text) from pieces .fed .text)) (onward (f .output) (far .fed))
+  stands : StandsIn (imageOf (taken (length out) (startOf (f .state) text) from pieces .fed .state))
+      (kept text (taken (length out) (startOf (f .state) text) from pieces .fed .text)) (onward (f .output) (far .fed))
   stands =
       let t = taken (length out) (startOf (f .state) text) from pieces .fed .text in
       record {
@@ -187,7 +195,9 @@ module _ (image text chunk : List ℕ) (from : ℕ) (out : List ℕ) (f : Fed) (
       record {
         to = onward (f .output) (far .fed);
         stands = stands;
-        rest = ap (λ o. feed (record { state = f .state; text = f .text; output = o }) (drop from chunk)) (sym (append-nil (f .output))) ∙ on .rest ∙ rw next-is;
+        rest =
+            ap (λ o. feed (record { state = f .state; text = f .text; output = o }) (drop from chunk)) (sym (append-nil (f .output))) ∙ on .rest
+            ∙ rw next-is;
         output = ap (λ o. f .output ++ o) (sym output-is ∙ sym (take-at (r .fed .output) (drop (length (r .fed .output)) out) (length (r .fed .output)) refl));
         fits = omega (arith, length-append (r .fed .output) (drop (length (r .fed .output)) out));
         more = λ h. rw next-is (taken-some (length out) chunk pieces unsaid from refl (at .one) refl roomy h);

@@ -110,7 +110,8 @@ module _ (room : ℕ) (f : Fed) (chunk : List ℕ) (at : ℕ) where
   -- it is answered, if there is room for its answer
   pub taken-line : endOf chunk at < length chunk → length (f .output) + answerRoom ≤ room
       → taken room f at (split (ascii "\n") (drop at chunk))
-      ≡ taken room (answered f (f .text ++ take (endOf chunk at - at) (drop at chunk))) (endOf chunk at + 1) (split (ascii "\n") (drop (endOf chunk at + 1) chunk))
+      ≡ taken room (answered f (f .text ++ take (endOf chunk at - at) (drop at chunk))) (endOf chunk at + 1)
+      (split (ascii "\n") (drop (endOf chunk at + 1) chunk))
   taken-line h fits =
       let p = take (endOf chunk at - at) (drop at chunk) in
       let width : length p ≡ endOf chunk at - at = length-take-le (endOf chunk at - at) (drop at chunk) (omega (arith, length-drop at chunk)) in
@@ -191,10 +192,22 @@ pub record Going (start : State) (text₀ chunk : List ℕ) (from : ℕ) (out₀
   pub inside : next ≤ length chunk
 
 -- no line yet
-pub going-none : (s : State) (text chunk : List ℕ) (from : ℕ) (out : List ℕ) (end : ℕ) → Valid s → length text ≡ 201 → from ≤ length chunk → end ≡ endOf chunk from
+pub going-none : (s : State) (text chunk : List ℕ) (from : ℕ) (out : List ℕ) (end : ℕ) → Valid s → length text ≡ 201
+    → from ≤ length chunk → end ≡ endOf chunk from
     → Going s text chunk from out s text out from 0 end
 going-none s text chunk from out end v sized inside ends =
-    record { same = refl; fits = omega arith; past = refl; long = refl; sized = sized; bytes = refl; emptied = λ h. absurd (omega arith); valid = v; ends = ends; inside = inside }
+    record {
+      same = refl;
+      fits = omega arith;
+      past = refl;
+      long = refl;
+      sized = sized;
+      bytes = refl;
+      emptied = λ h. absurd (omega arith);
+      valid = v;
+      ends = ends;
+      inside = inside;
+    }
 
 module _ (start : State) (text₀ chunk : List ℕ) (from : ℕ) (out₀ : List ℕ) (s : State) (text out : List ℕ) (next len end : ℕ)
     (k : Going start text₀ chunk from out₀ s text out next len end) where
@@ -221,9 +234,11 @@ module _ (start : State) (text₀ chunk : List ℕ) (from : ℕ) (out₀ : List 
       let none : textIn (set text 0 0) ≡ [] = text-none (set text 0 0) (getD-set-same text 0 0 0 first) in
       let here : endOf chunk next < length chunk = rw (← k .ends) h in
       let fits : length (take len out) + answerRoom ≤ length out₀ = rw output-is (omega (arith, k .long)) in
-      let step : taken (length out₀) f next (split (ascii "\n") (drop next chunk)) ≡ taken (length out₀) (answered f line) (end + 1) (split (ascii "\n") (drop (end + 1) chunk))
+      let step : taken (length out₀) f next (split (ascii "\n") (drop next chunk))
+      ≡ taken (length out₀) (answered f line) (end + 1) (split (ascii "\n") (drop (end + 1) chunk))
       = rw (k .ends) (taken-line (length out₀) f chunk next here fits) in
-      let fed : answered f line ≡ record { state = a .state; text = textIn (set text 0 0); output = take (len + a .len) after } = rw (g .state, none, front-is) in
+      let fed : answered f line ≡ record { state = a .state; text = textIn (set text 0 0); output = take (len + a .len) after } =
+      rw (g .state, none, front-is) in
       record {
         same = k .same ∙ step ∙ ap (λ g. taken (length out₀) g (end + 1) (split (ascii "\n") (drop (end + 1) chunk))) fed;
         fits = omega (arith, whole-is, length-append (take len out ++ bytes) (drop (len + a .len) out), front out after bytes len (len + a .len) (k .fits) p);
@@ -252,8 +267,10 @@ module _ (start : State) (text₀ chunk : List ℕ) (from : ℕ) (out₀ : List 
       let f : Fed = record { state = s; text = textIn text; output = take len out } in
       let far : length chunk ≤ endOf chunk next = rw (← k .ends) h in
       let t = k .same ∙ taken-rest (length out₀) f chunk next (k .inside) far in
-      let all : take (length chunk - next) (drop next chunk) ≡ drop next chunk = take-all (length chunk - next) (drop next chunk) (omega (arith, length-drop next chunk)) in
-      let text-is : after ≡ kept text₀ (textIn text ++ drop next chunk) = e ∙ ap (λ l. kept text (textIn text ++ l)) all ∙ kept-same text text₀ (textIn text ++ drop next chunk) (k .bytes) in
+      let all : take (length chunk - next) (drop next chunk) ≡ drop next chunk =
+      take-all (length chunk - next) (drop next chunk) (omega (arith, length-drop next chunk)) in
+      let text-is : after ≡ kept text₀ (textIn text ++ drop next chunk) =
+      e ∙ ap (λ l. kept text (textIn text ++ l)) all ∙ kept-same text text₀ (textIn text ++ drop next chunk) (k .bytes) in
       rw (t, output-is, text-is, out-is)
 
   -- no room is left
@@ -309,7 +326,8 @@ module _ (s : State) (text chunk : List ℕ) (from : ℕ) (out : List ℕ) (g : 
   gone-valid v = rw went (taken-valid (length out) (split (ascii "\n") (drop from chunk)) (startOf s text) from v)
 
   pub feed-went : (image : List ℕ) → ready text chunk from out ≡ true → carriedOut (restoreOf image .answer) ≡ true → s ≡ restoreOf image .state
-      → (after : List ℕ) → after ≡ imageOf (g .state) → fedIn (record { next = g .next; len = g .len }) after (g .text) (g .out) ≡ feedOf image text chunk from out
+      → (after : List ℕ) → after ≡ imageOf (g .state)
+      → fedIn (record { next = g .next; len = g .len }) after (g .text) (g .out) ≡ feedOf image text chunk from out
   feed-went image t e same after is =
       ap (λ i. fedIn (record { next = g .next; len = g .len }) i (g .text) (g .out)) is
       ∙ ap saved (went ∙ ap (λ r. goneOf r text chunk from out) same)

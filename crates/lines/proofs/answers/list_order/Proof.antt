@@ -15,7 +15,13 @@ same-length : tie.Need-same-length
 same-length c = search needs
 
 returns : tie.Need-returns
-returns c = rw (c .before .before .before .before .before .if1 .taken) (steal-front (stateOf (c .before .before .before .before .before .before .before .args .v) (c .before .before .before .before .before .before .before .args .cached .now) (c .before .before .before .before .before .before .before .args .fetching .now)) (c .before .before .before .before .before .before .before .pre .0) _ _ _ _ (c .count-in .ensures) (c .before .before .before .steal-list .ensures) (search needs))
+returns c =
+    let after-steal-list = c .before .before .before in
+    let then-1 = after-steal-list .before .before in
+    let at-start = then-1 .before .before in
+    rw (then-1 .if1 .taken)
+    (steal-front (stateOf (at-start .args .v) (at-start .args .cached .now) (at-start .args .fetching .now)) (at-start .pre .0)
+    _ _ _ _ (c .count-in .ensures) (after-steal-list .steal-list .ensures) (search needs))
 
 fetch-list-requires : tie.Need-fetch-list-requires
 fetch-list-requires c κs = search needs
@@ -27,7 +33,13 @@ same-length-2 : tie.Need-same-length-2
 same-length-2 c = search needs
 
 returns-2 : tie.Need-returns-2
-returns-2 c = rw (c .before .before .before .before .before .if1 .left) (fetch-front (stateOf (c .before .before .before .before .before .before .before .args .v) (c .before .before .before .before .before .before .before .args .cached .now) (c .before .before .before .before .before .before .before .args .fetching .now)) (c .before .before .before .before .before .before .before .pre .0) _ _ _ _ (c .count-in2 .ensures) (c .before .before .before .fetch-list .ensures) (search needs))
+returns-2 c =
+    let after-fetch-list = c .before .before .before in
+    let else-1 = after-fetch-list .before .before in
+    let at-start = else-1 .before .before in
+    rw (else-1 .if1 .left)
+    (fetch-front (stateOf (at-start .args .v) (at-start .args .cached .now) (at-start .args .fetching .now)) (at-start .pre .0)
+    _ _ _ _ (c .count-in2 .ensures) (after-fetch-list .fetch-list .ensures) (search needs))
 
 pub list-order-spec : {M : Type 1} → statement M
 list-order-spec =

@@ -19,7 +19,9 @@ put-number-requires : tie.Need-put-number-requires Inv-loop μ-loop
 put-number-requires c κs = search needs
 
 loop-holds : tie.Need-loop-holds Inv-loop μ-loop
-loop-holds c = (search needs, refl, row-none _ (c .before .before .before .before .before .before .args .pages .now) _ _)
+loop-holds c =
+    let at-start = c .before .before .before .before .before .before in
+    (search needs, refl, row-none _ (at-start .args .pages .now) _ _)
 
 mul-put-field : tie.Need-mul-put-field Inv-loop μ-loop
 mul-put-field c = search needs
@@ -28,14 +30,19 @@ shared-slice-read-put-field : tie.Need-shared-slice-read-put-field Inv-loop μ-l
 shared-slice-read-put-field c = search needs
 
 cast-put-field : tie.Need-cast-put-field Inv-loop μ-loop
-cast-put-field c = omega (arith, c .shared-slice-known2 .given (c .before .before .before .loop .i))
+cast-put-field c =
+    let at-loop = c .before .before .before in
+    omega (arith, c .shared-slice-known2 .given (at-loop .loop .i))
 
 put-field-requires : tie.Need-put-field-requires Inv-loop μ-loop
 put-field-requires c κs =
-    let l = c .before .before .before .loop in
-    let s = c .before .before .before .before .before .before .before .before .before .before in
-    let room = clusters-room _ _ _ _ _ (s .pre .0) (c .before .before .before .before .before .before .put-number .ensures) (s .pre .1 .1) in
-    let next = row-room one _ _ (s .pre .0) _ _ _ _ _ (c .before .before .loop-test .taken) (omega arith) (l .inv .2) (l .inv .1) in
+    let at-loop-test = c .before .before in
+    let at-loop = at-loop-test .before in
+    let after-put-number = at-loop .before .before .before in
+    let at-start = after-put-number .before .before .before .before in
+    let l = at-loop .loop in
+    let room = clusters-room _ _ _ _ _ (at-start .pre .0) (after-put-number .put-number .ensures) (at-start .pre .1 .1) in
+    let next = row-room one _ _ (at-start .pre .0) _ _ _ _ _ (at-loop-test .loop-test .taken) (omega arith) (l .inv .2) (l .inv .1) in
     (omega (arith, c .shared-slice-known2 .given (l .i)), rw field-one at next)
 
 add-i : tie.Need-add-i Inv-loop μ-loop
@@ -46,19 +53,29 @@ loop-less c = search needs
 
 loop-again : tie.Need-loop-again Inv-loop μ-loop
 loop-again c =
-    let l = c .before .before .before .before .before .before .loop in
-    let s = c .before .before .before .before .before .before .before .before .before .before .before .before .before in
-    let room = clusters-room _ _ _ _ _ (s .pre .0) (c .before .before .before .before .before .before .before .before .before .put-number .ensures) (s .pre .1 .1) in
-    (search needs, search needs, row-step one _ _ (s .pre .0) _ _ _ _ _ (c .before .before .before .before .before .loop-test .taken) (omega arith) (l .inv .2) _ _ (rw field-one (c .before .before .put-field .ensures)))
+    let after-put-field = c .before .before in
+    let at-loop-test = after-put-field .before .before .before in
+    let at-loop = at-loop-test .before in
+    let after-put-number = at-loop .before .before .before in
+    let at-start = after-put-number .before .before .before .before in
+    let l = at-loop .loop in
+    let room = clusters-room _ _ _ _ _ (at-start .pre .0) (after-put-number .put-number .ensures) (at-start .pre .1 .1) in (
+      search needs,
+      search needs,
+      row-step one _ _ (at-start .pre .0) _ _ _ _ _ (at-loop-test .loop-test .taken) (omega arith) (l .inv .2)
+          _ _ (rw field-one (after-put-field .put-field .ensures)),
+    )
 
 same-length : tie.Need-same-length Inv-loop μ-loop
 same-length c = search needs
 
 returns : tie.Need-returns Inv-loop μ-loop
 returns c =
-    let l = c .before .loop in
-    let s = c .before .before .before .before .before .before .before .before in
-    clusters-end _ _ _ _ _ (s .pre .0) (c .before .before .before .before .put-number .ensures) (s .pre .1 .1) _ _ _ (l .inv .0) (c .loop-test .left) (l .inv .2)
+    let at-loop = c .before in
+    let after-put-number = at-loop .before .before .before in
+    let at-start = after-put-number .before .before .before .before in
+    let l = at-loop .loop in
+    clusters-end _ _ _ _ _ (at-start .pre .0) (after-put-number .put-number .ensures) (at-start .pre .1 .1) _ _ _ (l .inv .0) (c .loop-test .left) (l .inv .2)
 
 pub put-clusters-spec : {M : Type 1} → statement M
 put-clusters-spec =

@@ -20,7 +20,9 @@ put-number-requires : tie.Need-put-number-requires Inv-loop μ-loop
 put-number-requires c κs = search needs
 
 loop-holds : tie.Need-loop-holds Inv-loop μ-loop
-loop-holds c = (search needs, refl, row-none _ (c .before .before .before .before .before .before .args .keys .now) _ _)
+loop-holds c =
+    let at-start = c .before .before .before .before .before .before in
+    (search needs, refl, row-none _ (at-start .args .keys .now) _ _)
 
 mul-key : tie.Need-mul-key Inv-loop μ-loop
 mul-key c = search needs
@@ -39,10 +41,15 @@ page-of-requires c κs = search needs
 
 put-pair-requires : tie.Need-put-pair-requires Inv-loop μ-loop
 put-pair-requires c κs =
-    let l = c .before .before .before .before .before .loop in
-    let s = c .before .before .before .before .before .before .before .before .before .before .before .before in
-    let room = keys-room _ _ _ _ _ _ (s .pre .0) (c .before .before .before .before .before .before .before .before .put-number .ensures) (s .pre .1 .1) in
-    rw (c .before .file-of .ensures, c .page-of .ensures) (row-room pairOf _ _ (s .pre .0) _ _ _ _ _ (c .before .before .before .before .loop-test .taken) (omega arith) (l .inv .2) (l .inv .1))
+    let after-file-of = c .before in
+    let at-loop-test = after-file-of .before .before .before in
+    let at-loop = at-loop-test .before in
+    let after-put-number = at-loop .before .before .before in
+    let at-start = after-put-number .before .before .before .before in
+    let l = at-loop .loop in
+    let room = keys-room _ _ _ _ _ _ (at-start .pre .0) (after-put-number .put-number .ensures) (at-start .pre .1 .1) in
+    rw (after-file-of .file-of .ensures, c .page-of .ensures)
+    (row-room pairOf _ _ (at-start .pre .0) _ _ _ _ _ (at-loop-test .loop-test .taken) (omega arith) (l .inv .2) (l .inv .1))
 
 add-i : tie.Need-add-i Inv-loop μ-loop
 add-i c = search needs
@@ -52,20 +59,28 @@ loop-less c = search needs
 
 loop-again : tie.Need-loop-again Inv-loop μ-loop
 loop-again c =
-    let l = c .before .before .before .before .before .before .before .before .loop in
-    let s = c .before .before .before .before .before .before .before .before .before .before .before .before .before .before .before in
-    let room = keys-room _ _ _ _ _ _ (s .pre .0) (c .before .before .before .before .before .before .before .before .before .before .before .put-number .ensures) (s .pre .1 .1) in
-    let pair = rw (c .before .before .before .before .file-of .ensures, c .before .before .before .page-of .ensures) at (c .before .before .put-pair .ensures) in
-    (search needs, search needs, row-step pairOf _ _ (s .pre .0) _ _ _ _ _ (c .before .before .before .before .before .before .before .loop-test .taken) (omega arith) (l .inv .2) _ _ pair)
+    let after-put-pair = c .before .before in
+    let after-page-of = after-put-pair .before in
+    let after-file-of = after-page-of .before in
+    let at-loop-test = after-file-of .before .before .before in
+    let at-loop = at-loop-test .before in
+    let after-put-number = at-loop .before .before .before in
+    let at-start = after-put-number .before .before .before .before in
+    let l = at-loop .loop in
+    let room = keys-room _ _ _ _ _ _ (at-start .pre .0) (after-put-number .put-number .ensures) (at-start .pre .1 .1) in
+    let pair = rw (after-file-of .file-of .ensures, after-page-of .page-of .ensures) at (after-put-pair .put-pair .ensures) in
+    (search needs, search needs, row-step pairOf _ _ (at-start .pre .0) _ _ _ _ _ (at-loop-test .loop-test .taken) (omega arith) (l .inv .2) _ _ pair)
 
 same-length : tie.Need-same-length Inv-loop μ-loop
 same-length c = search needs
 
 returns : tie.Need-returns Inv-loop μ-loop
 returns c =
-    let l = c .before .loop in
-    let s = c .before .before .before .before .before .before .before .before in
-    keys-end _ _ _ _ _ _ (s .pre .0) (c .before .before .before .before .put-number .ensures) (s .pre .1 .1) _ _ _ (l .inv .0) (c .loop-test .left) (l .inv .2)
+    let at-loop = c .before in
+    let after-put-number = at-loop .before .before .before in
+    let at-start = after-put-number .before .before .before .before in
+    let l = at-loop .loop in
+    keys-end _ _ _ _ _ _ (at-start .pre .0) (after-put-number .put-number .ensures) (at-start .pre .1 .1) _ _ _ (l .inv .0) (c .loop-test .left) (l .inv .2)
 
 pub put-keys-spec : {M : Type 1} → statement M
 put-keys-spec =

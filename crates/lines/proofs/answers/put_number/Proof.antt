@@ -10,7 +10,10 @@ put-byte-requires : tie.Need-put-byte-requires
 put-byte-requires c κs = search needs
 
 put-field-requires : tie.Need-put-field-requires
-put-field-requires c κs = (search needs, omega (arith, c .before .before .before .put-byte .ensures .next-is, digits-length 10 (c .before .before .before .before .before .before .args .n)))
+put-field-requires c κs =
+    let after-put-byte = c .before .before .before in
+    let at-start = after-put-byte .before .before .before in
+    (search needs, omega (arith, after-put-byte .put-byte .ensures .next-is, digits-length 10 (at-start .args .n)))
 
 same-length : tie.Need-same-length
 same-length c = search needs

@@ -7,13 +7,14 @@ use Rattle.lines.proofs.answers.put_pair.Tie as tie
 
 put-field-requires : tie.Need-put-field-requires
 put-field-requires c κs =
-    let s = c .before .before in
-    (search needs, omega (arith, pair-length (s .args .a) (s .args .b)))
+    let at-start = c .before .before in
+    (search needs, omega (arith, pair-length (at-start .args .a) (at-start .args .b)))
 
 put-field-requires-2 : tie.Need-put-field-requires-2
 put-field-requires-2 c κs =
-    let s = c .before .before .before .before .before .before in
-    (search needs, omega (arith, pair-length (s .args .a) (s .args .b), c .before .before .before .put-field .ensures .next-is))
+    let after-put-field = c .before .before .before in
+    let at-start = after-put-field .before .before .before in
+    (search needs, omega (arith, pair-length (at-start .args .a) (at-start .args .b), after-put-field .put-field .ensures .next-is))
 
 same-length : tie.Need-same-length
 same-length c = search needs

@@ -11,8 +11,9 @@ put-byte-requires c κs = search needs
 
 put-pair-requires : tie.Need-put-pair-requires
 put-pair-requires c κs =
-    let s = c .before .before .before .before .before .before in
-    omega (arith, numbers-room _ _ _ (s .args .letter) (s .args .a ∷ s .args .b ∷ []) (c .before .before .before .put-byte .ensures) (omega arith))
+    let after-put-byte = c .before .before .before in
+    let at-start = after-put-byte .before .before .before in
+    omega (arith, numbers-room _ _ _ (at-start .args .letter) (at-start .args .a ∷ at-start .args .b ∷ []) (after-put-byte .put-byte .ensures) (omega arith))
 
 same-length : tie.Need-same-length
 same-length c = search needs

@@ -25,13 +25,26 @@ same-length : tie.Need-same-length
 same-length c = search needs
 
 returns : tie.Need-returns
-returns c = setup-left (stateOf (c .before .before .before .before .before .before .before .args .v) (c .before .before .before .before .before .before .before .args .cached .now) (c .before .before .before .before .before .before .before .args .fetching .now)) (replyOf (c .before .before .before .before .before .before .before .args .r) noPages noPages) _ _ _ (c .before .before .before .before .before .match .keys1) (c .before .before .answer .ensures _ _)
+returns c =
+    let after-answer = c .before .before in
+    let at-match-keys-1 = after-answer .before .before .before in
+    let at-start = at-match-keys-1 .before .before in
+    setup-left (stateOf (at-start .args .v) (at-start .args .cached .now) (at-start .args .fetching .now))
+    (replyOf (at-start .args .r) noPages noPages) _ _ _ (at-match-keys-1 .match .keys1) (after-answer .answer .ensures _ _)
 
 same-length-2 : tie.Need-same-length-2
 same-length-2 c = search needs
 
 returns-2 : tie.Need-returns-2
-returns-2 c = rw (c .before .before .before .before .clear-all2 .ensures, c .before .before .before .before .before .before .clear-all .ensures) (setup-taken (stateOf (c .before .before .before .before .before .before .before .before .before .before .args .v) (c .before .before .before .before .before .before .before .before .before .before .args .cached .now) (c .before .before .before .before .before .before .before .before .before .before .args .fetching .now)) (replyOf (c .before .before .before .before .before .before .before .before .before .before .args .r) noPages noPages) _ _ _ (c .before .before .before .before .before .before .before .before .match .keys2) (c .before .before .say .ensures _ _))
+returns-2 c =
+    let after-say = c .before .before in
+    let after-clear-all-2 = after-say .before .before in
+    let after-clear-all = after-clear-all-2 .before .before in
+    let at-match-keys-2 = after-clear-all .before .before in
+    let at-start = at-match-keys-2 .before .before in
+    rw (after-clear-all-2 .clear-all2 .ensures, after-clear-all .clear-all .ensures)
+    (setup-taken (stateOf (at-start .args .v) (at-start .args .cached .now) (at-start .args .fetching .now))
+    (replyOf (at-start .args .r) noPages noPages) _ _ _ (at-match-keys-2 .match .keys2) (after-say .say .ensures _ _))
 
 pub say-setup-spec : {M : Type 1} → statement M
 say-setup-spec =

@@ -8,14 +8,27 @@ use Rattle.rules.specs.Calls.{noFile}
 use Rattle.rules.specs.Pages.{clusters}
 use Prim.Native.Nat.{_*_}
 use Rattle.rules.specs.Views.{stateOf}
+use Rattle.rules.specs.declared.State.{State}
 use Rattle.lines.proofs.Shown.{clusters-front, clusters-refused, clusters-line}
 use Rattle.lines.proofs.Replies.{line-ended}
 use Rattle.lines.proofs.answers.show_clusters.Statement.{statement}
 use Rattle.lines.proofs.answers.show_clusters.Tie as tie
 
+-- the state that the call finds
+abbrev the-state : tie.Start → State
+the-state s = stateOf (s .args .v) (s .args .cached .now) (s .args .fetching .now)
+
 -- the pages written are those of the clusters
-paired : (c : tie.After-listing) → (noFile (stateOf (c .before .before .before .before .before .before .args .v) (c .before .before .before .before .before .before .args .cached .now) (c .before .before .before .before .before .before .args .fetching .now)) (c .before .before .before .before .before .before .args .file) ≡ false) × Front (clusters (stateOf (c .before .before .before .before .before .before .args .v) (c .before .before .before .before .before .before .args .cached .now) (c .before .before .before .before .before .before .args .fetching .now)) (c .before .before .before .before .before .before .args .file)) (c .before .before .before .clusters .last .1 .1 .1 .1 .0) (2 * c .listing .given .0 .0)
-paired c = clusters-front (stateOf (c .before .before .before .before .before .before .args .v) (c .before .before .before .before .before .before .args .cached .now) (c .before .before .before .before .before .before .args .fetching .now)) (c .before .before .before .before .before .before .pre .0) _ _ _ (c .before .before .before .before .before .before .args .file) (c .before .before .before .clusters .ensures) (search needs) _ (c .listing .given .1)
+paired : (c : tie.After-listing) →
+    let after-clusters = c .before .before .before in
+    let at-start = after-clusters .before .before .before in
+    (noFile (the-state at-start) (at-start .args .file) ≡ false)
+    × Front (clusters (the-state at-start) (at-start .args .file)) (after-clusters .clusters .last .1 .1 .1 .1 .0) (2 * c .listing .given .0 .0)
+paired c =
+    let after-clusters = c .before .before .before in
+    let at-start = after-clusters .before .before .before in
+    clusters-front (the-state at-start) (at-start .pre .0) _ _ _ (at-start .args .file) (after-clusters .clusters .ensures)
+    (search needs) _ (c .listing .given .1)
 
 slice-aggregate-clusters : tie.Need-slice-aggregate-clusters
 slice-aggregate-clusters c = search needs
@@ -30,13 +43,36 @@ slice-aggregate-put-clusters : tie.Need-slice-aggregate-put-clusters
 slice-aggregate-put-clusters c = search needs
 
 mul-put-clusters : tie.Need-mul-put-clusters
-mul-put-clusters c = omega (arith, paired (c .before .before .before) .1 .room, c .before .before .before .before .before .before .clusters .kept .1 .1 .1 .1 .0)
+mul-put-clusters c =
+    let after-listing = c .before .before .before in
+    let after-clusters = after-listing .before .before .before in
+    omega (arith, paired after-listing .1 .room, after-clusters .clusters .kept .1 .1 .1 .1 .0)
 
 put-clusters-requires : tie.Need-put-clusters-requires
-put-clusters-requires c κs = let k = paired (c .before .before .before) in (k .1 .room, (search needs, omega (arith, clusters-line (stateOf (c .before .before .before .before .before .before .before .before .before .args .v) (c .before .before .before .before .before .before .before .before .before .args .cached .now) (c .before .before .before .before .before .before .before .before .before .args .fetching .now)) (c .before .before .before .before .before .before .before .before .before .pre .0) _ _ (c .before .before .before .before .before .before .before .before .before .args .file) (k .1))))
+put-clusters-requires c κs =
+    let after-listing = c .before .before .before in
+    let at-start = after-listing .before .before .before .before .before .before in
+    let k = paired after-listing in (
+      k .1 .room,
+      (
+        search needs,
+        omega (
+          arith,
+          clusters-line (the-state at-start) (at-start .pre .0) _ _ (at-start .args .file) (k .1),
+        ),
+      ),
+    )
 
 put-byte-requires : tie.Need-put-byte-requires
-put-byte-requires c κs = omega (arith, c .before .before .before .put-clusters .ensures .next-is, clusters-line (stateOf (c .before .before .before .before .before .before .before .before .before .before .before .before .before .args .v) (c .before .before .before .before .before .before .before .before .before .before .before .before .before .args .cached .now) (c .before .before .before .before .before .before .before .before .before .before .before .before .before .args .fetching .now)) (c .before .before .before .before .before .before .before .before .before .before .before .before .before .pre .0) _ _ (c .before .before .before .before .before .before .before .before .before .before .before .before .before .args .file) ((paired (c .before .before .before .before .before .before .before)) .1))
+put-byte-requires c κs =
+    let after-put-clusters = c .before .before .before in
+    let after-listing = after-put-clusters .before .before .before .before in
+    let at-start = after-listing .before .before .before .before .before .before in
+    omega (
+      arith,
+      after-put-clusters .put-clusters .ensures .next-is,
+      clusters-line (the-state at-start) (at-start .pre .0) _ _ (at-start .args .file) (paired after-listing .1),
+    )
 
 enum-known-listing-2 : tie.Need-enum-known-listing-2
 enum-known-listing-2 c = search needs
@@ -48,13 +84,31 @@ same-length : tie.Need-same-length
 same-length c = search needs
 
 returns : tie.Need-returns
-returns c = let k = paired (c .before .before .before .before .before .before .before .before .before .before) in let short = rw (k .1 .is) at (clusters-line (stateOf (c .before .before .before .before .before .before .before .before .before .before .before .before .before .before .before .before .args .v) (c .before .before .before .before .before .before .before .before .before .before .before .before .before .before .before .before .args .cached .now) (c .before .before .before .before .before .before .before .before .before .before .before .before .before .before .before .before .args .fetching .now)) (c .before .before .before .before .before .before .before .before .before .before .before .before .before .before .before .before .pre .0) _ _ (c .before .before .before .before .before .before .before .before .before .before .before .before .before .before .before .before .args .file) (k .1)) in rw (k .0) (record { state = refl; line = line-ended _ _ _ _ _ _ (rw (k .1 .is) at (c .before .before .before .before .before .before .put-clusters .ensures)) (c .before .before .put-byte .ensures) (omega arith) })
+returns c =
+    let after-put-byte = c .before .before in
+    let after-put-clusters = after-put-byte .before .before .before .before in
+    let after-listing = after-put-clusters .before .before .before .before in
+    let at-start = after-listing .before .before .before .before .before .before in
+    let k = paired after-listing in
+    let short = rw (k .1 .is) at (clusters-line (the-state at-start) (at-start .pre .0) _ _ (at-start .args .file) (k .1)) in
+    rw (k .0) (record {
+      state = refl;
+      line = line-ended _ _ _ _ _ _ (rw (k .1 .is) at (after-put-clusters .put-clusters .ensures)) (after-put-byte .put-byte .ensures)
+          (omega arith);
+    })
 
 same-length-2 : tie.Need-same-length-2
 same-length-2 c = search needs
 
 returns-2 : tie.Need-returns-2
-returns-2 c = let no = clusters-refused (stateOf (c .before .before .before .before .before .before .before .before .before .before .before .args .v) (c .before .before .before .before .before .before .before .before .before .before .before .args .cached .now) (c .before .before .before .before .before .before .before .before .before .before .before .args .fetching .now)) (c .before .before .before .before .before .before .before .before .before .before .before .pre .0) _ _ _ (c .before .before .before .before .before .before .before .before .before .before .before .args .file) (c .before .before .before .before .before .before .before .before .clusters .ensures) (search needs) _ (c .before .before .before .before .before .listing2 .given .1) in rw no (c .before .before .answer .ensures _ _)
+returns-2 c =
+    let after-answer = c .before .before in
+    let after-listing-2 = after-answer .before .before .before in
+    let after-clusters = after-listing-2 .before .before .before in
+    let at-start = after-clusters .before .before .before in
+    let no = clusters-refused (the-state at-start) (at-start .pre .0) _ _ _ (at-start .args .file) (after-clusters .clusters .ensures)
+    (search needs) _ (after-listing-2 .listing2 .given .1) in
+    rw no (after-answer .answer .ensures _ _)
 
 pub show-clusters-spec : {M : Type 1} → statement M
 show-clusters-spec =

@@ -50,37 +50,68 @@ same-length : tie.Need-same-length
 same-length c = search needs
 
 returns : tie.Need-returns
-returns c = rw (c .before .before .before .before .before .before .match .keys1) (c .before .before .obey-alone .ensures)
+returns c =
+    let after-obey-alone = c .before .before in
+    let at-match-keys-1 = after-obey-alone .before .before .before .before in
+    rw (at-match-keys-1 .match .keys1) (after-obey-alone .obey-alone .ensures)
 
 same-length-2 : tie.Need-same-length-2
 same-length-2 c = search needs
 
 returns-2 : tie.Need-returns-2
-returns-2 c = let x = c .before .before .before .before .before .before .before .before .before .args .c .fields in rw (c .before .before .before .before .before .before .match .keys2, ← field-first x (eleven (c .before .before .before .before .before .before .before .before .before))) (c .before .before .obey-one .ensures)
+returns-2 c =
+    let after-obey-one = c .before .before in
+    let at-match-keys-2 = after-obey-one .before .before .before .before in
+    let at-start = at-match-keys-2 .before .before .before in
+    let x = at-start .args .c .fields in
+    rw (at-match-keys-2 .match .keys2, ← field-first x (eleven at-start)) (after-obey-one .obey-one .ensures)
 
 same-length-3 : tie.Need-same-length-3
 same-length-3 c = search needs
 
 returns-3 : tie.Need-returns-3
-returns-3 c = let x = c .before .before .before .before .before .before .before .before .before .args .c .fields in rw (c .before .before .before .before .before .before .match .keys3, ← fields-two x (eleven (c .before .before .before .before .before .before .before .before .before))) (c .before .before .obey-two .ensures)
+returns-3 c =
+    let after-obey-two = c .before .before in
+    let at-match-keys-3 = after-obey-two .before .before .before .before in
+    let at-start = at-match-keys-3 .before .before .before in
+    let x = at-start .args .c .fields in
+    rw (at-match-keys-3 .match .keys3, ← fields-two x (eleven at-start)) (after-obey-two .obey-two .ensures)
 
 same-length-4 : tie.Need-same-length-4
 same-length-4 c = search needs
 
 returns-4 : tie.Need-returns-4
-returns-4 c = let x = c .before .before .before .before .before .before .before .args .c .fields in rw (c .before .before .before .before .match .keys4, ← fields-three x (eleven (c .before .before .before .before .before .before .before))) (c .before .before .obey-three .ensures _ _)
+returns-4 c =
+    let after-obey-three = c .before .before in
+    let at-match-keys-4 = after-obey-three .before .before in
+    let at-start = at-match-keys-4 .before .before .before in
+    let x = at-start .args .c .fields in
+    rw (at-match-keys-4 .match .keys4, ← fields-three x (eleven at-start)) (after-obey-three .obey-three .ensures _ _)
 
 same-length-5 : tie.Need-same-length-5
 same-length-5 c = search needs
 
 returns-5 : tie.Need-returns-5
-returns-5 c = let x = c .before .before .before .before .before .before .before .before .before .args .c .fields in rw (c .before .before .before .before .before .before .match .keys5, ← fields-all x (eleven (c .before .before .before .before .before .before .before .before .before))) (c .before .before .obey-eleven .ensures)
+returns-5 c =
+    let after-obey-eleven = c .before .before in
+    let at-match-keys-5 = after-obey-eleven .before .before .before .before in
+    let at-start = at-match-keys-5 .before .before .before in
+    let x = at-start .args .c .fields in
+    rw (at-match-keys-5 .match .keys5, ← fields-all x (eleven at-start)) (after-obey-eleven .obey-eleven .ensures)
 
 same-length-6 : tie.Need-same-length-6
 same-length-6 c = search needs
 
 returns-6 : tie.Need-returns-6
-returns-6 c = let s = c .before .before .before .before .before .before .before in let other = c .before .before .before .before .match .rest in rw (other-count _ _ (s .args .c .fields) (s .args .c .count) (eleven s) (s .pre .1 .0) (other .0 .0 .0 .0 .1) (other .0 .0 .0 .1) (other .0 .0 .1) (other .0 .1) (other .1)) (c .before .before .refuse .ensures _ _)
+returns-6 c =
+    let after-refuse = c .before .before in
+    let at-match-rest = after-refuse .before .before in
+    let at-start = at-match-rest .before .before .before in
+    let other = at-match-rest .match .rest in
+    rw
+    (other-count _ _ (at-start .args .c .fields) (at-start .args .c .count) (eleven at-start) (at-start .pre .1 .0)
+    (other .0 .0 .0 .0 .1) (other .0 .0 .0 .1) (other .0 .0 .1) (other .0 .1) (other .1))
+    (after-refuse .refuse .ensures _ _)
 
 pub obey-spec : {M : Type 1} → statement M
 obey-spec =

@@ -32,34 +32,54 @@ same-length c = search needs
 
 returns : tie.Need-returns
 unfolding obeyed
-returns c = rw (c .before .before .before .before .before .before .before .match .keys1) (gives-told _ _ _ _ _ (c .before .before .before .before .prefetch .ensures) (c .before .before .answer .ensures _ _))
+returns c =
+    let after-answer = c .before .before in
+    let after-prefetch = after-answer .before .before in
+    let at-match-keys-1 = after-prefetch .before .before .before in
+    rw (at-match-keys-1 .match .keys1) (gives-told _ _ _ _ _ (after-prefetch .prefetch .ensures) (after-answer .answer .ensures _ _))
 
 same-length-2 : tie.Need-same-length-2
 same-length-2 c = search needs
 
 returns-2 : tie.Need-returns-2
 unfolding obeyed
-returns-2 c = rw (c .before .before .before .before .before .before .before .match .keys2) (gives-told _ _ _ _ _ (c .before .before .before .before .steal .ensures) (c .before .before .answer2 .ensures _ _))
+returns-2 c =
+    let after-answer-2 = c .before .before in
+    let after-steal = after-answer-2 .before .before in
+    let at-match-keys-2 = after-steal .before .before .before in
+    rw (at-match-keys-2 .match .keys2) (gives-told _ _ _ _ _ (after-steal .steal .ensures) (after-answer-2 .answer2 .ensures _ _))
 
 same-length-3 : tie.Need-same-length-3
 same-length-3 c = search needs
 
 returns-3 : tie.Need-returns-3
 unfolding obeyed
-returns-3 c = let e = c .before .before .before .before .before .before .match .keys3 in rw e (rw e at (c .before .before .show-order .ensures))
+returns-3 c =
+    let after-show-order = c .before .before in
+    let at-match-keys-3 = after-show-order .before .before .before .before in
+    let e = at-match-keys-3 .match .keys3 in
+    rw e (rw e at (after-show-order .show-order .ensures))
 
 same-length-4 : tie.Need-same-length-4
 same-length-4 c = search needs
 
 returns-4 : tie.Need-returns-4
 unfolding obeyed
-returns-4 c = let e = c .before .before .before .before .before .before .match .keys4 in rw e (rw e at (c .before .before .show-order2 .ensures))
+returns-4 c =
+    let after-show-order-2 = c .before .before in
+    let at-match-keys-4 = after-show-order-2 .before .before .before .before in
+    let e = at-match-keys-4 .match .keys4 in
+    rw e (rw e at (after-show-order-2 .show-order2 .ensures))
 
 same-length-5 : tie.Need-same-length-5
 same-length-5 c = search needs
 
 returns-5 : tie.Need-returns-5
-returns-5 c = let other = c .before .before .before .before .match .rest in rw (other-alone _ _ (other .0 .0 .0 .1) (other .0 .0 .1) (other .0 .1) (other .1)) (c .before .before .refuse .ensures _ _)
+returns-5 c =
+    let after-refuse = c .before .before in
+    let at-match-rest = after-refuse .before .before in
+    let other = at-match-rest .match .rest in
+    rw (other-alone _ _ (other .0 .0 .0 .1) (other .0 .0 .1) (other .0 .1) (other .1)) (after-refuse .refuse .ensures _ _)
 
 pub obey-alone-spec : {M : Type 1} → statement M
 obey-alone-spec =

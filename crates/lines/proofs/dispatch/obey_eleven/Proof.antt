@@ -7,6 +7,10 @@ use Rattle.lines.proofs.Replies.{gives-setup}
 use Rattle.lines.proofs.dispatch.obey_eleven.Statement.{statement}
 use Rattle.lines.proofs.dispatch.obey_eleven.Tie as tie
 
+-- the fields are eleven
+eleven : (s : tie.Start) → length (s .args .t5) ≡ 11
+eleven s = search needs
+
 refuse-requires : tie.Need-refuse-requires
 refuse-requires c κs = search needs
 
@@ -14,7 +18,11 @@ same-length : tie.Need-same-length
 same-length c = search needs
 
 returns : tie.Need-returns
-returns c = let s = c .before .before .before .before .before .before in let eleven : length (s .args .t5) ≡ 11 = search needs in rw (other-eleven _ _ (s .args .t5) eleven (c .before .before .before .before .if1 .taken)) (c .before .before .refuse .ensures _ _)
+returns c =
+    let after-refuse = c .before .before in
+    let then-1 = after-refuse .before .before in
+    let at-start = then-1 .before .before in
+    rw (other-eleven _ _ (at-start .args .t5) (eleven at-start) (then-1 .if1 .taken)) (after-refuse .refuse .ensures _ _)
 
 array-read-setup : tie.Need-array-read-setup
 array-read-setup c = search needs
@@ -59,7 +67,13 @@ same-length-2 : tie.Need-same-length-2
 same-length-2 c = search needs
 
 returns-2 : tie.Need-returns-2
-returns-2 c = let s = c .before .before .before .before .before .before .before .before .before in let eleven : length (s .args .t5) ≡ 11 = search needs in rw (c .before .before .before .before .before .before .before .if1 .left, letter-setup _ (s .args .t5) eleven, ← fields-sizes (s .args .t5) eleven) (gives-setup _ _ _ _ _ _ (c .before .before .before .before .before .before .setup .ensures) (c .before .before .say-setup .ensures))
+returns-2 c =
+    let after-say-setup = c .before .before in
+    let after-setup = after-say-setup .before .before .before .before in
+    let else-1 = after-setup .before in
+    let at-start = else-1 .before .before in
+    rw (else-1 .if1 .left, letter-setup _ (at-start .args .t5) (eleven at-start), ← fields-sizes (at-start .args .t5) (eleven at-start))
+    (gives-setup _ _ _ _ _ _ (after-setup .setup .ensures) (after-say-setup .say-setup .ensures))
 
 pub obey-eleven-spec : {M : Type 1} → statement M
 obey-eleven-spec =

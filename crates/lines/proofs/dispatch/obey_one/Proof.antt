@@ -35,34 +35,53 @@ same-length c = search needs
 
 returns : tie.Need-returns
 unfolding obeyed
-returns c = rw (c .before .before .before .before .before .match .keys1) (gives-told _ _ _ _ _ (c .before .before .before .before .detach .ensures .0 _ _) (c .before .before .say .ensures _ _))
+returns c =
+    let after-say = c .before .before in
+    let after-detach = after-say .before .before in
+    let at-match-keys-1 = after-detach .before in
+    rw (at-match-keys-1 .match .keys1) (gives-told _ _ _ _ _ (after-detach .detach .ensures .0 _ _) (after-say .say .ensures _ _))
 
 same-length-2 : tie.Need-same-length-2
 same-length-2 c = search needs
 
 returns-2 : tie.Need-returns-2
 unfolding obeyed
-returns-2 c = rw (c .before .before .before .before .before .before .before .match .keys2) (gives-told _ _ _ _ _ (c .before .before .before .before .read .ensures .0) (c .before .before .say2 .ensures _ _))
+returns-2 c =
+    let after-say-2 = c .before .before in
+    let after-read = after-say-2 .before .before in
+    let at-match-keys-2 = after-read .before .before .before in
+    rw (at-match-keys-2 .match .keys2) (gives-told _ _ _ _ _ (after-read .read .ensures .0) (after-say-2 .say2 .ensures _ _))
 
 same-length-3 : tie.Need-same-length-3
 same-length-3 c = search needs
 
 returns-3 : tie.Need-returns-3
 unfolding obeyed
-returns-3 c = rw (c .before .before .before .before .before .before .before .match .keys3) (gives-told _ _ _ _ _ (c .before .before .before .before .run .ensures .0) (c .before .before .say3 .ensures _ _))
+returns-3 c =
+    let after-say-3 = c .before .before in
+    let after-run = after-say-3 .before .before in
+    let at-match-keys-3 = after-run .before .before .before in
+    rw (at-match-keys-3 .match .keys3) (gives-told _ _ _ _ _ (after-run .run .ensures .0) (after-say-3 .say3 .ensures _ _))
 
 same-length-4 : tie.Need-same-length-4
 same-length-4 c = search needs
 
 returns-4 : tie.Need-returns-4
 unfolding obeyed
-returns-4 c = rw (c .before .before .before .before .before .before .match .keys4) (c .before .before .show-clusters .ensures)
+returns-4 c =
+    let after-show-clusters = c .before .before in
+    let at-match-keys-4 = after-show-clusters .before .before .before .before in
+    rw (at-match-keys-4 .match .keys4) (after-show-clusters .show-clusters .ensures)
 
 same-length-5 : tie.Need-same-length-5
 same-length-5 c = search needs
 
 returns-5 : tie.Need-returns-5
-returns-5 c = let other = c .before .before .before .before .match .rest in rw (other-one _ _ _ (other .0 .0 .0 .1) (other .0 .0 .1) (other .0 .1) (other .1)) (c .before .before .refuse .ensures _ _)
+returns-5 c =
+    let after-refuse = c .before .before in
+    let at-match-rest = after-refuse .before .before in
+    let other = at-match-rest .match .rest in
+    rw (other-one _ _ _ (other .0 .0 .0 .1) (other .0 .0 .1) (other .0 .1) (other .1)) (after-refuse .refuse .ensures _ _)
 
 pub obey-one-spec : {M : Type 1} → statement M
 obey-one-spec =

@@ -17,7 +17,11 @@ same-length c = search needs
 
 returns : tie.Need-returns
 unfolding obeyed
-returns c = λ a b. rw (c .before .before .before .before .before .if1 .taken) (gives-told _ _ _ _ _ (c .before .before .before .before .attach .ensures .0 a b) (c .before .before .say .ensures a b))
+returns c =
+    let after-say = c .before .before in
+    let after-attach = after-say .before .before in
+    let then-1 = after-attach .before in
+    λ a b. rw (then-1 .if1 .taken) (gives-told _ _ _ _ _ (after-attach .attach .ensures .0 a b) (after-say .say .ensures a b))
 
 refuse-requires : tie.Need-refuse-requires
 refuse-requires c κs = search needs
@@ -26,7 +30,10 @@ same-length-2 : tie.Need-same-length-2
 same-length-2 c = search needs
 
 returns-2 : tie.Need-returns-2
-returns-2 c = λ a b. rw (other-three _ _ _ _ _ (c .before .before .before .before .if1 .left)) (c .before .before .refuse .ensures a b)
+returns-2 c =
+    let after-refuse = c .before .before in
+    let else-1 = after-refuse .before .before in
+    λ a b. rw (other-three _ _ _ _ _ (else-1 .if1 .left)) (after-refuse .refuse .ensures a b)
 
 pub obey-three-spec : {M : Type 1} → statement M
 obey-three-spec =

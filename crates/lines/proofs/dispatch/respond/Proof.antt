@@ -14,7 +14,11 @@ same-length : tie.Need-same-length
 same-length c = search needs
 
 returns : tie.Need-returns
-returns c = rw (responds-by _ _ _ (c .before .before .before .before .before .before .before .parse .ensures) (c .before .before .before .before .before .before .if1 .taken)) (c .before .before .obey .ensures)
+returns c =
+    let after-obey = c .before .before in
+    let then-1 = after-obey .before .before .before .before in
+    let after-parse = then-1 .before in
+    rw (responds-by _ _ _ (after-parse .parse .ensures) (then-1 .if1 .taken)) (after-obey .obey .ensures)
 
 refuse-requires : tie.Need-refuse-requires
 refuse-requires c κs = search needs
@@ -23,7 +27,11 @@ same-length-2 : tie.Need-same-length-2
 same-length-2 c = search needs
 
 returns-2 : tie.Need-returns-2
-returns-2 c = rw (responds-not _ _ _ (c .before .before .before .before .before .parse .ensures) (c .before .before .before .before .if1 .left)) (c .before .before .refuse .ensures _ _)
+returns-2 c =
+    let after-refuse = c .before .before in
+    let else-1 = after-refuse .before .before in
+    let after-parse = else-1 .before in
+    rw (responds-not _ _ _ (after-parse .parse .ensures) (else-1 .if1 .left)) (after-refuse .refuse .ensures _ _)
 
 pub respond-spec : {M : Type 1} → statement M
 respond-spec =

@@ -2,6 +2,7 @@
 -- nothing.
 use Rattle.text.proofs.Keeps.{text-none, kept-low}
 use Rattle.lines.proofs.Taking.{answer-long, answer-short}
+use mathlib.Core.Path.{sym}
 use borrow.Author.Needs.{needs}
 use Rattle.lines.proofs.stream.answer_line.Statement.{statement}
 use Rattle.lines.proofs.stream.answer_line.Tie as tie
@@ -16,7 +17,10 @@ same-length : tie.Need-same-length
 same-length c = search needs
 
 returns : tie.Need-returns
-returns c = rw (text-none _ (c .before .before .before .before .before .before .if1 .taken)) (c .before .before .respond .ensures)
+returns c =
+    let after-respond = c .before .before in
+    let then-1 = after-respond .before .before .before .before in
+    rw (text-none _ (then-1 .if1 .taken)) (after-respond .respond .ensures)
 
 slice-aggregate-put-bytes : tie.Need-slice-aggregate-put-bytes
 slice-aggregate-put-bytes c = search needs
@@ -44,9 +48,13 @@ same-length-2 c = search needs
 
 returns-2 : tie.Need-returns-2
 returns-2 c =
-    let joined = c .before .before .before .before .before .before in
-    let copied = joined .before .before .before in
-    answer-long _ _ _ _ _ _ _ _ _ (search needs) (copied .put-bytes .ensures) (joined .append .ensures) (c .before .before .before .before .if2 .taken) (c .before .before .refuse .ensures _ _)
+    let after-refuse = c .before .before in
+    let then-2 = after-refuse .before .before in
+    let after-append = then-2 .before .before in
+    let after-put-bytes = after-append .before .before .before in
+    let at-start = after-put-bytes .before .before .before .before .before .before .before in
+    answer-long _ _ _ _ _ _ _ _ _ (sym (at-start .pre .1 .0)) (after-put-bytes .put-bytes .ensures) (after-append .append .ensures)
+    (then-2 .if2 .taken) (after-refuse .refuse .ensures _ _)
 
 add-respond : tie.Need-add-respond
 add-respond c = search needs
@@ -68,9 +76,13 @@ same-length-3 c = search needs
 
 returns-3 : tie.Need-returns-3
 returns-3 c =
-    let joined = c .before .before .before .before .before .before .before .before .before .before in
-    let copied = joined .before .before .before in
-    answer-short _ _ _ _ _ _ _ _ _ (search needs) (copied .put-bytes .ensures) (joined .append .ensures) (c .before .before .before .before .before .before .before .before .if2 .left) (c .before .before .respond2 .ensures)
+    let after-respond-2 = c .before .before in
+    let else-2 = after-respond-2 .before .before .before .before .before .before in
+    let after-append = else-2 .before .before in
+    let after-put-bytes = after-append .before .before .before in
+    let at-start = after-put-bytes .before .before .before .before .before .before .before in
+    answer-short _ _ _ _ _ _ _ _ _ (sym (at-start .pre .1 .0)) (after-put-bytes .put-bytes .ensures) (after-append .append .ensures)
+    (else-2 .if2 .left) (after-respond-2 .respond2 .ensures)
 
 pub answer-line-spec : {M : Type 1} → statement M
 answer-line-spec =

@@ -27,14 +27,22 @@ enum-told c = search needs
 
 go-through-requires : tie.Need-go-through-requires
 go-through-requires c κs =
-    let room = ready-room _ _ _ _ (sym (c .before .before .before .before .before .before .before .before .before .before .ready .ensures) ∙ not-false _ (c .before .before .before .before .before .before .before .before .before .if1 .left)) in
-    (lent-valid _ (c .before .before .before .before .before .before .before .before .before .before .before .before .before .before .before .before .slice-known .given) _ (c .before .before .before .before .before .restore .ensures), (room .1, room .2, room .0))
+    let after-restore = c .before .before .before .before .before in
+    let else-1 = after-restore .before .before .before .before in
+    let after-ready = else-1 .before in
+    let after-slice-known = after-ready .before .before .before .before .before .before in
+    let room = ready-room _ _ _ _ (sym (after-ready .ready .ensures) ∙ not-false _ (else-1 .if1 .left)) in
+    (lent-valid _ (after-slice-known .slice-known .given) _ (after-restore .restore .ensures), (room .1, room .2, room .0))
 
 save-whole-requires : tie.Need-save-whole-requires
 save-whole-requires c κs =
-    let restored = c .before .before .before .before .before .before .before .before .before .before .before .before .before .restore .ensures in (
-      gone-valid _ _ _ _ _ _ (c .before .before .before .before .before .before .before .go-through .ensures) (lent-valid _ (c .before .before .before .before .before .before .before .before .before .before .before .before .before .before .before .before .before .before .before .before .before .before .before .before .slice-known .given) _ restored),
-      done-length _ (taken-done _ (answer-taken _ _ restored (c .before .before .before .before .before .before .before .before .before .before .before .before .match .keys2))),
+    let after-go-through = c .before .before .before .before .before .before .before in
+    let at-match-keys-2 = after-go-through .before .before .before .before .before in
+    let after-restore = at-match-keys-2 .before in
+    let after-slice-known = after-restore .before .before .before .before .before .before .before .before .before .before .before in
+    let restored = after-restore .restore .ensures in (
+      gone-valid _ _ _ _ _ _ (after-go-through .go-through .ensures) (lent-valid _ (after-slice-known .slice-known .given) _ restored),
+      done-length _ (taken-done _ (answer-taken _ _ restored (at-match-keys-2 .match .keys2))),
     )
 
 same-length-3 : tie.Need-same-length-3
@@ -47,7 +55,13 @@ same-length-5 : tie.Need-same-length-5
 same-length-5 c = search needs
 
 returns-2 : tie.Need-returns-2
-returns-2 c = feed-refused _ _ _ _ _ (sym (c .before .before .before .before .before .before .before .ready .ensures) ∙ not-false _ (c .before .before .before .before .before .before .if1 .left)) (answer-refused _ _ (c .before .before .restore .ensures) (c .before .match .keys1))
+returns-2 c =
+    let at-match-keys-1 = c .before in
+    let after-restore = at-match-keys-1 .before in
+    let else-1 = after-restore .before .before .before .before in
+    let after-ready = else-1 .before in
+    feed-refused _ _ _ _ _ (sym (after-ready .ready .ensures) ∙ not-false _ (else-1 .if1 .left))
+    (answer-refused _ _ (after-restore .restore .ensures) (at-match-keys-1 .match .keys1))
 
 same-length-6 : tie.Need-same-length-6
 same-length-6 c = search needs
@@ -60,8 +74,16 @@ same-length-8 c = search needs
 
 returns-3 : tie.Need-returns-3
 returns-3 c =
-    let restored = c .before .before .before .before .before .before .before .before .before .before .before .before .before .before .before .before .restore .ensures in
-    feed-went _ _ _ _ _ _ (c .before .before .before .before .before .before .before .before .before .before .go-through .ensures) _ (sym (c .before .before .before .before .before .before .before .before .before .before .before .before .before .before .before .before .before .before .before .before .before .ready .ensures) ∙ not-false _ (c .before .before .before .before .before .before .before .before .before .before .before .before .before .before .before .before .before .before .before .before .if1 .left)) (answer-taken _ _ restored (c .before .before .before .before .before .before .before .before .before .before .before .before .before .before .before .match .keys2)) (ap (λ q. q .state) restored) _ (c .before .before .save-whole .ensures)
+    let after-save-whole = c .before .before in
+    let after-go-through = after-save-whole .before .before .before .before .before .before .before .before in
+    let at-match-keys-2 = after-go-through .before .before .before .before .before in
+    let after-restore = at-match-keys-2 .before in
+    let else-1 = after-restore .before .before .before .before in
+    let after-ready = else-1 .before in
+    let restored = after-restore .restore .ensures in
+    feed-went _ _ _ _ _ _ (after-go-through .go-through .ensures)
+    _ (sym (after-ready .ready .ensures) ∙ not-false _ (else-1 .if1 .left)) (answer-taken _ _ restored (at-match-keys-2 .match .keys2))
+    (ap (λ q. q .state) restored) _ (after-save-whole .save-whole .ensures)
 
 pub feed-spec : {M : Type 1} → statement M
 feed-spec =

@@ -29,7 +29,10 @@ same-length-3 : tie.Need-same-length-3
 same-length-3 c = search needs
 
 returns-3 : tie.Need-returns-3
-returns-3 c = finish-line _ _ _ _ (c .before .before .before .before .before .before .before .before .before .before .before .if2 .left) (c .before .before .before .before .before .before .feed .ensures)
+returns-3 c =
+    let after-feed = c .before .before .before .before .before .before in
+    let else-2 = after-feed .before .before .before .before .before in
+    finish-line _ _ _ _ (else-2 .if2 .left) (after-feed .feed .ensures)
 
 pub finish-spec : {M : Type 1} → statement M
 finish-spec =

@@ -26,8 +26,8 @@ line-end-requires c κs = search needs
 
 loop-holds : tie.Need-loop-holds Inv-loop μ-loop
 loop-holds c =
-    let start = c .before .before .before .before in
-    going-none _ _ _ _ _ _ (start .pre .0) (start .pre .1 .0) (start .pre .1 .1) (c .line-end .ensures)
+    let at-start = c .before .before .before .before in
+    going-none _ _ _ _ _ _ (at-start .pre .0) (at-start .pre .1 .0) (at-start .pre .1 .1) (c .line-end .ensures)
 
 sub-if1 : tie.Need-sub-if1 Inv-loop μ-loop
 sub-if1 c = search needs
@@ -52,33 +52,62 @@ part-answer-line-end-2 c = search needs
 
 answer-line-requires : tie.Need-answer-line-requires Inv-loop μ-loop
 answer-line-requires c κs =
-    let at-loop = c .before .before .before .before .before .before .before .loop in
-    let room = leb-true answerRoom (length (at-loop .out) - at-loop .len) (c .before .before .before .before .before .if1 .taken) in
-    (at-loop .inv .valid, (at-loop .inv .sized, omega (arith, room, length-take (length (at-loop .out) - at-loop .len) (drop (at-loop .len) (at-loop .out)), length-drop (at-loop .len) (at-loop .out))))
+    let then-1 = c .before .before .before .before .before in
+    let at-loop = then-1 .before .before in
+    let room = leb-true answerRoom (length (at-loop .loop .out) - at-loop .loop .len) (then-1 .if1 .taken) in (
+      at-loop .loop .inv .valid,
+      (
+        at-loop .loop .inv .sized,
+        omega (
+          arith,
+          room,
+          length-take (length (at-loop .loop .out) - at-loop .loop .len) (drop (at-loop .loop .len) (at-loop .loop .out)),
+          length-drop (at-loop .loop .len) (at-loop .loop .out),
+        ),
+      ),
+    )
 
 slice-write-text : tie.Need-slice-write-text Inv-loop μ-loop
 slice-write-text c = search needs
 
 add-next : tie.Need-add-next Inv-loop μ-loop
-add-next c = omega (arith, c .before .before .before .before .before .before .before .before .before .before .loop-test .taken, c .before .before .before .before .before .before .before .before .before .before .before .before .before .before .before .before .good .1 .1 .1 .1 .0)
+add-next c =
+    let at-loop-test = c .before .before .before .before .before .before .before .before .before .before in
+    let at-start = at-loop-test .before .before .before .before .before .before in
+    omega (arith, at-loop-test .loop-test .taken, at-start .good .1 .1 .1 .1 .0)
 
 add-len : tie.Need-add-len Inv-loop μ-loop
 add-len c =
-    let at-loop = c .before .before .before .before .before .before .before .before .before .before .before .before in
-    let went = going-more _ _ _ _ _ _ _ _ _ _ _ (at-loop .loop .inv) (c .before .before .before .before .before .before .before .before .before .before .before .loop-test .taken) (leb-true answerRoom _ (c .before .before .before .before .before .before .before .before .before .before .if1 .taken)) _ _ (c .before .before .before .before .answer-line .ensures) (search needs) _ refl in
-    omega (arith, went .fits, went .long, c .before .before .before .before .before .before .before .before .before .before .before .before .before .before .before .before .before .good .1 .1 .1 .1 .1 .1 .0)
+    let after-out = c .before .before .before in
+    let after-answer-line = after-out .before in
+    let then-1 = after-answer-line .before .before .before .before .before .before in
+    let at-loop-test = then-1 .before in
+    let at-loop = at-loop-test .before in
+    let at-start = at-loop .before .before .before .before .before in
+    let went = going-more _ _ _ _ _ _ _ _ _ _ _ (at-loop .loop .inv) (at-loop-test .loop-test .taken) (leb-true answerRoom _ (then-1 .if1 .taken))
+    _ _ (after-answer-line .answer-line .ensures) (search (after-out .out .given, needs)) _ refl in
+    omega (arith, went .fits, went .long, at-start .good .1 .1 .1 .1 .1 .1 .0)
 
 line-end-requires-2 : tie.Need-line-end-requires-2 Inv-loop μ-loop
 line-end-requires-2 c κs = search needs
 
 loop-less : tie.Need-loop-less Inv-loop μ-loop
 loop-less c =
-    let far = going-far _ _ _ _ _ _ _ _ _ _ _ (c .before .before .before .before .before .before .before .before .before .before .before .before .before .loop .inv) in
-    omega (arith, c .before .before .before .before .before .before .before .before .before .before .before .before .loop-test .taken)
+    let then-1 = c .before .before .before .before .before .before .before .before .before .before .before in
+    let at-loop-test = then-1 .before in
+    let at-loop = at-loop-test .before in
+    let far = going-far _ _ _ _ _ _ _ _ _ _ _ (at-loop .loop .inv) in
+    omega (arith, at-loop-test .loop-test .taken)
 
 loop-again : tie.Need-loop-again Inv-loop μ-loop
 loop-again c =
-    going-more _ _ _ _ _ _ _ _ _ _ _ (c .before .before .before .before .before .before .before .before .before .before .before .before .before .loop .inv) (c .before .before .before .before .before .before .before .before .before .before .before .before .loop-test .taken) (leb-true answerRoom _ (c .before .before .before .before .before .before .before .before .before .before .before .if1 .taken)) _ _ (c .before .before .before .before .before .answer-line .ensures) (search needs) _ (c .line-end2 .ensures)
+    let after-out = c .before .before .before .before in
+    let after-answer-line = after-out .before in
+    let then-1 = after-answer-line .before .before .before .before .before .before in
+    let at-loop-test = then-1 .before in
+    let at-loop = at-loop-test .before in
+    going-more _ _ _ _ _ _ _ _ _ _ _ (at-loop .loop .inv) (at-loop-test .loop-test .taken) (leb-true answerRoom _ (then-1 .if1 .taken))
+    _ _ (after-answer-line .answer-line .ensures) (search (after-out .out .given, needs)) _ (c .line-end2 .ensures)
 
 sub-append : tie.Need-sub-append Inv-loop μ-loop
 sub-append c = search needs
@@ -99,7 +128,11 @@ same-length-2 : tie.Need-same-length-2 Inv-loop μ-loop
 same-length-2 c = search needs
 
 returns : tie.Need-returns Inv-loop μ-loop
-returns c = going-rest _ _ _ _ _ _ _ _ _ _ _ (c .before .before .before .before .before .before .before .loop .inv) (c .before .before .before .before .before .if2 .taken) _ (c .before .before .append .ensures)
+returns c =
+    let after-append = c .before .before in
+    let then-2 = after-append .before .before .before in
+    let at-loop = then-2 .before .before in
+    going-rest _ _ _ _ _ _ _ _ _ _ _ (at-loop .loop .inv) (then-2 .if2 .taken) _ (after-append .append .ensures)
 
 same-length-3 : tie.Need-same-length-3 Inv-loop μ-loop
 same-length-3 c = search needs
@@ -109,9 +142,11 @@ same-length-4 c = search needs
 
 returns-2 : tie.Need-returns-2 Inv-loop μ-loop
 returns-2 c =
-    let at-loop = c .before .before in
+    let left-loop = c .before in
+    let at-loop = left-loop .before in
+    let at-start = at-loop .before .before .before .before .before in
     going-full _ _ _ _ _ _ _ _ _ _ _ (at-loop .loop .inv) (c .if2 .left)
-    (⊎-elim (λ w. leb-false answerRoom _ (w .1 .left)) (λ w. absurd (omega (arith, c .if2 .left, w .left))) (c .before .loop-test .came)) (c .before .before .before .before .before .before .before .pre .1 .2)
+    (⊎-elim (λ w. leb-false answerRoom _ (w .1 .left)) (λ w. absurd (omega (arith, c .if2 .left, w .left))) (left-loop .loop-test .came)) (at-start .pre .1 .2)
 
 pub go-through-spec : {M : Type 1} → statement M
 go-through-spec =

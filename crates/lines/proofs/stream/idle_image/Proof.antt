@@ -14,10 +14,15 @@ slice-aggregate-save-whole : tie.Need-slice-aggregate-save-whole
 slice-aggregate-save-whole c = search needs
 
 save-whole-requires : tie.Need-save-whole-requires
-save-whole-requires c κs = (subst Valid (sym (c .before .before .before .idle .ensures)) idle-valid, search needs)
+save-whole-requires c κs =
+    let after-idle = c .before .before .before in
+    (subst Valid (sym (after-idle .idle .ensures)) idle-valid, search needs)
 
 returns : tie.Need-returns
-returns c = c .before .save-whole .ensures ∙ ap imageOf (c .before .before .before .before .before .idle .ensures)
+returns c =
+    let after-save-whole = c .before in
+    let after-idle = after-save-whole .before .before .before .before in
+    after-save-whole .save-whole .ensures ∙ ap imageOf (after-idle .idle .ensures)
 
 pub idle-image-spec : {M : Type 1} → statement M
 idle-image-spec =
