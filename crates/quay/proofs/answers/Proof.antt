@@ -11,7 +11,9 @@ feed-requires : tie.Need-feed-requires
 feed-requires c κs = search needs
 
 slice-aggregate-result : tie.Need-slice-aggregate-result
-slice-aggregate-result c = sym (length-take-le _ _ (feed-fits _ _ _ _ _ _ (c .before .before .before .before .before .before .before .before .feed .ensures)))
+slice-aggregate-result c =
+    let after-feed = c .before .before .before .before .before .before .before .before in
+    sym (length-take-le _ _ (feed-fits _ _ _ _ _ _ (after-feed .feed .ensures)))
 
 same-length : tie.Need-same-length
 same-length c = search needs
@@ -20,7 +22,9 @@ same-length-2 : tie.Need-same-length-2
 same-length-2 c = search needs
 
 returns : tie.Need-returns
-returns c = ap handedOf (c .before .before .before .before .before .before .before .before .feed .ensures)
+returns c =
+    let after-feed = c .before .before .before .before .before .before .before .before in
+    ap handedOf (after-feed .feed .ensures)
 
 pub answers-spec : {M : Type 1} → statement M
 answers-spec =

@@ -11,7 +11,9 @@ finish-requires : tie.Need-finish-requires
 finish-requires c κs = search needs
 
 slice-aggregate-result : tie.Need-slice-aggregate-result
-slice-aggregate-result c = sym (length-take-le _ _ (finish-fits _ _ _ _ (c .before .before .before .before .before .before .before .before .finish .ensures)))
+slice-aggregate-result c =
+    let after-finish = c .before .before .before .before .before .before .before .before in
+    sym (length-take-le _ _ (finish-fits _ _ _ _ (after-finish .finish .ensures)))
 
 same-length : tie.Need-same-length
 same-length c = search needs
@@ -20,7 +22,9 @@ same-length-2 : tie.Need-same-length-2
 same-length-2 c = search needs
 
 returns : tie.Need-returns
-returns c = ap answersIn (c .before .before .before .before .before .before .before .before .finish .ensures)
+returns c =
+    let after-finish = c .before .before .before .before .before .before .before .before in
+    ap answersIn (after-finish .finish .ensures)
 
 pub last-spec : {M : Type 1} → statement M
 last-spec =

@@ -26,7 +26,10 @@ slice-aggregate-serve-4 : tie.Need-slice-aggregate-serve-4
 slice-aggregate-serve-4 c = search needs
 
 serve-requires : tie.Need-serve-requires
-serve-requires c κs = (c .before .before .before .before .before .before .idle-image .ensures, c .before .before .before .before .before .no-text .ensures, omega arith)
+serve-requires c κs =
+    let after-no-text = c .before .before .before .before .before in
+    let after-idle-image = after-no-text .before in
+    (after-idle-image .idle-image .ensures, after-no-text .no-text .ensures, omega arith)
 
 returns : tie.Need-returns
 returns c = search needs

@@ -19,10 +19,14 @@ abbrev μ-loop : tie.MeasureT-loop
 μ-loop image₀ text₀ chunk n out₀ next₀ image text out next = n - next
 
 loop-holds : tie.Need-loop-holds Inv-loop μ-loop
-loop-holds c = (fed-none _ _ _ (c .before .before .before .before .pre .0), c .before .before .before .before .pre .1, refl, refl, refl)
+loop-holds c =
+    let at-start = c .before .before .before .before in
+    (fed-none _ _ _ (at-start .pre .0), at-start .pre .1, refl, refl, refl)
 
 slice-aggregate-answers : tie.Need-slice-aggregate-answers Inv-loop μ-loop
-slice-aggregate-answers c = sym (length-take-le _ _ (c .before .before .before .before .before .before .before .before .before .pre .2))
+slice-aggregate-answers c =
+    let at-start = c .before .before .before .before .before .before .before .before .before in
+    sym (length-take-le _ _ (at-start .pre .2))
 
 answers-requires : tie.Need-answers-requires Inv-loop μ-loop
 answers-requires c κs = search needs
@@ -41,27 +45,41 @@ same-length-3 c = search needs
 
 returns : tie.Need-returns Inv-loop μ-loop
 returns c =
-    let start = c .before .before .before .before .before .before .before .before .before .before .before .before .before .before .before .before .before .before .before .before in
-    let at-loop = c .before .before .before .before .before .before .before .before .before .before .before .before .before .before .before .loop in
-    let long = length-take-le (start .args .n) (start .args .chunk .now) (start .pre .2) in
-    let inside : at-loop .next < length (take (start .args .n) (start .args .chunk .now)) = omega (arith, long, c .before .before .before .before .before .before .before .before .before .before .before .before .before .before .loop-test .taken) in
-    (fed-more _ _ _ _ _ _ (at-loop .inv .0) _ (at-loop .inv .1) inside _ _ _ _ (c .before .before .before .before .before .before .before .before .answers .ensures) .stands, λ f at e. absurd (true≢false (sym e)))
+    let after-answers = c .before .before .before .before .before .before .before .before in
+    let at-loop-test = after-answers .before .before .before .before .before .before in
+    let at-loop = at-loop-test .before in
+    let at-start = at-loop .before .before .before .before .before in
+    let long = length-take-le (at-start .args .n) (at-start .args .chunk .now) (at-start .pre .2) in
+    let inside : at-loop .loop .next < length (take (at-start .args .n) (at-start .args .chunk .now)) = omega (arith, long, at-loop-test .loop-test .taken) in (
+      fed-more _ _ _ _ _ _ (at-loop .loop .inv .0) _ (at-loop .loop .inv .1) inside _ _ _ _ (after-answers .answers .ensures) .stands,
+      λ f at e. absurd (true≢false (sym e)),
+    )
 
 loop-less : tie.Need-loop-less Inv-loop μ-loop
 loop-less c =
-    let start = c .before .before .before .before .before .before .before .before .before .before .before .before .before .before .before .before .before .before .before .before in
-    let at-loop = c .before .before .before .before .before .before .before .before .before .before .before .before .before .before .before .loop in
-    let long = length-take-le (start .args .n) (start .args .chunk .now) (start .pre .2) in
-    let inside : at-loop .next < length (take (start .args .n) (start .args .chunk .now)) = omega (arith, long, c .before .before .before .before .before .before .before .before .before .before .before .before .before .before .loop-test .taken) in
-    let far = fed-far _ _ _ _ _ _ (at-loop .inv .0) _ (at-loop .inv .1) inside _ _ _ _ (c .before .before .before .before .before .before .before .before .answers .ensures) in omega (arith, c .before .before .before .before .before .before .before .before .before .before .before .before .before .before .loop-test .taken)
+    let after-answers = c .before .before .before .before .before .before .before .before in
+    let at-loop-test = after-answers .before .before .before .before .before .before in
+    let at-loop = at-loop-test .before in
+    let at-start = at-loop .before .before .before .before .before in
+    let long = length-take-le (at-start .args .n) (at-start .args .chunk .now) (at-start .pre .2) in
+    let inside : at-loop .loop .next < length (take (at-start .args .n) (at-start .args .chunk .now)) = omega (arith, long, at-loop-test .loop-test .taken) in
+    let far = fed-far _ _ _ _ _ _ (at-loop .loop .inv .0) _ (at-loop .loop .inv .1) inside _ _ _ _ (after-answers .answers .ensures) in
+    omega (arith, at-loop-test .loop-test .taken)
 
 loop-again : tie.Need-loop-again Inv-loop μ-loop
 loop-again c =
-    let start = c .before .before .before .before .before .before .before .before .before .before .before .before .before .before .before .before .before .before .before .before in
-    let at-loop = c .before .before .before .before .before .before .before .before .before .before .before .before .before .before .before .loop in
-    let long = length-take-le (start .args .n) (start .args .chunk .now) (start .pre .2) in
-    let inside : at-loop .next < length (take (start .args .n) (start .args .chunk .now)) = omega (arith, long, c .before .before .before .before .before .before .before .before .before .before .before .before .before .before .loop-test .taken) in
-    (fed-more _ _ _ _ _ _ (at-loop .inv .0) _ (at-loop .inv .1) inside _ _ _ _ (c .before .before .before .before .before .before .before .before .answers .ensures), search needs, search needs, search needs, search needs)
+    let after-answers = c .before .before .before .before .before .before .before .before in
+    let at-loop-test = after-answers .before .before .before .before .before .before in
+    let at-loop = at-loop-test .before in
+    let at-start = at-loop .before .before .before .before .before in
+    let long = length-take-le (at-start .args .n) (at-start .args .chunk .now) (at-start .pre .2) in
+    let inside : at-loop .loop .next < length (take (at-start .args .n) (at-start .args .chunk .now)) = omega (arith, long, at-loop-test .loop-test .taken) in (
+      fed-more _ _ _ _ _ _ (at-loop .loop .inv .0) _ (at-loop .loop .inv .1) inside _ _ _ _ (after-answers .answers .ensures),
+      search needs,
+      search needs,
+      search needs,
+      search needs,
+    )
 
 same-length-4 : tie.Need-same-length-4 Inv-loop μ-loop
 same-length-4 c = search needs
@@ -74,9 +92,10 @@ same-length-6 c = search needs
 
 returns-2 : tie.Need-returns-2 Inv-loop μ-loop
 returns-2 c =
-    let start = c .before .before .before .before .before .before in
-    let long = length-take-le (start .args .n) (start .args .chunk .now) (start .pre .2) in
-    (c .before .loop .inv .0 .stands, λ f at _. fed-all _ _ _ _ _ _ (c .before .loop .inv .0) (omega (arith, long, c .loop-test .left)) f at)
+    let at-loop = c .before in
+    let at-start = at-loop .before .before .before .before .before in
+    let long = length-take-le (at-start .args .n) (at-start .args .chunk .now) (at-start .pre .2) in
+    (at-loop .loop .inv .0 .stands, λ f at _. fed-all _ _ _ _ _ _ (at-loop .loop .inv .0) (omega (arith, long, c .loop-test .left)) f at)
 
 pub pump-spec : {M : Type 1} → statement M
 pump-spec =

@@ -17,7 +17,9 @@ abbrev μ-loop : tie.MeasureT-loop
 μ-loop image₀ text₀ chunk₀ out₀ turns₀ image text chunk out turns = turns
 
 loop-holds : tie.Need-loop-holds Inv-loop μ-loop
-loop-holds c = (starts _ _ (c .before .before .before .before .pre .0) (c .before .before .before .before .pre .1), c .before .before .before .before .pre .2, refl, refl, refl, refl)
+loop-holds c =
+    let at-start = c .before .before .before .before in
+    (starts _ _ (at-start .pre .0) (at-start .pre .1), at-start .pre .2, refl, refl, refl, refl)
 
 get-requires : tie.Need-get-requires Inv-loop μ-loop
 get-requires c κs = search needs
@@ -27,9 +29,11 @@ enum-known-input c = search needs
 
 pump-requires : tie.Need-pump-requires Inv-loop μ-loop
 pump-requires c κs =
-    let at-loop = c .before .before .before .before .before .before .before .before .before .before .before .before .loop in
-    let n = c .before .before .before .before .before .input .given in
-    (at-loop .inv .0, at-loop .inv .1, bytes-within _ _ _ (n .1) (c .before .before .before .before .before .before .before .before .before .get .ensures))
+    let after-input = c .before .before .before .before .before in
+    let after-get = after-input .before .before .before .before in
+    let at-loop = after-get .before .before .before in
+    let n = after-input .input .given in
+    (at-loop .loop .inv .0, at-loop .loop .inv .1, bytes-within _ _ _ (n .1) (after-get .get .ensures))
 
 same-length : tie.Need-same-length Inv-loop μ-loop
 same-length c = search needs
@@ -95,7 +99,9 @@ loop-less : tie.Need-loop-less Inv-loop μ-loop
 loop-less c = search needs
 
 loop-again : tie.Need-loop-again Inv-loop μ-loop
-loop-again c = (c .before .before .before .before .before .before .before .pump .ensures .0, search needs, search needs, search needs, search needs, search needs)
+loop-again c =
+    let after-pump = c .before .before .before .before .before .before .before in
+    (after-pump .pump .ensures .0, search needs, search needs, search needs, search needs, search needs)
 
 same-length-13 : tie.Need-same-length-13 Inv-loop μ-loop
 same-length-13 c = search needs
