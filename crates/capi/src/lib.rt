@@ -67,7 +67,8 @@ fn carried_out(a: Answer) -> bool
 // A refusal leaves the buffer; after any other answer it holds the state.
 fn finish<'a>(r: Outcome, cached: &'a [u64; 128], fetching: &'a [u64; 128], image: &mut [u8]) -> u64
     requires { ⌜ Valid (stateOf (r .view) (now cached) (now fetching)) × (length (now image) ≡ imageLength) ⌝ }
-    ensures { λ n. ⌜ record { number = n; image = now (image .exit) } ≡ entered (now (image .entry)) (replyOf r (now (cached .entry)) (now (fetching .entry))) ⌝ }
+    ensures { λ n. ⌜ record { number = n; image = now (image .exit) }
+        ≡ entered (now (image .entry)) (replyOf r (now (cached .entry)) (now (fetching .entry))) ⌝ }
 {
     let answer = r.answer;
     let n = number(answer);

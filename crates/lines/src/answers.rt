@@ -146,7 +146,8 @@ pub(crate) fn say_setup(
 ) -> Said
     requires { ⌜ Roomy (now out) ⌝ }
     ensures { λ a.
-        ⌜ Gives (toldSetup (stateOf v (now (cached .entry)) (now (fetching .entry))) (replyOf r noPages noPages)) (now (out .entry)) (now (out .exit)) (saidOf a (now (cached .exit)) (now (fetching .exit))) ⌝ }
+        ⌜ Gives (toldSetup (stateOf v (now (cached .entry)) (now (fetching .entry))) (replyOf r noPages noPages))
+        (now (out .entry)) (now (out .exit)) (saidOf a (now (cached .exit)) (now (fetching .exit))) ⌝ }
 {
     let told = r.answer;
     match told {
@@ -199,7 +200,9 @@ pub(crate) fn show_order<'a>(
     requires { ⌜ Valid (stateOf v (now cached) (now fetching)) ⌝ }
     requires { ⌜ Roomy (now out) ⌝ }
     ensures { λ a.
-        ⌜ Gives (shown (stateOf v (now (cached .entry)) (now (fetching .entry))) (orderLine letter (orderOf stealing (stateOf v (now (cached .entry)) (now (fetching .entry)))))) (now (out .entry)) (now (out .exit)) (saidOf a (now (cached .entry)) (now (fetching .entry))) ⌝ }
+        ⌜ Gives (shown (stateOf v (now (cached .entry)) (now (fetching .entry)))
+        (orderLine letter (orderOf stealing (stateOf v (now (cached .entry)) (now (fetching .entry))))))
+        (now (out .entry)) (now (out .exit)) (saidOf a (now (cached .entry)) (now (fetching .entry))) ⌝ }
 {
     let mut keys = [0u16; 8192];
     let n = list_order(v, cached, fetching, stealing, &mut keys);
@@ -219,7 +222,8 @@ pub(crate) fn show_clusters<'a>(
     requires { ⌜ Valid (stateOf v (now cached) (now fetching)) ⌝ }
     requires { ⌜ Roomy (now out) ⌝ }
     ensures { λ a.
-        ⌜ Gives (clustersShown (stateOf v (now (cached .entry)) (now (fetching .entry))) file) (now (out .entry)) (now (out .exit)) (saidOf a (now (cached .entry)) (now (fetching .entry))) ⌝ }
+        ⌜ Gives (clustersShown (stateOf v (now (cached .entry)) (now (fetching .entry))) file)
+        (now (out .entry)) (now (out .exit)) (saidOf a (now (cached .entry)) (now (fetching .entry))) ⌝ }
 {
     let mut pages = [0u16; 2048];
     let listing = lists::clusters(v, cached, fetching, file, &mut pages);

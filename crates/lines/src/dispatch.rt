@@ -23,7 +23,8 @@ fn obey_alone(
     requires { ⌜ Valid (stateOf v (now cached) (now fetching)) ⌝ }
     requires { ⌜ Roomy (now out) ⌝ }
     ensures { λ a.
-        ⌜ Gives (obeyed (stateOf v (now (cached .entry)) (now (fetching .entry))) letter []) (now (out .entry)) (now (out .exit)) (saidOf a (now (cached .exit)) (now (fetching .exit))) ⌝ }
+        ⌜ Gives (obeyed (stateOf v (now (cached .entry)) (now (fetching .entry))) letter [])
+        (now (out .entry)) (now (out .exit)) (saidOf a (now (cached .exit)) (now (fetching .exit))) ⌝ }
 {
     match letter {
         b'P' => answers::answer(v, calls::prefetch(v, cached, fetching), out),
@@ -46,7 +47,8 @@ fn obey_one(
     requires { ⌜ Valid (stateOf v (now cached) (now fetching)) ⌝ }
     requires { ⌜ Roomy (now out) ⌝ }
     ensures { λ a.
-        ⌜ Gives (obeyed (stateOf v (now (cached .entry)) (now (fetching .entry))) letter (n ∷ [])) (now (out .entry)) (now (out .exit)) (saidOf a (now (cached .exit)) (now (fetching .exit))) ⌝ }
+        ⌜ Gives (obeyed (stateOf v (now (cached .entry)) (now (fetching .entry))) letter (n ∷ []))
+        (now (out .entry)) (now (out .exit)) (saidOf a (now (cached .exit)) (now (fetching .exit))) ⌝ }
 {
     match letter {
         b'D' => answers::say(calls::detach(v, n), out),
@@ -70,7 +72,8 @@ fn obey_two(
     requires { ⌜ Valid (stateOf v (now cached) (now fetching)) ⌝ }
     requires { ⌜ Roomy (now out) ⌝ }
     ensures { λ a.
-        ⌜ Gives (obeyed (stateOf v (now (cached .entry)) (now (fetching .entry))) letter (file ∷ page ∷ [])) (now (out .entry)) (now (out .exit)) (saidOf a (now (cached .exit)) (now (fetching .exit))) ⌝ }
+        ⌜ Gives (obeyed (stateOf v (now (cached .entry)) (now (fetching .entry))) letter (file ∷ page ∷ []))
+        (now (out .entry)) (now (out .exit)) (saidOf a (now (cached .exit)) (now (fetching .exit))) ⌝ }
 {
     match letter {
         b'I' => answers::say(calls::arrive(v, cached, fetching, file, page), out),
@@ -102,7 +105,8 @@ fn obey_eleven(
 ) -> Said
     requires { ⌜ Roomy (now out) ⌝ }
     ensures { λ a.
-        ⌜ Gives (obeyed (stateOf v (now (cached .entry)) (now (fetching .entry))) letter x) (now (out .entry)) (now (out .exit)) (saidOf a (now (cached .exit)) (now (fetching .exit))) ⌝ }
+        ⌜ Gives (obeyed (stateOf v (now (cached .entry)) (now (fetching .entry))) letter x)
+        (now (out .entry)) (now (out .exit)) (saidOf a (now (cached .exit)) (now (fetching .exit))) ⌝ }
 {
     if letter != b'S' {
         return answers::refuse(v, out);
@@ -123,7 +127,8 @@ fn obey(
     requires { ⌜ Valid (stateOf v (now cached) (now fetching)) ⌝ }
     requires { ⌜ (c .count ≤ 11) × Roomy (now out) ⌝ }
     ensures { λ a.
-        ⌜ Gives (obeyed (stateOf v (now (cached .entry)) (now (fetching .entry))) (c .letter) (take (c .count) (c .fields))) (now (out .entry)) (now (out .exit)) (saidOf a (now (cached .exit)) (now (fetching .exit))) ⌝ }
+        ⌜ Gives (obeyed (stateOf v (now (cached .entry)) (now (fetching .entry))) (c .letter) (take (c .count) (c .fields)))
+        (now (out .entry)) (now (out .exit)) (saidOf a (now (cached .exit)) (now (fetching .exit))) ⌝ }
 {
     let letter = c.letter;
     let x = c.fields;
@@ -149,7 +154,8 @@ pub(crate) fn respond(
     requires { ⌜ Valid (stateOf v (now cached) (now fetching)) ⌝ }
     requires { ⌜ Roomy (now out) ⌝ }
     ensures { λ a.
-        ⌜ Gives (respondOf (stateOf v (now (cached .entry)) (now (fetching .entry))) (now (line .entry))) (now (out .entry)) (now (out .exit)) (saidOf a (now (cached .exit)) (now (fetching .exit))) ⌝ }
+        ⌜ Gives (respondOf (stateOf v (now (cached .entry)) (now (fetching .entry))) (now (line .entry)))
+        (now (out .entry)) (now (out .exit)) (saidOf a (now (cached .exit)) (now (fetching .exit))) ⌝ }
 {
     let c = text::parse(line);
     if c.ok {

@@ -37,7 +37,8 @@ fn answer_line(
     requires { ⌜ Valid (stateOf v (now cached) (now fetching)) ⌝ }
     requires { ⌜ (length (now text) ≡ 201) × Roomy (now out) ⌝ }
     ensures { λ a.
-        ⌜ Gives (respondOf (stateOf v (now (cached .entry)) (now (fetching .entry))) (textIn (now (text .entry)) ++ now (piece .entry))) (now (out .entry)) (now (out .exit)) (saidOf a (now (cached .exit)) (now (fetching .exit))) ⌝ }
+        ⌜ Gives (respondOf (stateOf v (now (cached .entry)) (now (fetching .entry))) (textIn (now (text .entry)) ++ now (piece .entry)))
+        (now (out .entry)) (now (out .exit)) (saidOf a (now (cached .exit)) (now (fetching .exit))) ⌝ }
 {
     if text[0] == 0 {
         return dispatch::respond(v, cached, fetching, piece, out);
@@ -65,7 +66,8 @@ fn go_through(
     requires { ⌜ Valid (stateOf v (now cached) (now fetching)) ⌝ }
     requires { ⌜ (length (now text) ≡ 201) × (from ≤ length (now chunk)) × Roomy (now out) ⌝ }
     ensures { λ r.
-        ⌜ goneIn r (now (cached .exit)) (now (fetching .exit)) (now (text .exit)) (now (out .exit)) ≡ goneOf (stateOf v (now (cached .entry)) (now (fetching .entry))) (now (text .entry)) (now (chunk .entry)) from (now (out .entry)) ⌝ }
+        ⌜ goneIn r (now (cached .exit)) (now (fetching .exit)) (now (text .exit)) (now (out .exit))
+        ≡ goneOf (stateOf v (now (cached .entry)) (now (fetching .entry))) (now (text .entry)) (now (chunk .entry)) from (now (out .entry)) ⌝ }
 {
     let mut w = v;
     let mut next = from;
@@ -138,7 +140,8 @@ pub fn feed(
     from: usize,
     out: &mut [u8],
 ) -> Progress
-    ensures { λ r. ⌜ fedIn r (now (image .exit)) (now (text .exit)) (now (out .exit)) ≡ feedOf (now (image .entry)) (now (text .entry)) (now (chunk .entry)) from (now (out .entry)) ⌝ }
+    ensures { λ r. ⌜ fedIn r (now (image .exit)) (now (text .exit)) (now (out .exit))
+        ≡ feedOf (now (image .entry)) (now (text .entry)) (now (chunk .entry)) from (now (out .entry)) ⌝ }
 {
     if !ready(text, chunk, from, out) {
         return Progress { next: from, len: 0 };
@@ -170,7 +173,8 @@ pub fn feed(
 
 // The end of the input: a text that is not empty is one last line, fed as if its line end followed.
 pub fn finish(image: &mut [u8], text: &mut [u8], out: &mut [u8]) -> usize
-    ensures { λ r. ⌜ leftIn r (now (image .exit)) (now (text .exit)) (now (out .exit)) ≡ finishOf (now (image .entry)) (now (text .entry)) (now (out .entry)) ⌝ }
+    ensures { λ r. ⌜ leftIn r (now (image .exit)) (now (text .exit)) (now (out .exit))
+        ≡ finishOf (now (image .entry)) (now (text .entry)) (now (out .entry)) ⌝ }
 {
     if text.len() == 0 {
         return 0;

@@ -199,7 +199,8 @@ fn higher<'a>(
     requires { ⌜ (file < 8) × (n ≤ 1024) ⌝ }
     requires { ⌜ ((f : List ℕ) → Ranked (stateOf v (now cached) f) (inSet files) best) ⌝ }
     ensures { λ r.
-        ⌜ ((f : List ℕ) → Presents (stateOf v (now (cached .entry)) f) (now (present .entry)) → Raised (stateOf v (now (cached .entry)) f) (inSet files) file n best r) ⌝ }
+        ⌜ ((f : List ℕ) → Presents (stateOf v (now (cached .entry)) f) (now (present .entry))
+        → Raised (stateOf v (now (cached .entry)) f) (inSet files) file n best r) ⌝ }
 {
     let page = bits::last_set(cached, file * 1024, pages_of(files, file, n));
     if page == 0 {

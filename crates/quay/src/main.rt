@@ -59,7 +59,8 @@ fn answers<'a>(
     out: &'a mut [u8],
 ) -> &'a [u8]
     ensures { λ r.
-        ⌜ handedIn (now (image .exit)) (now (text .exit)) (now r) (now (next .exit)) ≡ handedOf (feedOf (now (image .entry)) (now (text .entry)) (now (chunk .entry)) (now (next .entry)) (now (out .entry))) ⌝ }
+        ⌜ handedIn (now (image .exit)) (now (text .exit)) (now r) (now (next .exit))
+        ≡ handedOf (feedOf (now (image .entry)) (now (text .entry)) (now (chunk .entry)) (now (next .entry)) (now (out .entry))) ⌝ }
 {
     let from = *next;
     let r = lines::feed(image, text, chunk, from, out);
@@ -83,7 +84,8 @@ fn pump(image: &mut [u8], text: &mut [u8], chunk: &[u8], n: usize, out: &mut [u8
     requires { ⌜ Stands (now image) (now text) × Roomy (now out) × (n ≤ length (now chunk)) ⌝ }
     ensures { λ r. ⌜ Stands (now (image .exit)) (now (text .exit)) ⌝ }
     ensures whole { λ r.
-        ⌜ ((f : Fed) → StandsIn (now (image .entry)) (now (text .entry)) f → r ≡ true → StandsIn (now (image .exit)) (now (text .exit)) (feed f (take n (now (chunk .entry))))) ⌝ }
+        ⌜ ((f : Fed) → StandsIn (now (image .entry)) (now (text .entry)) f → r ≡ true
+        → StandsIn (now (image .exit)) (now (text .exit)) (feed f (take n (now (chunk .entry))))) ⌝ }
 {
     let mut next: usize = 0;
     while next < n {
