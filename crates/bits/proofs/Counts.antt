@@ -90,8 +90,8 @@ ones-words words first i h =
 -- a part of the first word, whole words, a part of the last
 pub ones-parts : (words : List ℕ) (a n : ℕ) → 64 - a % 64 < n
     → ones words a n
-    ≡ ones words a (64 - a % 64) + ones words ((a / 64 + 1) * 64) (((a + n) / 64 - (a / 64 + 1)) * 64) + ones words
-    (a + n - (a + n) % 64) ((a + n) % 64)
+    ≡ ones words a (64 - a % 64) + ones words ((a / 64 + 1) * 64) (((a + n) / 64 - (a / 64 + 1)) * 64)
+    + ones words (a + n - (a + n) % 64) ((a + n) % 64)
 ones-parts words a n h =
     let x : ℕ = 64 - a % 64 in
     let y : ℕ = ((a + n) / 64 - (a / 64 + 1)) * 64 in

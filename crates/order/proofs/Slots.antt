@@ -78,12 +78,8 @@ module _ (s : State) (k j low : ℕ) where
   unfolding useFor timeFor
   lower-late h = go (sees s (readerAt s j) k)
     where
-      go : (b : Bool)
-          → low
-          ≡ cond b
-          (min (cond b ((steps (readerAt s j) k * readerAt s j .pace + between s (readerAt s j) k * s .«fetch_time») * 16 + seat s j) never)
-          low)
-          low
+      go : (b : Bool) → low ≡ cond b
+          (min (cond b ((steps (readerAt s j) k * readerAt s j .pace + between s (readerAt s j) k * s .«fetch_time») * 16 + seat s j) never) low) low
       go true = omega arith
       go false = refl
 

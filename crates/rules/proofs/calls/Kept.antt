@@ -138,8 +138,8 @@ lost-kept s file page v = search (for-fetch-all Keeps, waiters-woken, passed) de
 pub prefetch-kept : (s : State) → Valid s → Valid (prefetchOf s .state)
 unfolding prefetchOf
 prefetch-kept s v =
-    option-all Keeps (head (fetchOrder s))
-    _ _ (λ k e. let w = fetch-wanted s v k e in fetch-opened s v k (wanted-page s v k w) (absent k w)) (λ _. v)
+    option-all Keeps (head (fetchOrder s)) _ _
+    (λ k e. let w = fetch-wanted s v k e in fetch-opened s v k (wanted-page s v k w) (absent k w)) (λ _. v)
   where
     absent : (k : ℕ) → T (wanted s k) → T (cached s k) → ⊥
     absent k w = T-not (cached s k) (and-first (not (cached s k)) (not (inFetch s k)) (and-second (seen s k) _ w))

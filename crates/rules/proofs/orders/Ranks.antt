@@ -153,8 +153,8 @@ module _ (s : State) (w : Valid s) where
       later k = cached s k && not (not (ahead s k))
 
       first : falling (rank s) (only (cached s) (pages s))
-          ≡ falling (rank s) (only (λ k. not (ahead s k)) (only (cached s) (pages s))) ++ falling (rank s)
-          (only (λ k. not (not (ahead s k))) (only (cached s) (pages s)))
+          ≡ falling (rank s) (only (λ k. not (ahead s k)) (only (cached s) (pages s)))
+          ++ falling (rank s) (only (λ k. not (not (ahead s k))) (only (cached s) (pages s)))
       first = split-falling (rank s) (λ k. not (ahead s k)) (λ k. T (cached s k) × Page s k)
           (λ x y p q h n. omega (arith, rank-behind s x h, rank-ahead y (q .1) (not-not (ahead s y) n)))
           (only (cached s) (pages s)) (all-only (cached s) (Page s) (pages s) (pages-in s w))

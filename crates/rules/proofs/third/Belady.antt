@@ -151,10 +151,8 @@ drop-step N rs A A′ B d v rest last full h t = go (near rs t v) refl
     go : (b : Bool) → near rs t v ≡ b → count N (λ k. near rs t k && B k) ≤ count N (λ k. near rs t k && A′ k) + d
     go true e =
         let all : count N A′ ≤ count N (λ k. near rs t k && A′ k) =
-        mono N
-        _ _ (λ k.
-        and-full (near rs t k) (A′ k) (λ i. lt→ltb (nextUse rs k) t (omega (arith, last k i, ltb→lt (nextUse rs v) t (subst T (sym e) tt)))))
-        in
+        mono N _ _ (λ k. and-full (near rs t k) (A′ k)
+        (λ i. lt→ltb (nextUse rs k) t (omega (arith, last k i, ltb→lt (nextUse rs v) t (subst T (sym e) tt))))) in
         let part : count N (λ k. near rs t k && B k) ≤ count N B = mono N _ _ (λ k. and-le (near rs t k) (B k)) in
         omega arith
     go false e =

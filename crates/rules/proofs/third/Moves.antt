@@ -89,13 +89,10 @@ module _ (s : State) (v : Valid s) where
       ≡ cond (eqb (s .turn) j) (cond (goes (s .sizes) (readerAt s j)) (onward (readerAt s j)) (readerAt s j)) (readerAt s j)
   moved-at j =
       key (s .turn) j
-      (λ b.
-      getD (movedOn (s .sizes) (s .readers) (s .turn)) j noReader
+      (λ b. getD (movedOn (s .sizes) (s .readers) (s .turn)) j noReader
       ≡ cond b (cond (goes (s .sizes) (readerAt s j)) (onward (readerAt s j)) (readerAt s j)) (readerAt s j))
-      (λ e.
-      subst
-      (λ i.
-      getD (movedOn (s .sizes) (s .readers) (s .turn)) i noReader
+      (λ e. subst
+      (λ i. getD (movedOn (s .sizes) (s .readers) (s .turn)) i noReader
       ≡ cond (goes (s .sizes) (readerAt s i)) (onward (readerAt s i)) (readerAt s i))
       e (own (goesNow s)))
       (λ ne. other ne (goesNow s))

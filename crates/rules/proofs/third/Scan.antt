@@ -191,8 +191,7 @@ away-reads far (reader g c z) u f p j lu lj P n y =
     (λ e l h. y (16 * (p + 1 - c - 1) + distance u j) (seat-turn u j (p + 1 - c - 1) lu lj) (paged e l h)) n
   where
     paged : g ≡ f → c ≤ p → p < z
-        → cond (ltb (c + (16 * (p + 1 - c - 1) + distance u j) / 16) z) (some (code g (c + (16 * (p + 1 - c - 1) + distance u j) / 16)))
-        none
+        → cond (ltb (c + (16 * (p + 1 - c - 1) + distance u j) / 16) z) (some (code g (c + (16 * (p + 1 - c - 1) + distance u j) / 16))) none
         ≡ some (code f p)
     paged e l h =
         let at = sixteen (16 * (p + 1 - c - 1) + distance u j) (p + 1 - c - 1) (distance u j) refl (omega arith) in

@@ -108,8 +108,7 @@ returns-6 c =
     let at-match-rest = after-refuse .before .before in
     let at-start = at-match-rest .before .before .before in
     let other = at-match-rest .match .rest in
-    rw
-    (other-count _ _ (at-start .args .c .fields) (at-start .args .c .count) (eleven at-start) (at-start .pre .1 .0)
+    rw (other-count _ _ (at-start .args .c .fields) (at-start .args .c .count) (eleven at-start) (at-start .pre .1 .0)
     (other .0 .0 .0 .0 .1) (other .0 .0 .0 .1) (other .0 .0 .1) (other .0 .1) (other .1))
     (after-refuse .refuse .ensures _ _)
 
