@@ -1,5 +1,8 @@
 /* A small server over the quay box: two tablets dock, read their passage file and are taken off again.
  *
+ * Tablet 0 is to have the whole file. It is taken off half full, and when it docks again it goes on where it left off. Tablet 1 needs
+ * the first pages alone, the harbour reaches.
+ *
  * The link is played by a queue: a fetch asked for at one tick arrives at a later one, and one of them is lost on the way. When
  * nobody waits for a page the box is asked what to fetch early. Half way the server stops, leaves the image in a file and comes
  * back from it.
@@ -11,11 +14,19 @@
 
 #include "quay.h"
 
-enum { FILE_PAGES = 12, FRAMES = 4, LOOK_AHEAD = 200, FETCH_TIME = 5, PACE = 10 };
+enum { FILE_PAGES = 12, HARBOUR_PAGES = 5, FRAMES = 4, LOOK_AHEAD = 200, FETCH_TIME = 5, PACE = 10 };
 enum { LINK_DELAY = 2, LINK_DEPTH = 8, LOSS_TICK = 11, STOP_TICK = 16, LAST_TICK = 100 };
+enum { HARBOUR_TICK = 6, OFF_TICK = 10, AGAIN_TICK = 14 };
 
 struct fetch {
     unsigned file, page, due;
+};
+
+/* What the server keeps of a tablet: the page that it read last, and the page at which it is done. The box knows them of a docked
+ * tablet alone. */
+struct tablet {
+    unsigned position, last;
+    int done;
 };
 
 struct server {
@@ -67,18 +78,38 @@ static void deliver(struct server *s, unsigned tick)
     s->on_link = left;
 }
 
-/* A tablet asks for its next page. Returns whether it has its whole file. */
-static int serve(struct server *s, unsigned tick, unsigned slot)
+/* A tablet docks, in the slot of its number, and goes on behind the page that it read last. */
+static void dock(struct server *s, unsigned tick, unsigned slot, const struct tablet *t)
+{
+    char what[16];
+    snprintf(what, sizeof what, "dock %u", slot);
+    show(tick, what, quay_attach(s->image, sizeof s->image, slot, 0, PACE, t->position, t->last));
+}
+
+static void take_off(struct server *s, unsigned tick, unsigned slot)
+{
+    char what[16];
+    snprintf(what, sizeof what, "undock %u", slot);
+    show(tick, what, quay_detach(s->image, sizeof s->image, slot));
+}
+
+/* A tablet asks for its next page. With its last page read it is done, and taken off. */
+static void serve(struct server *s, unsigned tick, unsigned slot, struct tablet *t)
 {
     char what[16];
     uint64_t answer = quay_read(s->image, sizeof s->image, slot);
     if (answer == QUAY_READER_WAITS || answer == QUAY_SLOT_EMPTY)
-        return 0;
+        return;
     snprintf(what, sizeof what, "tablet %u", slot);
     show(tick, what, answer);
+    if (quay_letter(answer) == QUAY_HIT)
+        t->position = quay_page(answer);
     if (quay_letter(answer) == QUAY_FETCH)
         ask(s, tick, answer);
-    return quay_letter(answer) == QUAY_END;
+    if (quay_letter(answer) == QUAY_END) {
+        t->done = 1;
+        take_off(s, tick, slot);
+    }
 }
 
 /* The link is idle: the box may want a page early. */
@@ -124,7 +155,7 @@ static int resume(struct server *s, const char *path)
 int main(int argc, char **argv)
 {
     struct server s;
-    int done[2] = {0, 0};
+    struct tablet whole = {0, FILE_PAGES, 0}, harbour = {0, HARBOUR_PAGES, 0}, beyond = {0, FILE_PAGES + 1, 0};
     if (argc != 2) {
         fprintf(stderr, "usage: server IMAGE-FILE\n");
         return 2;
@@ -133,11 +164,16 @@ int main(int argc, char **argv)
         fprintf(stderr, "server: the settings are out of range\n");
         return 1;
     }
-    show(0, "dock 0", quay_attach(s.image, sizeof s.image, 0, 0, PACE));
-    show(0, "dock 0", quay_attach(s.image, sizeof s.image, 0, 0, PACE));
-    for (unsigned tick = 1; tick < LAST_TICK && !(done[0] && done[1]); tick++) {
-        if (tick == 6)
-            show(tick, "dock 1", quay_attach(s.image, sizeof s.image, 1, 0, PACE));
+    dock(&s, 0, 0, &beyond); /* the file has no such page */
+    dock(&s, 0, 0, &whole);
+    dock(&s, 0, 0, &whole);
+    for (unsigned tick = 1; tick < LAST_TICK && !(whole.done && harbour.done); tick++) {
+        if (tick == HARBOUR_TICK)
+            dock(&s, tick, 1, &harbour);
+        if (tick == OFF_TICK)
+            take_off(&s, tick, 0);
+        if (tick == AGAIN_TICK)
+            dock(&s, tick, 0, &whole);
         if (tick == STOP_TICK) {
             if (!keep(&s, argv[1]) || !resume(&s, argv[1])) {
                 fprintf(stderr, "server: the image could not be kept in %s\n", argv[1]);
@@ -146,14 +182,11 @@ int main(int argc, char **argv)
             printf("     back from the file\n");
         }
         deliver(&s, tick);
-        for (unsigned slot = 0; slot < 2; slot++)
-            if (!done[slot] && serve(&s, tick, slot)) {
-                done[slot] = 1;
-                show(tick, slot ? "undock 1" : "undock 0", quay_detach(s.image, sizeof s.image, slot));
-            }
+        serve(&s, tick, 0, &whole);
+        serve(&s, tick, 1, &harbour);
         if (s.on_link == 0)
             fetch_early(&s, tick);
     }
     show(LAST_TICK, "steal", quay_steal(s.image, sizeof s.image));
-    return done[0] && done[1] ? 0 : 1;
+    return whole.done && harbour.done ? 0 : 1;
 }

@@ -29,8 +29,8 @@ extern "C" {
  * MAJOR grows when a server has to change or its images do: a call takes other numbers, an answer or a refusal means something
  * else, or the image is longer. MINOR grows when something is added, a call for instance, and all that was stays. PATCH grows
  * when this header says the same as before. */
-#define QUAY_VERSION "1.0.0"
-#define QUAY_VERSION_MAJOR 1
+#define QUAY_VERSION "2.0.0"
+#define QUAY_VERSION_MAJOR 2
 #define QUAY_VERSION_MINOR 0
 #define QUAY_VERSION_PATCH 0
 
@@ -46,14 +46,18 @@ extern "C" {
  *        4      4  look-ahead L, ticks                                      1 to 2,000,000
  *        8      4  fetch time T, ticks                                      0 to 2,000,000
  *       12    8x2  sizes of the files 0 to 7, pages (0: no such file)       0 to 1,024
- *       28   16x8  readers: condition (0 empty, 1 running, 2 waiting), file, pace (2), position (2), 0 (2)
+ *       28   16x8  readers: condition (0 empty, 1 running, 2 waiting), file, pace (2), position (2), last page (2)
  *      156      4  0
  *      160   1024  cached pages, 128 bytes a file, page 1 in the lowest bit of the first
  *     1184   1024  pages in fetch, likewise
  *
- * A reader's file is 0 to 7 and of a size above 0, its pace 1 to 1,000, its position 0 to the size; an empty slot is all 0. A waiting
- * reader's next page is in fetch. No page is above its file's size or in both maps, and no more pages are cached than there are
- * frames. Any other image is refused: 13. */
+ * A reader's file is 0 to 7 and of a size above 0, its pace 1 to 1,000, its last page 1 to the size, its position 0 to its last page;
+ * an empty slot is all 0. A waiting reader is not at its last page, and its next page is in fetch. No page is above its file's size or
+ * in both maps, and no more pages are cached than there are frames. Any other image is refused: 13.
+ *
+ * In an image of version 1 every last page is 0, and it is taken up too: 0 there, in a taken slot, means the size of the reader's file.
+ * This goes slot by slot, so one image may have both. A call that is not refused writes the last page of every reader in; a refusal
+ * leaves the 0. */
 #define QUAY_IMAGE_SIZE 2208
 #define QUAY_AT_FRAMES 0
 #define QUAY_AT_TURN 2
@@ -78,6 +82,7 @@ extern "C" {
 #define QUAY_FETCH_OPEN 10      /* a page is in fetch */
 #define QUAY_TOO_MANY_TURNS 11  /* turns above 16,384 */
 #define QUAY_BAD_IMAGE 13       /* another length than QUAY_IMAGE_SIZE, or no image of the box; tested first by every call */
+#define QUAY_BAD_RANGE 15       /* last page 0 or above the file's size, or start above the last page */
 
 /* ---- answers ------------------------------------------------------------------------------------------------------------
  * A refusal's number is below 65,536. Any other answer has a letter, and some name a page. Run's answer has no letter but two
@@ -86,7 +91,7 @@ extern "C" {
 #define QUAY_HIT 'H'      /* read: the page was cached, and is read */
 #define QUAY_WAIT 'W'     /* read: the page is in fetch; the reader waits for it */
 #define QUAY_FETCH 'F'    /* read, prefetch: fetch this page now; a reader that asked waits for it */
-#define QUAY_END 'Z'      /* read: the reader has read its whole file */
+#define QUAY_END 'Z'      /* read: the reader is at its last page */
 #define QUAY_NOTHING 'U'  /* steal: nothing is cached; prefetch: nothing to fetch */
 #define QUAY_STOLEN 'S'   /* steal: this page was dropped */
 #define QUAY_ARRIVED 'I'  /* arrive: the page is cached; the page that was dropped for it, if any */
@@ -138,16 +143,18 @@ static inline uint64_t quay_first_image(uint8_t *image, size_t length, uint64_t 
 /* ---- the calls ----------------------------------------------------------------------------------------------------------
  * Each takes the image and its length, which must be QUAY_IMAGE_SIZE. */
 
-/* A tablet docks: the empty slot holds a reader of the file, at position 0, with that pace in ticks a page.
- * QUAY_DONE. Refusals: 13, 2, 3, 4, 5. */
-uint64_t quay_attach(uint8_t *image, size_t length, uint64_t slot, uint64_t file, uint64_t pace);
+/* A tablet docks: the empty slot holds a reader of the file, with that pace in ticks a page. It reads the pages from start + 1 to last:
+ * start is its position, the page that it read last, 0 for a tablet that has none yet; last is the page at which it is done, the
+ * file's size if it wants the whole file. Where start is last, its first read answers QUAY_END.
+ * QUAY_DONE. Refusals: 13, 2, 3, 4, 15, 5. */
+uint64_t quay_attach(uint8_t *image, size_t length, uint64_t slot, uint64_t file, uint64_t pace, uint64_t start, uint64_t last);
 
 /* The tablet is taken off; a fetch that it waited for stays open.
  * QUAY_DONE. Refusals: 13, 2, 6. */
 uint64_t quay_detach(uint8_t *image, size_t length, uint64_t slot);
 
 /* The reader in the slot asks for its next page.
- * QUAY_END, or QUAY_HIT, QUAY_WAIT or QUAY_FETCH with the page. Refusals: 13, 2, 6, 7. */
+ * QUAY_END at its last page, or QUAY_HIT, QUAY_WAIT or QUAY_FETCH with the page. Refusals: 13, 2, 6, 7. */
 uint64_t quay_read(uint8_t *image, size_t length, uint64_t slot);
 
 /* A page that was in fetch has come: it is cached, in the frame of another page if none is free, and its waiters run.

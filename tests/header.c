@@ -75,7 +75,7 @@ static void first_image(void)
     IS(memcmp(image, wanted, sizeof image), 0);
     SAYS(quay_prefetch(BOX), QUAY_NOTHING, 0, 0);
     SAYS(quay_first_image(BOX, 1, 1, 0, none), QUAY_DONE, 0, 0);
-    IS(quay_attach(BOX, 0, 0, 10), QUAY_NO_FILE);
+    IS(quay_attach(BOX, 0, 0, 10, 0, 0), QUAY_NO_FILE);
 }
 
 /* Settings out of range, also ones that only their high half puts there, and other lengths; the buffer stays. */
@@ -105,21 +105,24 @@ static void refused_first_images(void)
 static void refusals(void)
 {
     start();
-    IS(quay_attach(BOX, 16, 0, 10), QUAY_NO_SLOT);
-    IS(quay_attach(BOX, 0, 8, 10), QUAY_NO_FILE);
-    IS(quay_attach(BOX, 0, 1, 10), QUAY_NO_FILE);
-    IS(quay_attach(BOX, 0, 0, 1001), QUAY_BAD_PACE);
+    IS(quay_attach(BOX, 16, 0, 10, 0, 5), QUAY_NO_SLOT);
+    IS(quay_attach(BOX, 0, 8, 10, 0, 5), QUAY_NO_FILE);
+    IS(quay_attach(BOX, 0, 1, 10, 0, 5), QUAY_NO_FILE);
+    IS(quay_attach(BOX, 0, 0, 1001, 0, 5), QUAY_BAD_PACE);
+    IS(quay_attach(BOX, 0, 0, 10, 0, 0), QUAY_BAD_RANGE);
+    IS(quay_attach(BOX, 0, 0, 10, 0, 6), QUAY_BAD_RANGE);
+    IS(quay_attach(BOX, 0, 0, 10, 4, 3), QUAY_BAD_RANGE);
     IS(quay_read(BOX, 0), QUAY_SLOT_EMPTY);
     IS(quay_arrive(BOX, 0, 6), QUAY_NO_PAGE);
     IS(quay_arrive(BOX, 0, 5), QUAY_NOT_IN_FETCH);
     IS(quay_run(BOX, 16385), QUAY_TOO_MANY_TURNS);
-    SAYS(quay_attach(BOX, 0, 0, 10), QUAY_DONE, 0, 0);
-    IS(quay_attach(BOX, 0, 0, 10), QUAY_SLOT_TAKEN);
+    SAYS(quay_attach(BOX, 0, 0, 10, 0, 5), QUAY_DONE, 0, 0);
+    IS(quay_attach(BOX, 0, 0, 10, 0, 5), QUAY_SLOT_TAKEN);
     SAYS(quay_read(BOX, 0), QUAY_FETCH, 0, 1);
     IS(quay_read(BOX, 0), QUAY_READER_WAITS);
     IS(quay_run(BOX, 1), QUAY_FETCH_OPEN);
     for (length = QUAY_IMAGE_SIZE - 1; length <= QUAY_IMAGE_SIZE + 1; length += 2) {
-        IS(quay_attach(BOX, 1, 0, 10), QUAY_BAD_IMAGE);
+        IS(quay_attach(BOX, 1, 0, 10, 0, 5), QUAY_BAD_IMAGE);
         IS(quay_detach(BOX, 0), QUAY_BAD_IMAGE);
         IS(quay_read(BOX, 0), QUAY_BAD_IMAGE);
         IS(quay_arrive(BOX, 0, 1), QUAY_BAD_IMAGE);
@@ -130,14 +133,30 @@ static void refusals(void)
     }
 }
 
+/* Attach's refusals, each where all that come after it apply too. */
+static void refusals_in_order(void)
+{
+    start();
+    SAYS(quay_attach(BOX, 0, 0, 10, 0, 5), QUAY_DONE, 0, 0);
+    IS(quay_attach(image, QUAY_IMAGE_SIZE - 1, 16, 8, 0, 1, 0), QUAY_BAD_IMAGE);
+    IS(quay_attach(BOX, 16, 8, 0, 1, 0), QUAY_NO_SLOT);
+    IS(quay_attach(BOX, 0, 8, 0, 1, 0), QUAY_NO_FILE);
+    IS(quay_attach(BOX, 0, 0, 0, 1, 0), QUAY_BAD_PACE);
+    IS(quay_attach(BOX, 0, 0, 10, 1, 0), QUAY_BAD_RANGE);
+    IS(quay_attach(BOX, 0, 0, 10, 1, 1), QUAY_SLOT_TAKEN);
+}
+
 /* Numbers are 64 bits wide: none of these is cut to one that fits. */
 static void wide_numbers(void)
 {
     const uint64_t wide = (uint64_t)1 << 32;
     start();
-    IS(quay_attach(BOX, wide, 0, 10), QUAY_NO_SLOT);
-    IS(quay_attach(BOX, 0, wide, 10), QUAY_NO_FILE);
-    IS(quay_attach(BOX, 0, 0, wide + 10), QUAY_BAD_PACE);
+    IS(quay_attach(BOX, wide, 0, 10, 0, 5), QUAY_NO_SLOT);
+    IS(quay_attach(BOX, 0, wide, 10, 0, 5), QUAY_NO_FILE);
+    IS(quay_attach(BOX, 0, 0, wide + 10, 0, 5), QUAY_BAD_PACE);
+    IS(quay_attach(BOX, 0, 0, 10, wide, 5), QUAY_BAD_RANGE);
+    IS(quay_attach(BOX, 0, 0, 10, 0, wide + 5), QUAY_BAD_RANGE);
+    IS(quay_attach(BOX, 0, 0, 10, wide, wide + 5), QUAY_BAD_RANGE);
     IS(quay_detach(BOX, wide), QUAY_NO_SLOT);
     IS(quay_read(BOX, wide), QUAY_NO_SLOT);
     IS(quay_arrive(BOX, wide, 1), QUAY_NO_FILE);
@@ -151,12 +170,11 @@ static void wide_numbers(void)
 /* A reader of the last page of all, in slot 3, with what the box writes at each place of the image. */
 static void answers(void)
 {
-    static const uint8_t running[8] = {1, 7, 0xe7, 3, 0xff, 3, 0, 0}, empty[8] = {0};
+    static const uint8_t running[8] = {1, 7, 0xe7, 3, 0xff, 3, 0, 4}, empty[8] = {0};
     uint8_t *reader = image + QUAY_AT_READERS + 8 * 3;
     uint8_t *cached = image + QUAY_AT_CACHED + 128 * 7 + 127, *fetching = image + QUAY_AT_FETCHING + 128 * 7 + 127;
     start();
-    SAYS(quay_attach(BOX, 3, 7, 999), QUAY_DONE, 0, 0);
-    put(QUAY_AT_READERS + 8 * 3 + 4, 2, 1023);
+    SAYS(quay_attach(BOX, 3, 7, 999, 1023, 1024), QUAY_DONE, 0, 0);
     IS(memcmp(reader, running, 8) == 0, 1);
     SAYS(quay_steal(BOX), QUAY_NOTHING, 0, 0);
     SAYS(quay_prefetch(BOX), QUAY_NOTHING, 0, 0);
@@ -178,10 +196,72 @@ static void answers(void)
     SAYS(quay_detach(BOX, 3), QUAY_DONE, 0, 0);
     IS(memcmp(reader, empty, 8) == 0, 1);
     put(QUAY_AT_FRAMES, 2, 1);
-    SAYS(quay_attach(BOX, 0, 0, 10), QUAY_DONE, 0, 0);
+    SAYS(quay_attach(BOX, 0, 0, 10, 0, 5), QUAY_DONE, 0, 0);
     SAYS(quay_read(BOX, 0), QUAY_FETCH, 0, 1);
     SAYS(quay_arrive(BOX, 0, 1), QUAY_ARRIVED, 7, 1024);
     SAYS(quay_steal(BOX), QUAY_STOLEN, 0, 1);
+}
+
+/* A reader in the slot: file 0, pace 10, with these numbers. An empty slot has no file and no pace. */
+static void seat(unsigned slot, uint8_t condition, uint8_t position, uint8_t last)
+{
+    uint8_t *reader = image + QUAY_AT_READERS + 8 * slot;
+    reader[0] = condition;
+    reader[2] = condition ? 10 : 0;
+    reader[4] = position;
+    reader[6] = last;
+}
+
+/* Readers of a file of five pages: one reads page 3 alone, one has read what it wants before it starts. */
+static void last_pages(void)
+{
+    static const uint8_t reader[8] = {1, 0, 10, 0, 3, 0, 3, 0};
+    start();
+    SAYS(quay_attach(BOX, 0, 0, 10, 2, 3), QUAY_DONE, 0, 0);
+    SAYS(quay_prefetch(BOX), QUAY_FETCH, 0, 3);
+    SAYS(quay_prefetch(BOX), QUAY_NOTHING, 0, 0);
+    SAYS(quay_arrive(BOX, 0, 3), QUAY_ARRIVED, 0, 0);
+    SAYS(quay_read(BOX, 0), QUAY_HIT, 0, 3);
+    SAYS(quay_read(BOX, 0), QUAY_END, 0, 0);
+    IS(memcmp(image + QUAY_AT_READERS, reader, 8), 0);
+    SAYS(quay_attach(BOX, 15, 0, 10, 5, 5), QUAY_DONE, 0, 0);
+    SAYS(quay_read(BOX, 15), QUAY_END, 0, 0);
+}
+
+/* An image of version 1, a reader with a last page of its own in it: which answers write the last pages in, and that nothing else
+ * changes. */
+static void older_images(void)
+{
+    static uint8_t older[sizeof image], newer[sizeof image];
+    start();
+    seat(0, 1, 5, 0);
+    seat(3, 1, 2, 4);
+    seat(15, 1, 0, 0);
+    memcpy(older, image, sizeof image);
+    seat(0, 1, 5, 5);
+    seat(15, 1, 0, 5);
+    memcpy(newer, image, sizeof image);
+
+    memcpy(image, older, sizeof image);
+    IS(quay_attach(BOX, 0, 0, 10, 0, 5), QUAY_SLOT_TAKEN);
+    IS(quay_read(BOX, 1), QUAY_SLOT_EMPTY);
+    IS(quay_run(BOX, 16385), QUAY_TOO_MANY_TURNS);
+    IS(memcmp(image, older, sizeof image), 0);
+    SAYS(quay_read(BOX, 0), QUAY_END, 0, 0);
+    IS(memcmp(image, newer, sizeof image), 0);
+    SAYS(quay_steal(BOX), QUAY_NOTHING, 0, 0);
+    IS(memcmp(image, newer, sizeof image), 0);
+
+    memcpy(image, older, sizeof image);
+    SAYS(quay_steal(BOX), QUAY_NOTHING, 0, 0);
+    IS(memcmp(image, newer, sizeof image), 0);
+    memcpy(image, older, sizeof image);
+    IS(quay_refused(quay_run(BOX, 0)), 0);
+    IS(memcmp(image, newer, sizeof image), 0);
+    memcpy(image, older, sizeof image);
+    SAYS(quay_detach(BOX, 15), QUAY_DONE, 0, 0);
+    memset(newer + QUAY_AT_READERS + 8 * 15, 0, 8);
+    IS(memcmp(image, newer, sizeof image), 0);
 }
 
 /* Whether the box takes an image with this value at this place. */
@@ -190,6 +270,34 @@ static int takes(size_t at, unsigned width, uint32_t value)
     start();
     put(at, width, value);
     return quay_steal(BOX) != QUAY_BAD_IMAGE;
+}
+
+/* Whether the box takes an image with such a reader in slot 15, every page of its file in fetch. */
+static int seats(uint8_t condition, uint8_t position, uint8_t last)
+{
+    start();
+    seat(15, condition, position, last);
+    image[QUAY_AT_FETCHING] = 0x1f;
+    return quay_steal(BOX) != QUAY_BAD_IMAGE;
+}
+
+/* The ranges of a position and a last page, and where a reader may wait. */
+static void reader_ranges(void)
+{
+    IS(seats(1, 0, 1), 1);
+    IS(seats(1, 5, 5), 1);
+    IS(seats(1, 5, 6), 0);
+    IS(seats(1, 3, 3), 1);
+    IS(seats(1, 4, 3), 0);
+    IS(seats(1, 5, 0), 1);
+    IS(seats(1, 6, 0), 0);
+    IS(seats(2, 2, 3), 1);
+    IS(seats(2, 3, 3), 0);
+    IS(seats(2, 4, 3), 0);
+    IS(seats(2, 4, 0), 1);
+    IS(seats(2, 5, 0), 0);
+    IS(seats(0, 0, 0), 1);
+    IS(seats(0, 0, 5), 0);
 }
 
 /* The ranges of 01, at the places where the values lie. */
@@ -225,8 +333,8 @@ static void limits(void)
     IS(quay_page('F' * 65536 + 1025), 1);
 
     start();
-    quay_attach(BOX, 0, 7, 10);
-    quay_attach(BOX, 1, 7, 10);
+    quay_attach(BOX, 0, 7, 10, 0, 1024);
+    quay_attach(BOX, 1, 7, 10, 0, 1024);
     uint64_t answer = quay_run(BOX, 16 * 300);
     IS(quay_refused(answer), 0);
     IS(quay_fetches(answer), 300);
@@ -236,7 +344,7 @@ static void limits(void)
     put(QUAY_AT_FRAMES, 2, 1); /* and no two turns in a row read the same file, so each turn fetches */
     for (unsigned slot = 0; slot < 16; slot++) {
         put(QUAY_AT_SIZES + 2 * (slot % 8), 2, 1024);
-        quay_attach(BOX, slot, slot % 8, 10);
+        quay_attach(BOX, slot, slot % 8, 10, 0, 1024);
     }
     answer = quay_run(BOX, 16384);
     IS(quay_fetches(answer), 16384);
@@ -249,9 +357,13 @@ int main(void)
     first_image();
     refused_first_images();
     refusals();
+    refusals_in_order();
     wide_numbers();
     answers();
+    last_pages();
+    older_images();
     ranges();
+    reader_ranges();
     limits();
     if (failed > 0)
         printf("quay.h is not the archive's: %u faults\n", failed);

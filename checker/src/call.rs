@@ -8,14 +8,32 @@ use crate::limits::FILES;
 #[derive(Clone, Copy, Debug, PartialEq, Eq)]
 #[allow(missing_docs)] // the fields are the paper's own words
 pub enum Call {
-    Attach { slot: u64, file: u64, pace: u64 },
-    Detach { slot: u64 },
-    Read { slot: u64 },
-    Arrive { file: u64, page: u64 },
-    Lost { file: u64, page: u64 },
+    Attach {
+        slot: u64,
+        file: u64,
+        pace: u64,
+        start: u64,
+        last: u64,
+    },
+    Detach {
+        slot: u64,
+    },
+    Read {
+        slot: u64,
+    },
+    Arrive {
+        file: u64,
+        page: u64,
+    },
+    Lost {
+        file: u64,
+        page: u64,
+    },
     Prefetch,
     Steal,
-    Run { turns: u64 },
+    Run {
+        turns: u64,
+    },
 }
 
 /// Something that takes calls on an image buffer: the box, or what stands for
@@ -55,7 +73,13 @@ impl Call {
     /// 4,294,967,295 is a line too, but not one of the paper's.
     pub fn line(self) -> String {
         match self {
-            Call::Attach { slot, file, pace } => format!("A,{slot},{file},{pace}"),
+            Call::Attach {
+                slot,
+                file,
+                pace,
+                start,
+                last,
+            } => format!("A,{slot},{file},{pace},{start},{last}"),
             Call::Detach { slot } => format!("D,{slot}"),
             Call::Read { slot } => format!("R,{slot}"),
             Call::Arrive { file, page } => format!("I,{file},{page}"),
@@ -73,7 +97,13 @@ impl Call {
         let fields = pieces.map(|field| field.parse().ok());
         let fields: Vec<u64> = fields.collect::<Option<_>>()?;
         Some(match (letter, fields.as_slice()) {
-            ("A", &[slot, file, pace]) => Call::Attach { slot, file, pace },
+            ("A", &[slot, file, pace, start, last]) => Call::Attach {
+                slot,
+                file,
+                pace,
+                start,
+                last,
+            },
             ("D", &[slot]) => Call::Detach { slot },
             ("R", &[slot]) => Call::Read { slot },
             ("I", &[file, page]) => Call::Arrive { file, page },

@@ -9,7 +9,7 @@ mod svg;
 mod tables;
 mod text;
 
-pub use picture::{Mark, PageRow, ReaderMark, Shown, Strip};
+pub use picture::{Mark, PageRow, ReaderMark, Shown, Sign, Strip};
 pub use tables::{Row, Stretch, Use};
 
 use crate::model::{follow, Page, State};
@@ -162,7 +162,7 @@ fn reader_sentence(state: &State, slot: u64) -> String {
         String::new()
     };
     format!(
-        "Slot {slot} reads file {}, pace {}: page {} of {size} read{waits}.",
-        reader.file, reader.pace, reader.position
+        "Slot {slot} reads file {}, pace {}: page {} of {size} read, last page {}{waits}.",
+        reader.file, reader.pace, reader.position, reader.last
     )
 }

@@ -6,7 +6,15 @@
 use crate::call::{Call, Settings};
 
 extern "C" {
-    fn quay_attach(image: *mut u8, len: usize, slot: u64, file: u64, pace: u64) -> u64;
+    fn quay_attach(
+        image: *mut u8,
+        len: usize,
+        slot: u64,
+        file: u64,
+        pace: u64,
+        start: u64,
+        last: u64,
+    ) -> u64;
     fn quay_detach(image: *mut u8, len: usize, slot: u64) -> u64;
     fn quay_read(image: *mut u8, len: usize, slot: u64) -> u64;
     fn quay_arrive(image: *mut u8, len: usize, file: u64, page: u64) -> u64;
@@ -31,7 +39,13 @@ pub fn entry(image: &mut [u8], call: Call) -> u64 {
     // length of the call these are lent to it alone.
     unsafe {
         match call {
-            Call::Attach { slot, file, pace } => quay_attach(at, len, slot, file, pace),
+            Call::Attach {
+                slot,
+                file,
+                pace,
+                start,
+                last,
+            } => quay_attach(at, len, slot, file, pace, start, last),
             Call::Detach { slot } => quay_detach(at, len, slot),
             Call::Read { slot } => quay_read(at, len, slot),
             Call::Arrive { file, page } => quay_arrive(at, len, file, page),

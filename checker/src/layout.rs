@@ -29,6 +29,9 @@ pub const READERS: usize = 28;
 /// The bytes of one reader.
 pub const READER_BYTES: usize = 8;
 
+/// Within these, "the last page".
+pub const LAST: usize = 6;
+
 /// "4 bytes of 0".
 pub const FOUR_ZEROS: usize = 156;
 

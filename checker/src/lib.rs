@@ -1,8 +1,9 @@
 //! An independent checker of the quay box.
 //!
-//! All of it is written from one source, the scope paper (`01-scope.md`), and
-//! in a style of its own, so that agreement with the box means something.
-//! Sentences in quotation marks are the paper's.
+//! All of it is written from the papers alone, the scope paper (`01-scope.md`)
+//! and the requests that came after it (`02-change-requests.md`), and in a style
+//! of its own, so that agreement with the box means something. Sentences in
+//! quotation marks are the papers'.
 //!
 //! * [`model`]: the paper's rules in sets of pages and sorted lists. Clarity
 //!   first; this is what everything else is held to.
@@ -11,6 +12,7 @@
 //! * [`process`]: the program `quay` itself, as a process that gets a [`feed`].
 //! * [`scene`]: random valid states, random calls and random streams of lines,
 //!   from [`random`] dice.
+//! * [`cases`]: what a call meets that its answer does not tell.
 //! * [`trial`]: what holds an [`Entry`](call::Entry) or a
 //!   [`Program`](feed::Program) to the model.
 //! * [`explain`]: a state as a picture and two tables, for people to read.
@@ -19,6 +21,7 @@
 #![warn(missing_docs)]
 
 pub mod call;
+pub mod cases;
 pub mod explain;
 pub mod feed;
 #[cfg(feature = "box")]

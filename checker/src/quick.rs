@@ -14,6 +14,7 @@ mod lines;
 pub use lines::Lines;
 
 use crate::call::Call;
+use std::ops::Range;
 
 const FILES: usize = 8;
 const SLOTS: usize = 16;
@@ -31,12 +32,18 @@ struct Reader {
     file: usize,
     pace: u32,
     position: u32,
+    last: u32,
 }
 
 impl Reader {
     /// The key of page c + 1.
     fn next(&self) -> usize {
         self.file * 1_024 + self.position as usize
+    }
+
+    /// The key behind its last page's.
+    fn end(&self) -> usize {
+        self.file * 1_024 + self.last as usize
     }
 }
 
@@ -74,6 +81,16 @@ fn has(map: &[u64; WORDS], key: usize) -> bool {
 
 fn put(map: &mut [u64; WORDS], key: usize) {
     map[key / 64] |= 1 << (key % 64);
+}
+
+/// Puts a stretch of keys, word by word.
+fn put_stretch(map: &mut [u64; WORDS], keys: Range<usize>) {
+    let mut key = keys.start;
+    while key < keys.end {
+        let behind = keys.end.min((key / 64 + 1) * 64);
+        map[key / 64] |= u64::MAX >> (64 - (behind - key)) << (key % 64);
+        key = behind;
+    }
 }
 
 fn take(map: &mut [u64; WORDS], key: usize) {

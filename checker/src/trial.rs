@@ -7,6 +7,7 @@ pub mod damage;
 pub mod fewest;
 pub mod first;
 mod hold;
+pub mod last;
 pub mod named;
 mod options;
 mod report;

@@ -10,30 +10,33 @@ use std::io::Write;
 use std::path::PathBuf;
 use std::process::{Command, Output, Stdio};
 
-/// A short stream that leads to a page of every stretch, and to a tie.
-const STREAM: &[u8] = b"S,6,30,0,9,0,4,0,0,0,0,0\nA,2,0,10\nN,96\nD,2\nA,0,0,10\nA,1,0,10\n\
-    R,0\nR,1\nR,0\nA,12,2,10\nP\nR,12\nR,16\nR,12";
+/// A short stream that leads to a page of every stretch, to a tie, and to readers
+/// that end before their files.
+const STREAM: &[u8] = b"S,6,30,0,9,0,4,0,0,0,0,0\nA,2,0,10,0,9\nN,96\nD,2\nA,0,0,10,0,9\n\
+    A,1,0,10,0,6\nR,0\nR,1\nR,0\nA,12,2,10,0,3\nP\nR,12\nR,16\nR,12";
 
 const SHOWN: &str = "\
 The quay box, explained. An aid outside the proofs.
 
 After 14 lines; refused: line 13 (E,2), line 14 (E,7).
 Frames 6, 6 taken. Look-ahead L 30, fetch time T 0. In fetch 1. Turn 0.
-Slot 0 reads file 0, pace 10: page 2 of 9 read.
-Slot 1 reads file 0, pace 10: page 1 of 9 read.
-Slot 12 reads file 2, pace 10: page 0 of 4 read, waits for page 1.
+Slot 0 reads file 0, pace 10: page 2 of 9 read, last page 9.
+Slot 1 reads file 0, pace 10: page 1 of 9 read, last page 6.
+Slot 12 reads file 2, pace 10: page 0 of 4 read, last page 3, waits for page 1.
 
 File 0, 9 pages
   |######...|
-   ^1
+   ^1   ]1 ]0
     ^0
 
 File 2, 4 pages
   |~...|
   ^12w
+     ]12
 
 # cached, ~ in fetch, . neither
 ^ the last page read, with its reader's slot, w if it waits
+] the last page to be read, with its readers' slots
 
 Steal order, 6 in all, the first is the next to be dropped
   place  file  page  list                              use time  slot  seat distance
@@ -65,50 +68,68 @@ fn an_idle_state_is_shown() {
     assert!(!text.contains("File"));
 }
 
-/// A file of 300 pages: pages 1 to 70 cached, page 67 in fetch instead, readers
-/// before it, at the end of the first row and at the start of the second.
+/// A file of 500 pages: pages 1 to 70 cached, page 67 in fetch instead, readers
+/// before it, at the end of the first row and at the start of the second. They end
+/// in rows that would be alike without them, at the file's end, or where they are.
 fn long_file() -> State {
     let mut state = State::idle();
     state.frames = 100;
-    state.sizes[0] = 300;
+    state.sizes[0] = 500;
     let page = |number| Page { file: 0, number };
     state.cached = (1..=70).map(page).collect();
     state.cached.remove(&page(67));
     state.in_fetch.insert(page(67));
-    for (slot, position) in [(0, 64), (1, 0), (2, 65), (3, 66), (15, 66)] {
-        let mut reader = Reader::running(0, 1, position);
+    for (slot, position, last) in [
+        (0, 64, 140),
+        (1, 0, 140),
+        (2, 65, 140),
+        (3, 66, 66),
+        (4, 64, 64),
+        (7, 0, 500),
+        (15, 66, 140),
+    ] {
+        let mut reader = Reader::running(0, 1, position, last);
         reader.waiting = slot == 15;
         state.readers.insert(slot, reader);
     }
     state
 }
 
-/// C stands for 64 pages cached, N for 64 that are not.
+/// C stands for 64 pages cached, N for 64 that are not, M for 52.
 const LONG_FILE: &str = "
-File 0, 300 pages
+File 0, 500 pages
         +0      +8      +16     +24     +32     +40     +48     +56
      1 |C| 64
        ^1                                                              ^0
+       ^7                                                              ^4
+                                                                       ]4
     65 |##~###..........................................................| 128
         ^2
          ^3
          ^15w
+         ]3
    129 |N| 192
-        .. 2 more rows like this one, up to page 300
+                   ]0-2,15
+   193 |N| 256
+        .. 3 more rows like this one, up to page 448
+   449 |M| 500
+                                                           ]7
 
 # cached, ~ in fetch, . neither
 ^ the last page read, with its reader's slot, w if it waits
+] the last page to be read, with its readers' slots
 +8 over rows: 8 pages after the first of its row
 ";
 
 #[test]
 fn long_files_are_in_rows() {
-    let (cached, neither) = ("#".repeat(64), ".".repeat(64));
-    let shown = LONG_FILE.replace('C', &cached).replace('N', &neither);
+    let shown = LONG_FILE.replace('C', &"#".repeat(64));
+    let shown = shown.replace('N', &".".repeat(64));
+    let shown = shown.replace('M', &".".repeat(52));
     let explained = Explained::of(&long_file());
     assert!(explained.text().contains(&shown), "{}", explained.text());
 
-    let rows = [(129, 192), (193, 256), (257, 300)].map(|(first, last)| {
+    let rows = [(193, 256), (257, 320), (321, 384), (385, 448)].map(|(first, last)| {
         let marks = ".".repeat(last + 1 - first);
         format!("   {first} |{marks}| {last}\n")
     });
@@ -129,7 +150,8 @@ fn full_state(dice: &mut Dice) -> State {
     }
     for slot in 0..16 {
         let Page { file, number } = any_page(dice);
-        let mut reader = Reader::running(file, 10 + slot, number - 1);
+        let last = dice.between(number, 1_024);
+        let mut reader = Reader::running(file, 10 + slot, number - 1, last);
         let next = reader.next_page();
         reader.waiting = !state.cached.contains(&next) && state.in_fetch.insert(next);
         state.readers.insert(slot, reader);
@@ -193,10 +215,10 @@ fn the_picture_is_the_state() {
                 let w = if reader.waiting { "w" } else { "" };
                 (format!("{slot}{w}"), (reader.file, reader.position))
             });
-            assert!(picture
-                .readers
-                .into_iter()
-                .eq(readers.collect::<BTreeMap<_, _>>()));
+            assert_eq!(picture.readers, readers.collect(), "{text}");
+            let ends = state.readers.iter();
+            let ends = ends.map(|(&slot, reader)| (slot, (reader.file, reader.last)));
+            assert_eq!(picture.ends, ends.collect(), "{text}");
             let sizes = state
                 .files()
                 .into_iter()
@@ -217,6 +239,8 @@ struct Picture {
     in_fetch: BTreeSet<Page>,
     /// File and position by label.
     readers: BTreeMap<String, (u64, u64)>,
+    /// File and last page by slot.
+    ends: BTreeMap<u64, (u64, u64)>,
 }
 
 impl Picture {
@@ -234,7 +258,7 @@ impl Picture {
             } else if let Some(words) = inner.strip_prefix(".. ") {
                 let mark = row.split('|').nth(1).unwrap().chars().next().unwrap();
                 picture.take_alike(mark, words);
-            } else if inner.starts_with('^') {
+            } else if inner.starts_with(['^', ']']) {
                 picture.take_readers(&line[row.find('|').unwrap()..]);
             }
         }
@@ -281,13 +305,27 @@ impl Picture {
     /// The readers below a row, in a line from the row's bar on.
     fn take_readers(&mut self, line: &str) {
         let before_row = (self.sizes[&self.file] - 1) / 64 * 64;
-        for (column, _) in line.match_indices('^') {
+        for (column, sign) in line.match_indices(['^', ']']) {
             let label = line[column + 1..].split(' ').next().unwrap();
             let place = (self.file, before_row + column as u64);
-            let other = self.readers.insert(label.to_string(), place);
-            assert_eq!(other, None);
+            if sign == "^" {
+                let other = self.readers.insert(label.to_string(), place);
+                assert_eq!(other, None);
+            } else {
+                let slots = slots_of(label);
+                self.ends.extend(slots.map(|slot| (slot, place)));
+            }
         }
     }
+}
+
+/// The slots of a list such as "0,1,4-7".
+fn slots_of(list: &str) -> impl Iterator<Item = u64> + '_ {
+    list.split(',').flat_map(|piece| {
+        let (low, high) = piece.split_once('-').unwrap_or((piece, piece));
+        let number = |text: &str| text.parse::<u64>().unwrap();
+        number(low)..=number(high)
+    })
 }
 
 /// The pages of both tables, taken from the text, and the rows' width.
@@ -337,6 +375,17 @@ fn marks_of(svg: &str, colour: &str) -> usize {
     lengths.map(|length| (length + 1) / 14).sum()
 }
 
+/// Where a reader's label ends, about 7 to a character.
+fn label_end(line: &str) -> usize {
+    let label = line.strip_prefix("<text class=\"small\" x=\"");
+    let pieces = label.and_then(|label| label.split_once('"'));
+    pieces.map_or(0, |(x, behind)| {
+        let (_, text) = behind.split_once('>').unwrap();
+        let text = text.trim_end_matches("</text>");
+        x.parse::<usize>().unwrap() + 7 * text.len()
+    })
+}
+
 #[test]
 fn svg_has_every_mark_and_row() {
     let mut dice = Dice::new(14);
@@ -355,6 +404,13 @@ fn svg_has_every_mark_and_row() {
         let neither = pages - cached - in_fetch;
         assert_eq!(marks_of(&svg, "#e3e6e9"), neither + in_legend);
         assert_eq!(svg.matches("Z\"/>").count(), state.readers.len());
+        let ends = state
+            .readers
+            .values()
+            .map(|reader| (reader.file, reader.last));
+        let ends = ends.collect::<BTreeSet<_>>().len();
+        assert_eq!(svg.matches("class=\"end\"").count(), ends);
+        assert!(svg.lines().all(|line| label_end(line) <= 1_040), "{svg}");
         let stretches = svg.matches("class=\"plain\" x=\"175\"").count();
         assert_eq!(stretches, explained.steal.len());
         assert_eq!(svg.matches("<text").count(), svg.matches("</text>").count());

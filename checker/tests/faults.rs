@@ -1,12 +1,14 @@
 //! The trials find faults: each of these stand-ins is wrong in one way only.
 
 use checker::call::{Call, Entry, First, Settings};
+use checker::cases::CASES;
 use checker::feed::{Feed, Program};
 use checker::limits::{IMAGE_BYTES, LINE_BYTES, MOST_TURNS, PACE};
 use checker::model::{first_image, respond, run_program, Answer, Page, State};
 use checker::quick;
 use checker::random::Dice;
 use checker::trial::first::first_images;
+use checker::trial::last::{self, LAST_OUTCOMES};
 use checker::trial::named::{self, Named};
 use checker::trial::{calls, damage, fewest, rules, soundings, Report, CALL_OUTCOMES};
 use std::collections::BTreeSet;
@@ -80,12 +82,52 @@ fn a_prefetch_that_finds_nothing_is_found() {
 }
 
 #[test]
+fn a_wrong_last_page_is_found() {
+    let entries: [(&str, Entry); 6] = [
+        ("0 kept", zero_kept),
+        ("0 not filled in", zero_not_filled_in),
+        ("zeros filled in by a refusal", refused_and_saved),
+        ("above the size", taken_cut_to_size),
+        ("below the position", taken_below_position),
+        ("waiting at it", taken_waiting_at_last),
+    ];
+    for (name, entry) in entries {
+        let trial = |report: &mut Report, dice: &mut Dice| {
+            last::changed(report, entry, dice, 1_000);
+        };
+        assert!(failed(trial) > 0, "{name}");
+        assert!(
+            failed(|report, _| rules::rules(report, entry)) > 0,
+            "{name}"
+        );
+    }
+    assert!(failed(|report, _| soundings::by_entry(report, ahead_to_the_size)) > 0);
+}
+
+#[test]
+fn a_run_past_the_last_pages_is_found() {
+    let entry: Entry = |image, call| {
+        if let (Call::Run { .. }, Some(mut state)) = (call, restored(image)) {
+            read_to_the_size(&mut state);
+            image.copy_from_slice(&state.image());
+        }
+        quick::entry(image, call)
+    };
+    let trial = |report: &mut Report, dice: &mut Dice| {
+        fewest::fewest(report, entry, dice, 50);
+    };
+    assert!(failed(trial) > 0);
+}
+
+#[test]
 fn an_answer_never_met_is_found() {
-    let unmet = failed(|report, dice| {
-        calls::random_calls(report, quick::entry, dice, 1);
-        report.check_every_outcome_met(CALL_OUTCOMES);
-    });
-    assert!(unmet > 0);
+    for outcomes in [CALL_OUTCOMES, CASES, LAST_OUTCOMES] {
+        let unmet = failed(|report, dice| {
+            calls::random_calls(report, quick::entry, dice, 1);
+            report.check_every_outcome_met(outcomes);
+        });
+        assert!(unmet > 0);
+    }
 }
 
 #[test]
@@ -133,55 +175,85 @@ fn a_first_image_that_no_call_takes_is_found() {
     assert!(failed(trial) > 0);
 }
 
+/// Stand-ins for the C entries, each with the trial that finds it.
+const ENTRIES: [(&str, Entry); 58] = [
+    ("each refusal has its number", another_number::<2>),
+    ("each refusal has its number", another_number::<3>),
+    ("each refusal has its number", another_number::<4>),
+    ("each refusal has its number", another_number::<5>),
+    ("each refusal has its number", another_number::<6>),
+    ("each refusal has its number", another_number::<7>),
+    ("each refusal has its number", another_number::<8>),
+    ("each refusal has its number", another_number::<9>),
+    ("each refusal has its number", another_number::<10>),
+    ("each refusal has its number", another_number::<11>),
+    ("each refusal has its number", another_number::<15>),
+    ("Attach gives 2 before 3", last_listed),
+    ("Attach gives 3 before 4", last_listed),
+    ("Attach gives 4 before 5", last_listed),
+    ("Attach gives 3 before 15", last_listed),
+    ("Attach gives 4 before 15", last_listed),
+    ("Attach gives 15 before 5", last_listed),
+    ("Arrive gives 3 before 8", last_listed),
+    ("Arrive gives 8 before 9", last_listed),
+    ("Lost gives 3 before 8", last_listed),
+    ("Lost gives 8 before 9", last_listed),
+    ("Run gives 11 before 10", last_listed),
+    ("every answer has its number", another_letter::<'O'>),
+    ("every answer has its number", another_letter::<'H'>),
+    ("every answer has its number", another_letter::<'W'>),
+    ("every answer has its number", another_letter::<'F'>),
+    ("every answer has its number", another_letter::<'Z'>),
+    ("every answer has its number", another_letter::<'U'>),
+    ("every answer has its number", another_letter::<'S'>),
+    ("every answer has its number", another_letter::<'I'>),
+    ("every answer has its number", fetches_of_8_bits),
+    ("every answer has its number", pages_of_13_bits),
+    ("the seat distance is slot less turn", turn_less_slot),
+    ("the seat distance is slot less turn", slot_alone),
+    ("Lost closes the fetch", lost_left_open),
+    ("an ended fetch wakes its waiters", whole_file_woken),
+    ("an ended fetch wakes its waiters", every_file_woken),
+    ("no page is fetched twice", fetched_twice),
+    ("Arrive steals before it caches", cached_first),
+    ("Run's order is worked out afresh", run_by_one_list),
+    ("15 has three reasons", attach_0_as_size),
+    ("15 has three reasons", attach_cut_to_size),
+    ("15 has three reasons", attach_start_cut),
+    ("15 has three reasons", attach_at_last_refused),
+    ("a reader goes on from its start", start_not_stored),
+    ("Z comes at the last page", z_at_the_size),
+    ("a page past the last page is not ahead", ahead_to_the_size),
+    (
+        "a page past the last page is not ahead",
+        last_page_not_stored,
+    ),
+    ("the look-ahead ends at the last page", seen_to_the_size),
+    ("a last page of 0 is the size", zero_kept),
+    ("a last page of 0 is the size", zero_not_filled_in),
+    ("a last page of 0 is the size", zeros_all_or_none),
+    ("Z and U fill the zeros in", saved_unless::<'Z'>),
+    ("Z and U fill the zeros in", saved_unless::<'U'>),
+    ("a refusal leaves the zeros", refused_and_saved),
+    ("no last page is above the size", taken_cut_to_size),
+    ("no last page is below the position", taken_below_position),
+    ("no reader waits at its last page", taken_waiting_at_last),
+];
+
+/// Stand-ins for the program.
+const PROGRAMS: [(&str, Program); 6] = [
+    ("14 comes before all else", &zeros_read),
+    ("an A line has five fields", &a_of_three_read),
+    ("a line of 201 bytes is one line", &cut_at_200),
+    ("a last line lacks its end", &last_line_lost),
+    ("a cluster ends with its file", &clusters_run_on),
+    ("Steal's order is worked out afresh", &steals_by_one_list),
+];
+
 #[test]
 fn each_trial_by_name_finds_its_faults() {
-    let entries: [(&str, Entry); 36] = [
-        ("each refusal has its number", another_number::<2>),
-        ("each refusal has its number", another_number::<3>),
-        ("each refusal has its number", another_number::<4>),
-        ("each refusal has its number", another_number::<5>),
-        ("each refusal has its number", another_number::<6>),
-        ("each refusal has its number", another_number::<7>),
-        ("each refusal has its number", another_number::<8>),
-        ("each refusal has its number", another_number::<9>),
-        ("each refusal has its number", another_number::<10>),
-        ("each refusal has its number", another_number::<11>),
-        ("Attach gives 2 before 3", last_listed),
-        ("Attach gives 3 before 4", last_listed),
-        ("Attach gives 4 before 5", last_listed),
-        ("Arrive gives 3 before 8", last_listed),
-        ("Arrive gives 8 before 9", last_listed),
-        ("Lost gives 3 before 8", last_listed),
-        ("Lost gives 8 before 9", last_listed),
-        ("Run gives 11 before 10", last_listed),
-        ("every answer has its number", another_letter::<'O'>),
-        ("every answer has its number", another_letter::<'H'>),
-        ("every answer has its number", another_letter::<'W'>),
-        ("every answer has its number", another_letter::<'F'>),
-        ("every answer has its number", another_letter::<'Z'>),
-        ("every answer has its number", another_letter::<'U'>),
-        ("every answer has its number", another_letter::<'S'>),
-        ("every answer has its number", another_letter::<'I'>),
-        ("every answer has its number", fetches_of_8_bits),
-        ("every answer has its number", pages_of_13_bits),
-        ("the seat distance is slot less turn", turn_less_slot),
-        ("the seat distance is slot less turn", slot_alone),
-        ("Lost closes the fetch", lost_left_open),
-        ("an ended fetch wakes its waiters", whole_file_woken),
-        ("an ended fetch wakes its waiters", every_file_woken),
-        ("no page is fetched twice", fetched_twice),
-        ("Arrive steals before it caches", cached_first),
-        ("Run's order is worked out afresh", run_by_one_list),
-    ];
-    let programs: [(&str, Program); 5] = [
-        ("14 comes before all else", &zeros_read),
-        ("a line of 201 bytes is one line", &cut_at_200),
-        ("a last line lacks its end", &last_line_lost),
-        ("a cluster ends with its file", &clusters_run_on),
-        ("Steal's order is worked out afresh", &steals_by_one_list),
-    ];
     let mut faultless: BTreeSet<&str> = named::all().iter().map(|trial| trial.name).collect();
-    for (name, entry) in entries {
+    for (name, entry) in ENTRIES {
         faultless.remove(name);
         let trial = trial(name);
         assert!(
@@ -189,7 +261,7 @@ fn each_trial_by_name_finds_its_faults() {
             "{name}"
         );
     }
-    for (name, program) in programs {
+    for (name, program) in PROGRAMS {
         faultless.remove(name);
         let trial = trial(name);
         assert!(
@@ -305,10 +377,17 @@ fn last_listed(image: &mut [u8], call: Call) -> u64 {
         return number;
     };
     let listed = match call {
-        Call::Attach { slot, file, pace } => vec![
+        Call::Attach {
+            slot,
+            file,
+            pace,
+            start,
+            last,
+        } => vec![
             (2, slot > 15),
             (3, state.size(file) == 0),
             (4, !PACE.contains(&pace)),
+            (15, last == 0 || last > state.size(file) || start > last),
             (5, state.readers.contains_key(&slot)),
         ],
         Call::Arrive { file, page: number } | Call::Lost { file, page: number } => vec![
@@ -474,6 +553,229 @@ fn run_by_one_list(image: &mut [u8], call: Call) -> u64 {
     }
     image.copy_from_slice(&state.image());
     Answer::Ran { fetches, reads }.number()
+}
+
+/// Attach with start and last page changed, by the size of its file.
+fn attached_as(image: &mut [u8], call: Call, change: fn(u64, u64, u64) -> (u64, u64)) -> u64 {
+    let (
+        Call::Attach {
+            slot,
+            file,
+            pace,
+            start,
+            last,
+        },
+        Some(state),
+    ) = (call, restored(image))
+    else {
+        return quick::entry(image, call);
+    };
+    let (start, last) = change(start, last, state.size(file));
+    let changed = Call::Attach {
+        slot,
+        file,
+        pace,
+        start,
+        last,
+    };
+    quick::entry(image, changed)
+}
+
+fn attach_0_as_size(image: &mut [u8], call: Call) -> u64 {
+    attached_as(image, call, |start, last, size| match last {
+        0 => (start, size),
+        _ => (start, last),
+    })
+}
+
+fn attach_cut_to_size(image: &mut [u8], call: Call) -> u64 {
+    attached_as(image, call, |start, last, size| (start, last.min(size)))
+}
+
+fn attach_start_cut(image: &mut [u8], call: Call) -> u64 {
+    attached_as(image, call, |start, last, _| (start.min(last), last))
+}
+
+fn attach_at_last_refused(image: &mut [u8], call: Call) -> u64 {
+    attached_as(image, call, |start, last, _| match start == last {
+        true => (start, 0),
+        false => (start, last),
+    })
+}
+
+fn start_not_stored(image: &mut [u8], call: Call) -> u64 {
+    attached_as(image, call, |start, last, _| match start > last {
+        true => (start, last),
+        false => (0, last),
+    })
+}
+
+fn last_page_not_stored(image: &mut [u8], call: Call) -> u64 {
+    attached_as(image, call, |start, last, size| match last {
+        _ if last == 0 || last > size || start > last => (start, last),
+        _ => (start, size),
+    })
+}
+
+/// Every reader reads up to the end of its file.
+fn read_to_the_size(state: &mut State) {
+    let sizes = state.sizes;
+    for reader in state.readers.values_mut() {
+        reader.last = sizes[reader.file as usize];
+    }
+}
+
+/// Read that answers Z at the size.
+fn z_at_the_size(image: &mut [u8], call: Call) -> u64 {
+    let (Call::Read { .. }, Some(mut state)) = (call, restored(image)) else {
+        return quick::entry(image, call);
+    };
+    read_to_the_size(&mut state);
+    quick::entry(&mut state.image(), call)
+}
+
+/// A look-ahead that goes on to the size.
+fn seen_to_the_size(image: &mut [u8], call: Call) -> u64 {
+    decided_on(image, call, read_to_the_size)
+}
+
+/// Steal with every page up to the size ahead of a reader, but no look-ahead past
+/// a last page.
+fn ahead_to_the_size(image: &mut [u8], call: Call) -> u64 {
+    let (Call::Steal, Some(mut state)) = (call, restored(image)) else {
+        return quick::entry(image, call);
+    };
+    let seen = state.use_keys();
+    let mut longer = state.clone();
+    read_to_the_size(&mut longer);
+    let wrongly_ahead = |page: &Page| {
+        let ahead = longer.is_ahead_of_some_reader(*page);
+        ahead && !seen.contains_key(page)
+    };
+    let order = state.steal_order();
+    let behind = order.iter().find(|page| !wrongly_ahead(page));
+    let Some(&head) = behind.or(order.first()) else {
+        return quick::entry(image, call);
+    };
+    state.cached.remove(&head);
+    image.copy_from_slice(&state.image());
+    Answer::Stolen(head).number()
+}
+
+/// Where a slot's last page stands in an image.
+fn last_at(slot: u64) -> Range<usize> {
+    let at = 28 + 8 * slot as usize + 6;
+    at..at + 2
+}
+
+/// The taken slots that have 0 for their last page.
+fn zeros_of(image: &[u8], state: &State) -> Vec<u64> {
+    let slots = state.readers.keys().copied();
+    slots
+        .filter(|&slot| image[last_at(slot)] == [0, 0])
+        .collect()
+}
+
+/// A last page of 0 restored as page 0.
+fn zero_kept(image: &mut [u8], call: Call) -> u64 {
+    let Some(mut state) = restored(image) else {
+        return quick::entry(image, call);
+    };
+    for slot in zeros_of(image, &state) {
+        state.readers.get_mut(&slot).unwrap().last = 0;
+    }
+    match state.call(call) {
+        Ok(answer) => {
+            image.copy_from_slice(&state.image());
+            answer.number()
+        }
+        Err(refusal) => refusal.number(),
+    }
+}
+
+/// A last page of 0 restored as the size, and saved as 0 again.
+fn zero_not_filled_in(image: &mut [u8], call: Call) -> u64 {
+    let zeros = restored(image).map(|state| zeros_of(image, &state));
+    let number = quick::entry(image, call);
+    for slot in zeros.unwrap_or_default() {
+        image[last_at(slot)].fill(0);
+    }
+    number
+}
+
+/// An image taken for an old one only if every taken slot has a 0.
+fn zeros_all_or_none(image: &mut [u8], call: Call) -> u64 {
+    let mixed = restored(image).is_some_and(|state| {
+        let zeros = zeros_of(image, &state).len();
+        zeros > 0 && zeros < state.readers.len()
+    });
+    match mixed {
+        true => 13,
+        false => quick::entry(image, call),
+    }
+}
+
+/// A call that saves nothing where its answer has this letter.
+fn saved_unless<const LETTER: char>(image: &mut [u8], call: Call) -> u64 {
+    let before = image.to_vec();
+    let number = quick::entry(image, call);
+    if number >> 16 == u64::from(LETTER) {
+        image.copy_from_slice(&before);
+    }
+    number
+}
+
+/// A refused call that saves what it has restored.
+fn refused_and_saved(image: &mut [u8], call: Call) -> u64 {
+    let number = quick::entry(image, call);
+    if let Some(state) = restored(image) {
+        image.copy_from_slice(&state.image());
+    }
+    number
+}
+
+/// Restore that would answer 13, but takes the image with another last page in
+/// some slot, by the position and the size there.
+fn taken_with(image: &mut [u8], call: Call, last: fn(u16, u16) -> u16) -> u64 {
+    let number = quick::entry(image, call);
+    if number != 13 || image.len() != IMAGE_BYTES {
+        return number;
+    }
+    let two_at = |at: usize| u16::from_le_bytes([image[at], image[at + 1]]);
+    let taken = (0..16).filter(|slot| two_at(28 + 8 * slot) != 0);
+    let mut numbers = taken.map(|slot| {
+        let file = usize::from(image[29 + 8 * slot] % 8);
+        let (position, size) = (two_at(32 + 8 * slot), two_at(12 + 2 * file));
+        let mut other = image.to_vec();
+        let bytes = last(position, size).to_le_bytes();
+        other[last_at(slot as u64)].copy_from_slice(&bytes);
+        quick::entry(&mut other, call)
+    });
+    numbers.find(|&number| number != 13).unwrap_or(13)
+}
+
+fn taken_cut_to_size(image: &mut [u8], call: Call) -> u64 {
+    taken_with(image, call, |_, size| size)
+}
+
+fn taken_below_position(image: &mut [u8], call: Call) -> u64 {
+    taken_with(image, call, |position, _| position)
+}
+
+fn taken_waiting_at_last(image: &mut [u8], call: Call) -> u64 {
+    taken_with(image, call, |position, _| position.saturating_add(1))
+}
+
+/// An A line without start and last page taken for one of the whole file.
+fn a_of_three_read(feed: &Feed) -> Result<Vec<u8>, String> {
+    answered(feed, |state, line| {
+        let fields: Vec<u64> = line.split(',').filter_map(|f| f.parse().ok()).collect();
+        let (true, &[slot, file, pace]) = (line.starts_with('A'), &fields[..]) else {
+            return None;
+        };
+        let answer = state.attach(slot, file, pace, 0, state.size(file));
+        Some(answer.map_or_else(|refusal| refusal.to_string(), |answer| answer.to_string()))
+    })
 }
 
 fn zeros_read(feed: &Feed) -> Result<Vec<u8>, String> {

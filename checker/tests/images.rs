@@ -5,6 +5,7 @@ use checker::model::{Page, Refusal, State};
 use checker::quick;
 use checker::random::Dice;
 use checker::scene::any_state;
+use checker::trial::last::old_image;
 use checker::trial::{rules, Report};
 
 #[test]
@@ -22,8 +23,7 @@ fn images_come_back_as_they_went() {
 fn images_lie_as_the_paper_says() {
     let (mut state, _) = State::setup(515, 0x0001_0203, 70_000, [1_024, 0, 0, 0, 0, 0, 0, 258]);
     state.turn = 9;
-    state.attach(3, 7, 999).unwrap();
-    state.readers.get_mut(&3).unwrap().position = 257;
+    state.attach(3, 7, 999, 257, 258).unwrap();
     state.read(3).unwrap(); // page 258 of file 7: in fetch, waited for
     state.cached.insert(Page {
         file: 0,
@@ -37,10 +37,35 @@ fn images_lie_as_the_paper_says() {
     expected[8..12].copy_from_slice(&[0x70, 0x11, 0x01, 0]);
     expected[12..14].copy_from_slice(&[0x00, 0x04]);
     expected[26..28].copy_from_slice(&[0x02, 0x01]);
-    expected[52..60].copy_from_slice(&[2, 7, 0xE7, 0x03, 0x01, 0x01, 0, 0]);
+    expected[52..60].copy_from_slice(&[2, 7, 0xE7, 0x03, 0x01, 0x01, 0x02, 0x01]);
     expected[160 + 127] = 0x80;
     expected[1_184 + 7 * 128 + 32] = 0x02;
     assert_eq!(image, expected);
+}
+
+/// An old image has 0 for last pages: they come back as the files' sizes, slot by
+/// slot, and nothing else does.
+#[test]
+fn old_images_come_back_filled_in() {
+    let mut dice = Dice::new(19);
+    let (mut filled_in, mut kept) = (0, 0);
+    for _ in 0..1_000 {
+        let mut state = any_state(&mut dice);
+        let image = old_image(&mut dice, &state);
+        for (&slot, reader) in &mut state.readers {
+            let at = 28 + 8 * slot as usize + 6;
+            if image[at..at + 2] == [0, 0] {
+                reader.last = state.sizes[reader.file as usize];
+                filled_in += 1;
+            } else {
+                kept += 1;
+            }
+        }
+        let (restored, accepted) = State::restore(&image);
+        assert_eq!((&restored, accepted), (&state, Ok(())));
+        assert_eq!(restored.image(), state.image());
+    }
+    assert!(filled_in > 100 && kept > 100);
 }
 
 #[test]
@@ -75,7 +100,7 @@ fn setup_takes_exactly_its_ranges() {
 
 /// Bytes written over an image, each piece with its place, and the rule that they
 /// break.
-const BROKEN: [(usize, &[u8], &str); 17] = [
+const BROKEN: [(usize, &[u8], &str); 19] = [
     (0, &[0, 0], "the number of frames is 0, not 1 to 1024"),
     (2, &[16], "the turn is 16, not 0 to 15"),
     (3, &[1], "a byte behind the turn is not 0"),
@@ -86,9 +111,15 @@ const BROKEN: [(usize, &[u8], &str); 17] = [
     (28, &[0], "a byte in the empty slot 0 is not 0"),
     (29, &[1], "slot 0 reads file 1, which has no pages"),
     (30, &[0], "the pace of slot 0 is 0, not 1 to 1000"),
-    (32, &[4], "slot 0 is at page 4 of 3"),
+    (32, &[4], "slot 0 is at page 4, above its last page 3"),
+    (34, &[4], "the last page of slot 0 is 4, but its file has 3"),
+    (34, &[1], "slot 0 waits at its last page"),
     (32, &[2], "slot 0 waits, but its next page is not in fetch"),
-    (34, &[1], "a byte behind the reader in slot 0 is not 0"),
+    (
+        35,
+        &[1],
+        "the last page of slot 0 is 259, but its file has 3",
+    ),
     (156, &[1], "a byte behind the readers is not 0"),
     (
         160,
@@ -110,7 +141,7 @@ fn a_refused_image_says_why() {
     let (mut state, _) = State::setup(2, 100, 20, [3, 0, 0, 0, 0, 0, 0, 0]);
     let page = |number| Page { file: 0, number };
     state.cached.insert(page(1));
-    state.attach(0, 0, 10).unwrap();
+    state.attach(0, 0, 10, 0, 3).unwrap();
     state.read(0).unwrap();
     state.read(0).unwrap();
     for (at, bytes, why) in BROKEN {

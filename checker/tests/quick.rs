@@ -1,7 +1,9 @@
 //! Quick against the model: equal numbers, equal images.
 
+use checker::cases::CASES;
 use checker::quick::entry;
 use checker::random::Dice;
+use checker::trial::last::{self, LAST_OUTCOMES};
 use checker::trial::{calls, damage, Report, CALL_OUTCOMES};
 
 #[test]
@@ -13,7 +15,9 @@ fn random_calls_at_bounds_and_beyond() {
     damage::every_byte(&mut report, entry, &mut dice);
     damage::noise(&mut report, entry, &mut dice, 300);
     damage::lengths(&mut report, entry, &mut dice);
-    report.check_every_outcome_met(CALL_OUTCOMES);
-    println!("{}", report.outcomes(CALL_OUTCOMES));
+    last::changed(&mut report, entry, &mut dice, 2_000);
+    let outcomes = [CALL_OUTCOMES, CASES, LAST_OUTCOMES].concat();
+    report.check_every_outcome_met(&outcomes);
+    println!("{}", report.outcomes(&outcomes));
     assert_eq!(report.failed(), 0);
 }

@@ -49,8 +49,8 @@ fn by_definition(state: &State, reader: &Reader) -> Vec<(Page, u64)> {
         let not_cached = |&number: &u64| !state.cached.contains(&Page { file, number });
         (c + 1..=c + j - 1).filter(not_cached).count() as u64
     };
-    (1..=k.min(state.size(file)))
-        .filter(|j| c + j <= state.size(file))
+    (1..=k.min(reader.last))
+        .filter(|j| c + j <= reader.last)
         .filter(|&j| !(t > 0 && q(j) >= l / t))
         .map(|j| {
             (

@@ -1,6 +1,7 @@
 //! Streams of lines: the checker's own program against the model, in this
 //! process and as one of its own.
 
+use checker::cases::CASES;
 use checker::feed::Feed;
 use checker::model::{follow, run_program};
 use checker::process::Process;
@@ -52,8 +53,9 @@ fn quick_answers_as_the_model_does() {
     streams::cut_everywhere(&mut report, &by_quick, &mut dice, 3);
     streams::long_lines(&mut report, &by_quick, &mut dice);
     streams::explained(&mut report, &by_quick, &mut dice, 50);
-    report.check_every_outcome_met(LINE_OUTCOMES);
-    println!("{}", report.outcomes(LINE_OUTCOMES));
+    let outcomes = [LINE_OUTCOMES, CASES].concat();
+    report.check_every_outcome_met(&outcomes);
+    println!("{}", report.outcomes(&outcomes));
     assert_eq!(report.failed(), 0);
 }
 

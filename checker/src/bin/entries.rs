@@ -7,10 +7,12 @@
 //! One round is the default run; more rounds go on with the same dice. The last
 //! line is `entries: N passed, 0 failed`, or the exit status is not 0.
 
+use checker::cases::CASES;
 use checker::ffi::{entry, first_image};
 use checker::model::run_program;
 use checker::random::Dice;
 use checker::trial::first::{first_images, FIRST_OUTCOMES};
+use checker::trial::last::{self, LAST_OUTCOMES};
 use checker::trial::{calls, damage, fewest, named, rules, seed_and_rounds, soundings};
 use checker::trial::{Report, CALL_OUTCOMES};
 use std::process::ExitCode;
@@ -29,7 +31,7 @@ fn main() -> ExitCode {
     for _ in 0..rounds {
         round(&mut report, &mut dice);
     }
-    let outcomes = [CALL_OUTCOMES, FIRST_OUTCOMES].concat();
+    let outcomes = [CALL_OUTCOMES, CASES, LAST_OUTCOMES, FIRST_OUTCOMES].concat();
     report.close("entries", "calls", &outcomes)
 }
 
@@ -67,6 +69,9 @@ fn round(report: &mut Report, dice: &mut Dice) {
     report.part("random bytes, wrong lengths", |report| {
         damage::noise(report, entry, dice, 3_000);
         damage::lengths(report, entry, dice);
+    });
+    report.part("last pages in images", |report| {
+        last::changed(report, entry, dice, 6_000);
     });
     report.part("first images", |report| {
         first_images(report, first_image, entry, dice, 10_000);

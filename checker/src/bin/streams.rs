@@ -6,6 +6,7 @@
 //! One round is the default run; more rounds go on with the same dice. The last
 //! line is `streams: N passed, 0 failed`, or the exit status is not 0.
 
+use checker::cases::CASES;
 use checker::feed::Feed;
 use checker::process::Process;
 use checker::random::Dice;
@@ -31,7 +32,8 @@ fn main() -> ExitCode {
     for _ in 0..rounds {
         round(&mut report, &process, &mut dice);
     }
-    report.close("streams", "lines", streams::LINE_OUTCOMES)
+    let outcomes = [streams::LINE_OUTCOMES, CASES].concat();
+    report.close("streams", "lines", &outcomes)
 }
 
 /// What is the same for every seed.

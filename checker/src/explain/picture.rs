@@ -1,6 +1,7 @@
 //! The files as rows of pages, with the readers along them.
 
 use crate::model::{Page, State};
+use std::collections::BTreeMap;
 
 /// The pages in a row.
 const ROW: u64 = 64;
@@ -40,8 +41,8 @@ pub struct PageRow {
     pub first: u64,
     /// What each page is, by rising page.
     pub marks: Vec<Mark>,
-    /// The readers whose last page read is in this row, by rising position. One
-    /// that has read nothing is in the first row.
+    /// What the readers have in this row, by rising page: where they are and where
+    /// they end. One that has read nothing is in the first row.
     pub readers: Vec<ReaderMark>,
 }
 
@@ -54,15 +55,25 @@ pub enum Shown<'a> {
     Alike(usize, u64),
 }
 
-/// A reader along a row.
-#[derive(Clone, Copy, Debug, PartialEq, Eq)]
+/// A place of readers along a row.
+#[derive(Clone, Debug, PartialEq, Eq, PartialOrd, Ord)]
 pub struct ReaderMark {
-    /// The mark of its last page read, from 1; 0 before the first page.
+    /// The mark of the page, from 1; 0 before the first page.
     pub column: u64,
-    /// Its slot.
-    pub slot: u64,
-    /// Whether it waits.
-    pub waiting: bool,
+    /// What the page is to them.
+    pub sign: Sign,
+    /// The slot of a reader that is here, and w if it waits; or the slots of all
+    /// that end here.
+    pub label: String,
+}
+
+/// What a page is to readers.
+#[derive(Clone, Copy, Debug, PartialEq, Eq, PartialOrd, Ord)]
+pub enum Sign {
+    /// The last page that one has read.
+    Read,
+    /// Their last page.
+    End,
 }
 
 impl Strip {
@@ -95,19 +106,11 @@ impl PageRow {
         self.first + self.marks.len() as u64 - 1
     }
 
-    /// Whether both are without a reader and of one and the same mark.
+    /// Whether readers have nothing in both, which are of one and the same mark.
     fn is_alike(&self, other: &PageRow) -> bool {
         let no_reader = self.readers.is_empty() && other.readers.is_empty();
         let mut marks = self.marks.iter().chain(&other.marks);
         no_reader && marks.all(|&mark| mark == self.marks[0])
-    }
-}
-
-impl ReaderMark {
-    /// The slot, and w for a reader that waits.
-    pub fn label(&self) -> String {
-        let w = if self.waiting { "w" } else { "" };
-        format!("{}{w}", self.slot)
     }
 }
 
@@ -129,24 +132,58 @@ pub fn strips(state: &State) -> Vec<Strip> {
 fn row(state: &State, file: u64, first: u64) -> PageRow {
     let last = state.size(file).min(first + ROW - 1);
     let pages = (first..=last).map(|number| Page { file, number });
-    let from = if first == 1 { 0 } else { first };
-    let here = state
-        .readers
-        .iter()
-        .filter(|(_, reader)| reader.file == file && (from..=last).contains(&reader.position));
-    let mut readers: Vec<ReaderMark> = here
-        .map(|(&slot, reader)| ReaderMark {
-            column: reader.position + 1 - first,
-            slot,
-            waiting: reader.waiting,
-        })
-        .collect();
-    readers.sort_by_key(|reader| (reader.column, reader.slot));
+    let mut readers = read_marks(state, file, first, last);
+    readers.extend(end_marks(state, file, first, last));
+    readers.sort_by_key(|reader| (reader.column, reader.sign)); // those alike stay by slot
     PageRow {
         first,
         marks: pages.map(|page| mark(state, page)).collect(),
         readers,
     }
+}
+
+/// The readers whose last page read is one of these, by slot.
+fn read_marks(state: &State, file: u64, first: u64, last: u64) -> Vec<ReaderMark> {
+    let from = if first == 1 { 0 } else { first };
+    let here = state
+        .readers
+        .iter()
+        .filter(|(_, reader)| reader.file == file && (from..=last).contains(&reader.position));
+    here.map(|(slot, reader)| ReaderMark {
+        column: reader.position + 1 - first,
+        sign: Sign::Read,
+        label: format!("{slot}{}", if reader.waiting { "w" } else { "" }),
+    })
+    .collect()
+}
+
+/// The pages among these that are the last of readers.
+fn end_marks(state: &State, file: u64, first: u64, last: u64) -> Vec<ReaderMark> {
+    let mut slots_by_end: BTreeMap<u64, Vec<u64>> = BTreeMap::new();
+    for (&slot, reader) in &state.readers {
+        if reader.file == file && (first..=last).contains(&reader.last) {
+            slots_by_end.entry(reader.last).or_default().push(slot);
+        }
+    }
+    let ends = slots_by_end.into_iter();
+    ends.map(|(page, slots)| ReaderMark {
+        column: page + 1 - first,
+        sign: Sign::End,
+        label: slot_list(&slots),
+    })
+    .collect()
+}
+
+/// Rising slots in few characters: "0,1,4-7".
+fn slot_list(slots: &[u64]) -> String {
+    let runs = slots.chunk_by(|slot, next| slot + 1 == *next);
+    let runs = runs.map(|run| match run {
+        [slot] => slot.to_string(),
+        [low, high] => format!("{low},{high}"),
+        [low, .., high] => format!("{low}-{high}"),
+        [] => String::new(),
+    });
+    runs.collect::<Vec<_>>().join(",")
 }
 
 fn mark(state: &State, page: Page) -> Mark {

@@ -2,7 +2,7 @@
 
 use super::picture::RULER;
 use super::text::strip_title;
-use super::{alike_words, labels, Explained, Mark, PageRow, Row, Shown, Strip};
+use super::{alike_words, labels, Explained, Mark, PageRow, ReaderMark, Row, Shown, Sign, Strip};
 use super::{NOTE, RULED, TIES, TITLE};
 
 const WIDTH: usize = 1_040;
@@ -19,6 +19,10 @@ const MARGIN: usize = 40;
 /// From one line of readers to the next.
 const READERS: usize = 14;
 
+/// The readers' part of the legend.
+const READERS_LEGEND: &str =
+    "triangle: the last page read, by slot; w: waits; bracket: the last page to be read";
+
 /// About how wide a character is.
 const CHARACTER: usize = 7;
 
@@ -28,6 +32,7 @@ const STYLE: &str = "text { font: 13px sans-serif; fill: #222; } \
     .soft { fill: #666; } \
     .number { text-anchor: end; } \
     .small { font-size: 11px; } \
+    .end { fill: none; stroke: #222; stroke-width: 2; } \
     .run { stroke-width: 13; stroke-dasharray: 13 1; }";
 
 /// The columns of a table: what stands over each, where its numbers end or, for
@@ -96,6 +101,21 @@ fn colour(mark: Mark) -> &'static str {
     }
 }
 
+/// About how wide a reader's mark is with its label.
+fn width(reader: &ReaderMark) -> usize {
+    12 + CHARACTER * reader.label.len()
+}
+
+/// Where a reader's mark at this place starts with its label, which stands before
+/// it where there is no room behind.
+fn extent_start(x: usize, reader: &ReaderMark) -> usize {
+    if x + width(reader) <= WIDTH {
+        x
+    } else {
+        x + 12 - width(reader)
+    }
+}
+
 impl Sheet {
     fn text(&mut self, class: &str, x: usize, text: &str) {
         let y = self.y;
@@ -150,27 +170,44 @@ impl Sheet {
             self.run(x, run.len(), run[0]);
             x += run.len() * STEP;
         }
-        let triangles = row.readers.iter().map(|reader| {
-            let middle = left + reader.column as usize * STEP - STEP / 2;
-            (middle - 4, reader.label())
-        });
-        let triangles: Vec<(usize, String)> = triangles.collect();
-        let extent = |(x, label): &(usize, String)| (*x, 12 + CHARACTER * label.len());
-        let extents: Vec<(usize, usize)> = triangles.iter().map(extent).collect();
-        let lines = labels::rows(&extents, CHARACTER);
+        self.readers(row, left);
+    }
+
+    /// The readers under a row, in as few lines as they need.
+    fn readers(&mut self, row: &PageRow, left: usize) {
+        let mut readers: Vec<(usize, usize, &ReaderMark)> = row
+            .readers
+            .iter()
+            .map(|reader| {
+                let x = left + reader.column as usize * STEP - STEP / 2 - 4;
+                (extent_start(x, reader), x, reader)
+            })
+            .collect();
+        readers.sort_by_key(|(start, ..)| *start);
+        let extents = readers
+            .iter()
+            .map(|(start, _, reader)| (*start, width(reader)));
+        let lines = labels::rows(&extents.collect::<Vec<_>>(), CHARACTER);
         let top = self.y;
-        for ((x, label), line) in triangles.iter().zip(&lines) {
+        for ((start, x, reader), line) in readers.iter().zip(&lines) {
             self.y = top + (line + 1) * READERS;
-            self.reader(*x, label);
+            self.reader(*x, reader, start < x);
         }
         self.y = top + lines.iter().max().map_or(0, |line| (line + 1) * READERS);
     }
 
-    /// A triangle under the mark of a reader's last page, and its label beside.
-    fn reader(&mut self, x: usize, label: &str) {
+    /// A triangle or a bracket under the mark of a page, and its label behind it or
+    /// before.
+    fn reader(&mut self, x: usize, reader: &ReaderMark, before: bool) {
         let (foot, top) = (self.y, self.y - 8);
-        self.body += &format!("<path d=\"M{x} {foot}h8L{} {top}Z\"/>\n", x + 4);
-        self.text("small", x + 11, label);
+        self.body += &match reader.sign {
+            Sign::Read => format!("<path d=\"M{x} {foot}h8L{} {top}Z\"/>\n", x + 4),
+            Sign::End => format!("<path class=\"end\" d=\"M{} {top}h4v8h-4\"/>\n", x + 2),
+        };
+        match before {
+            true => self.text("small number", x - 3, &reader.label),
+            false => self.text("small", x + 11, &reader.label),
+        }
     }
 
     fn legend(&mut self, strips: &[Strip]) {
@@ -185,7 +222,7 @@ impl Sheet {
             self.text("soft", x + MARK + 5, words);
             x += MARK + 24 + CHARACTER * words.len();
         }
-        self.text("soft", x, "triangle: the last page read, by slot; w: waits");
+        self.text("soft", x, READERS_LEGEND);
         if strips.iter().any(Strip::is_ruled) {
             self.y += LINE;
             self.text("soft", LEFT, RULED);

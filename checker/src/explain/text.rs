@@ -1,7 +1,7 @@
 //! The picture and the tables as text.
 
 use super::picture::RULER;
-use super::{alike_words, labels, Explained, Mark, PageRow, Row, Shown, Strip};
+use super::{alike_words, labels, Explained, Mark, PageRow, ReaderMark, Row, Shown, Sign, Strip};
 use super::{NOTE, RULED, TIES, TITLE};
 
 /// The whole text.
@@ -36,6 +36,7 @@ fn character(mark: Mark) -> char {
 const LEGEND: &str = "
 # cached, ~ in fetch, . neither
 ^ the last page read, with its reader's slot, w if it waits
+] the last page to be read, with its readers' slots
 ";
 
 /// The pages between bars, with their readers below.
@@ -84,10 +85,17 @@ pub fn strip_title(strip: &Strip) -> String {
     format!("File {file}, {size} page{plural}")
 }
 
-/// The readers under the marks of their last pages, behind an indent.
+fn sign(reader: &ReaderMark) -> char {
+    match reader.sign {
+        Sign::Read => '^',
+        Sign::End => ']',
+    }
+}
+
+/// The readers under the marks of their pages, behind an indent.
 fn reader_lines(row: &PageRow, indent: usize) -> String {
     let texts = row.readers.iter().map(|reader| {
-        let label = format!("^{}", reader.label());
+        let label = format!("{}{}", sign(reader), reader.label);
         (indent + reader.column as usize, label)
     });
     let texts: Vec<(usize, String)> = texts.collect();

@@ -14,7 +14,7 @@ pub enum Answer {
     Wait(Page),
     /// F: the page has been put in fetch.
     Fetch(Page),
-    /// Z: the reader is at the end of its file.
+    /// Z: the reader is at its last page.
     End,
     /// U: nothing to steal, or nothing to prefetch.
     Nothing,
@@ -109,6 +109,8 @@ pub enum Refusal {
     Image = 13,
     /// The program: "any other line".
     Line = 14,
+    /// "last page 0 or above the size, or start above the last".
+    LastPage = 15,
 }
 
 impl Refusal {

@@ -30,18 +30,24 @@ impl State {
         (state, Ok(Answer::Done))
     }
 
-    /// **Attach**: "position 0, running. 2: slot above 15. 3: file above 7 or
-    /// of size 0. 4: pace out of range. 5: slot not empty."
-    pub fn attach(&mut self, slot: u64, file: u64, pace: u64) -> Outcome {
+    /// **Attach** "takes a start position and a last page": running. "2: slot
+    /// above 15. 3: file above 7 or of size 0. 4: pace out of range. 5: slot not
+    /// empty." "15, last page 0 or above the size, or start above the last,
+    /// after 4 and before 5."
+    pub fn attach(&mut self, slot: u64, file: u64, pace: u64, start: u64, last: u64) -> Outcome {
         check_slot(slot)?;
         self.check_file(file)?;
         if !PACE.contains(&pace) {
             return Err(Refusal::Pace);
         }
+        if last == 0 || last > self.size(file) || start > last {
+            return Err(Refusal::LastPage);
+        }
         if self.readers.contains_key(&slot) {
             return Err(Refusal::Taken);
         }
-        self.readers.insert(slot, Reader::running(file, pace, 0));
+        let reader = Reader::running(file, pace, start, last);
+        self.readers.insert(slot, reader);
         Ok(Answer::Done)
     }
 
@@ -53,8 +59,8 @@ impl State {
         Ok(Answer::Done)
     }
 
-    /// **Read**: "2. 6: slot empty. 7: reader waiting. Then, in this order:
-    /// position equals size, Z; page c + 1 cached, H, and c grows by 1; in
+    /// **Read**: "2. 6: slot empty. 7: reader waiting. Then, in this order:"
+    /// position equals last page, Z; "page c + 1 cached, H, and c grows by 1; in
     /// fetch, W, and the reader waits; else F, it is put in fetch and the
     /// reader waits."
     pub fn read(&mut self, slot: u64) -> Outcome {
@@ -62,7 +68,7 @@ impl State {
         if reader.waiting {
             return Err(Refusal::Waiting);
         }
-        if reader.position == self.size(reader.file) {
+        if reader.is_at_end() {
             return Ok(Answer::End);
         }
         let page = reader.next_page();

@@ -39,7 +39,13 @@ impl State {
     /// Makes the call that a `Call` names.
     pub fn call(&mut self, call: Call) -> Result<Answer, Refusal> {
         match call {
-            Call::Attach { slot, file, pace } => self.attach(slot, file, pace),
+            Call::Attach {
+                slot,
+                file,
+                pace,
+                start,
+                last,
+            } => self.attach(slot, file, pace, start, last),
             Call::Detach { slot } => self.detach(slot),
             Call::Read { slot } => self.read(slot),
             Call::Arrive { file, page } => self.arrive(file, page),

@@ -43,7 +43,7 @@ impl State {
                     put(&mut image, 1, reader.file);
                     put(&mut image, 2, reader.pace);
                     put(&mut image, 2, reader.position);
-                    put(&mut image, 2, 0);
+                    put(&mut image, 2, reader.last);
                 }
             }
         }
@@ -64,8 +64,9 @@ impl State {
     /// The state of an image, or in words the first rule of Restore that is found
     /// broken.
     pub fn of_image(image: &[u8]) -> Result<State, String> {
-        let state = read_image(image)?;
+        let mut state = read_image(image)?;
         state.check_numbers()?;
+        state.fill_last_pages();
         for (&slot, reader) in &state.readers {
             state.check_reader(slot, reader)?;
         }
@@ -85,24 +86,46 @@ impl State {
         Ok(())
     }
 
+    /// "0 there, in an old image, means the file's size": so it is for a slot
+    /// that is taken, whatever the others have.
+    fn fill_last_pages(&mut self) {
+        let sizes = self.sizes;
+        let old = self.readers.values_mut().filter(|reader| reader.last == 0);
+        for reader in old {
+            let size = sizes.get(reader.file as usize);
+            reader.last = size.copied().unwrap_or(0);
+        }
+    }
+
     /// Restore's rules about one reader: no "value out of range", no "file of
-    /// size 0", no "position above the size", and no "waiting reader whose next
-    /// page is not in fetch". At its last page a reader has no next page, so it
-    /// cannot be waiting there.
+    /// size 0", no "last page above the size or below the position, or a waiting
+    /// reader at it", and no "waiting reader whose next page is not in fetch".
     fn check_reader(&self, slot: u64, reader: &Reader) -> Result<(), String> {
-        let &Reader { file, position, .. } = reader;
+        let &Reader {
+            file,
+            position,
+            last,
+            waiting,
+            ..
+        } = reader;
         let size = self.size(file);
-        let may_wait = position < size && self.in_fetch.contains(&reader.next_page());
         in_range(&format!("pace of slot {slot}"), reader.pace, PACE)?;
         rule(size > 0, || {
             format!("slot {slot} reads file {file}, which has no pages")
         })?;
-        rule(position <= size, || {
-            format!("slot {slot} is at page {position} of {size}")
+        rule(last <= size, || {
+            format!("the last page of slot {slot} is {last}, but its file has {size}")
         })?;
-        rule(!reader.waiting || may_wait, || {
-            format!("slot {slot} waits, but its next page is not in fetch")
-        })
+        rule(position <= last, || {
+            format!("slot {slot} is at page {position}, above its last page {last}")
+        })?;
+        rule(!waiting || !reader.is_at_end(), || {
+            format!("slot {slot} waits at its last page")
+        })?;
+        rule(
+            !waiting || self.in_fetch.contains(&reader.next_page()),
+            || format!("slot {slot} waits, but its next page is not in fetch"),
+        )
     }
 
     /// Restore's rules about the maps: no "bit above the size", no "page in both
@@ -178,7 +201,8 @@ fn read_image(image: &[u8]) -> Result<State, String> {
     })
 }
 
-/// One record of 8 bytes: "condition [...]; file; pace 2; position 2; two of 0".
+/// One record of 8 bytes: "condition [...]; file; pace 2; position 2", and "The
+/// two 0 bytes of a reader in the image hold the last page".
 fn take_reader(rest: &mut &[u8], slot: u64) -> Result<Option<Reader>, String> {
     let waiting = match take(rest, 1) {
         EMPTY => {
@@ -189,14 +213,13 @@ fn take_reader(rest: &mut &[u8], slot: u64) -> Result<Option<Reader>, String> {
         WAITING => true,
         other => return Err(format!("slot {slot} has condition {other}, not 0 to 2")),
     };
-    let reader = Reader {
+    Ok(Some(Reader {
         file: take(rest, 1),
         pace: take(rest, 2),
         position: take(rest, 2),
+        last: take(rest, 2),
         waiting,
-    };
-    take_zero(rest, 2, &format!("behind the reader in slot {slot}"))?;
-    Ok(Some(reader))
+    }))
 }
 
 /// Puts a number in so many bytes, "little-endian".

@@ -17,11 +17,12 @@ pub struct UseKey {
 impl State {
     /// The pages of one reader's look-ahead with their times, by rising page.
     ///
-    /// "Page c + j, with j from 1 to K and c + j at most the file's size, is in
-    /// its look-ahead unless T is above 0 and the pages from c + 1 to c + j − 1
-    /// hold at least m not cached [...]. Its time for that reader is j × w +
-    /// q × T, q being the number of those pages not cached." The page itself is
-    /// not one of those pages. Once m are not cached, no later page is in.
+    /// "Page c + j, with j from 1 to K" and c + j at most the reader's last page
+    /// ("Its look-ahead ends there"), "is in its look-ahead unless T is above 0
+    /// and the pages from c + 1 to c + j − 1 hold at least m not cached [...].
+    /// Its time for that reader is j × w + q × T, q being the number of those
+    /// pages not cached." The page itself is not one of those pages. Once m are
+    /// not cached, no later page is in.
     pub fn look_ahead_of(&self, reader: &Reader) -> Vec<(Page, u64)> {
         let reach = self.look_ahead / reader.pace; // K
         let mut pages = Vec::new();
@@ -31,7 +32,7 @@ impl State {
                 file: reader.file,
                 number: reader.position + j,
             };
-            if page.number > self.size(reader.file) || self.too_many_missing(missing) {
+            if page.number > reader.last || self.too_many_missing(missing) {
                 break;
             }
             pages.push((page, j * reader.pace + missing * self.fetch_time));
@@ -75,7 +76,7 @@ impl State {
             } else if self.is_ahead_of_some_reader(page) {
                 far.push(page); // "ahead of some reader but in no look-ahead"
             } else {
-                past.push(page); // "that no reader of the file still has before it"
+                past.push(page); // "ahead of no reader of its file"
             }
         }
         // "larger page first [...] equal page numbers of two files: higher file first"

@@ -45,7 +45,9 @@ fn obey(state: &mut State, line: &[u8]) -> Result<String, Refusal> {
     let (letter, fields) = parse(line).ok_or(Refusal::Line)?;
     let answer = match (letter, fields.as_slice()) {
         (b'S', fields) => setup(state, fields)?,
-        (b'A', &[slot, file, pace]) => state.attach(slot, file, pace)?.to_string(),
+        (b'A', &[slot, file, pace, start, last]) => {
+            state.attach(slot, file, pace, start, last)?.to_string()
+        }
         (b'D', &[slot]) => state.detach(slot)?.to_string(),
         (b'R', &[slot]) => state.read(slot)?.to_string(),
         (b'I', &[file, page]) => state.arrive(file, page)?.to_string(),

@@ -28,7 +28,8 @@ impl Page {
 }
 
 /// "A reader has a file, a pace w (ticks per page, 1 to 1,000) and a position
-/// c, the last page read, 0 at first." A slot without one is empty.
+/// c, the last page read"; "Attach takes a start position and a last page". A
+/// slot without a reader is empty.
 #[derive(Clone, Copy, Debug, PartialEq, Eq)]
 pub struct Reader {
     /// The file that it reads.
@@ -37,17 +38,20 @@ pub struct Reader {
     pub pace: u64,
     /// c, the last page read.
     pub position: u64,
+    /// Its last page: "The reader's Z comes at its last page."
+    pub last: u64,
     /// Its condition: waiting, or else running.
     pub waiting: bool,
 }
 
 impl Reader {
     /// A reader that is not waiting.
-    pub fn running(file: u64, pace: u64, position: u64) -> Reader {
+    pub fn running(file: u64, pace: u64, position: u64, last: u64) -> Reader {
         Reader {
             file,
             pace,
             position,
+            last,
             waiting: false,
         }
     }
@@ -58,6 +62,17 @@ impl Reader {
             file: self.file,
             number: self.position + 1,
         }
+    }
+
+    /// It has read all that it reads.
+    pub fn is_at_end(&self) -> bool {
+        self.position == self.last
+    }
+
+    /// The page is still before it: above its position, and not beyond its last
+    /// page: "a page beyond it is not ahead of that reader".
+    pub fn has_ahead(&self, page: Page) -> bool {
+        page.file == self.file && (self.position + 1..=self.last).contains(&page.number)
     }
 }
 
@@ -116,12 +131,9 @@ impl State {
         (slot + SLOTS - self.turn) % SLOTS
     }
 
-    /// A reader of the file still has the page before it: the page's number is
-    /// above the reader's position.
+    /// Some reader still has the page before it.
     pub fn is_ahead_of_some_reader(&self, page: Page) -> bool {
-        self.readers
-            .values()
-            .any(|reader| reader.file == page.file && page.number > reader.position)
+        self.readers.values().any(|reader| reader.has_ahead(page))
     }
 
     /// The turn "grows by 1 modulo 16".

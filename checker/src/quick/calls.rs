@@ -27,7 +27,13 @@ enum Met {
 impl Flat {
     pub(super) fn call(&mut self, call: Call) -> Outcome {
         match call {
-            Call::Attach { slot, file, pace } => self.attach(slot, file, pace),
+            Call::Attach {
+                slot,
+                file,
+                pace,
+                start,
+                last,
+            } => self.attach(slot, file, pace, start, last),
             Call::Detach { slot } => self.detach(slot),
             Call::Read { slot } => self.read(slot),
             Call::Arrive { file, page } => self.arrive(file, page),
@@ -38,7 +44,7 @@ impl Flat {
         }
     }
 
-    fn attach(&mut self, slot: u64, file: u64, pace: u64) -> Outcome {
+    fn attach(&mut self, slot: u64, file: u64, pace: u64, start: u64, last: u64) -> Outcome {
         if slot > 15 {
             return Err(2);
         }
@@ -48,6 +54,9 @@ impl Flat {
         if !(1..=1_000).contains(&pace) {
             return Err(4);
         }
+        if last == 0 || last > u64::from(self.sizes[file as usize]) || start > last {
+            return Err(15);
+        }
         let reader = &mut self.readers[slot as usize];
         if reader.condition != EMPTY {
             return Err(5);
@@ -56,7 +65,8 @@ impl Flat {
             condition: RUNNING,
             file: file as usize,
             pace: pace as u32,
-            position: 0,
+            position: start as u32,
+            last: last as u32,
         };
         Ok(letter(b'O'))
     }
@@ -139,7 +149,7 @@ impl Flat {
     /// A running reader's read.
     fn meet(&mut self, slot: usize) -> Met {
         let reader = &mut self.readers[slot];
-        if reader.position == self.sizes[reader.file] {
+        if reader.position == reader.last {
             return Met::End;
         }
         let key = reader.next();

@@ -1,6 +1,6 @@
 //! The two decisions: the page to give up and the next page to fetch.
 
-use super::{has, Flat, Reader, EMPTY, PAGES, SLOTS};
+use super::{has, put_stretch, Flat, Reader, EMPTY, PAGES, SLOTS, WORDS};
 
 /// The use key of a page in no look-ahead.
 const NONE: u32 = u32::MAX;
@@ -10,14 +10,14 @@ impl Flat {
     pub(super) fn page_to_give_up(&self) -> Option<usize> {
         let mut use_keys = [NONE; PAGES];
         self.walk(&mut use_keys);
-        let lowest = self.lowest_positions();
+        let ahead = self.pages_ahead();
         let mut head = None;
         for (index, &word) in self.cached.iter().enumerate() {
             let mut left = word;
             while left != 0 {
                 let key = index * 64 + left.trailing_zeros() as usize;
                 left &= left - 1;
-                let rank = rank(key, use_keys[key], &lowest);
+                let rank = rank(key, use_keys[key], has(&ahead, key));
                 if head.is_none_or(|(highest, _)| rank > highest) {
                     head = Some((rank, key));
                 }
@@ -56,7 +56,7 @@ impl Flat {
     /// below 4,000,001, so the key fits.
     fn walk_ahead_of(&self, reader: &Reader, seat: u32, use_keys: &mut [u32; PAGES]) {
         let most_missing = self.most_missing();
-        let left = self.sizes[reader.file] - reader.position;
+        let left = reader.last - reader.position;
         let reach = left.min(self.look_ahead / reader.pace) as usize;
         let first = reader.next();
         let (mut time, mut missing) = (0, 0);
@@ -79,20 +79,19 @@ impl Flat {
         m.unwrap_or(u32::MAX)
     }
 
-    /// For each file the lowest position of its readers: pages above it are
-    /// still ahead of some reader.
-    fn lowest_positions(&self) -> [u32; 8] {
-        let mut lowest = [u32::MAX; 8];
+    /// The pages that some reader still has before it.
+    fn pages_ahead(&self) -> [u64; WORDS] {
+        let mut ahead = [0; WORDS];
         for reader in self.readers.iter().filter(|r| r.condition != EMPTY) {
-            lowest[reader.file] = lowest[reader.file].min(reader.position);
+            put_stretch(&mut ahead, reader.next()..reader.end());
         }
-        lowest
+        ahead
     }
 }
 
 /// A page's place in the steal order, the head highest: the stretch above, the
 /// order within it below.
-fn rank(key: usize, use_key: u32, lowest: &[u32; 8]) -> u64 {
+fn rank(key: usize, use_key: u32, is_ahead: bool) -> u64 {
     const PAST: u64 = 2 << 32;
     const FAR: u64 = 1 << 32;
     if use_key != NONE {
@@ -100,7 +99,7 @@ fn rank(key: usize, use_key: u32, lowest: &[u32; 8]) -> u64 {
     }
     let (file, page) = (key / 1_024, key % 1_024 + 1);
     let page_then_file = (page * 8 + file) as u64;
-    if page as u32 > lowest[file] {
+    if is_ahead {
         FAR + page_then_file
     } else {
         PAST + page_then_file

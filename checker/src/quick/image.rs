@@ -92,24 +92,29 @@ impl Flat {
         if condition == EMPTY {
             return (record == [0; 8]).then(Reader::default);
         }
+        let file = usize::from(record[1]);
+        let size = *self.sizes.get(file)?;
         let reader = Reader {
             condition,
-            file: record[1].into(),
+            file,
             pace: u16_at(record, 2),
             position: u16_at(record, 4),
+            last: match u16_at(record, 6) {
+                0 => size, // an old image
+                last => last,
+            },
         };
         let sound = condition <= WAITING
-            && reader.file < FILES
             && (1..=1_000).contains(&reader.pace)
-            && self.sizes[reader.file] > 0
-            && reader.position <= self.sizes[reader.file]
-            && record[6..8] == [0; 2]
+            && size > 0
+            && reader.last <= size
+            && reader.position <= reader.last
             && (condition != WAITING || self.may_wait(&reader));
         sound.then_some(reader)
     }
 
     fn may_wait(&self, reader: &Reader) -> bool {
-        reader.position < self.sizes[reader.file] && super::has(&self.in_fetch, reader.next())
+        reader.position < reader.last && super::has(&self.in_fetch, reader.next())
     }
 
     /// Writes the state back over an image of the right length.
@@ -128,7 +133,7 @@ impl Flat {
             record[1] = reader.file as u8;
             record[2..4].copy_from_slice(&(reader.pace as u16).to_le_bytes());
             record[4..6].copy_from_slice(&(reader.position as u16).to_le_bytes());
-            record[6..8].fill(0);
+            record[6..8].copy_from_slice(&(reader.last as u16).to_le_bytes());
         }
         image[FOUR_ZEROS..CACHED].fill(0);
         write_map(&mut image[CACHED..IN_FETCH], &self.cached);

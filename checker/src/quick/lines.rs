@@ -92,7 +92,13 @@ impl Lines {
                 let (_, answer) = respond(self.flat.as_model(), line);
                 return Ok(Reply::List(answer));
             }
-            (b'A', &[slot, file, pace]) => Call::Attach { slot, file, pace },
+            (b'A', &[slot, file, pace, start, last]) => Call::Attach {
+                slot,
+                file,
+                pace,
+                start,
+                last,
+            },
             (b'D', &[slot]) => Call::Detach { slot },
             (b'R', &[slot]) => Call::Read { slot },
             (b'I', &[file, page]) => Call::Arrive { file, page },

@@ -24,11 +24,7 @@ pub fn any_call(dice: &mut Dice, state: &State) -> Call {
     let slot = usual_slot(dice, state);
     let Page { file, number } = usual_page(dice, state);
     match dice.below(24) {
-        0..=1 => Call::Attach {
-            slot: seldom_wild(dice, slot),
-            file: seldom_wild(dice, file),
-            pace: usual_pace(dice),
-        },
+        0..=1 => usual_attach(dice, state, file),
         2 => Call::Detach {
             slot: seldom_wild(dice, slot),
         },
@@ -55,24 +51,8 @@ pub fn any_call(dice: &mut Dice, state: &State) -> Call {
 pub fn calls_at_bounds(dice: &mut Dice, state: &State) -> Vec<Call> {
     let mut calls = vec![Call::Prefetch, Call::Steal];
     for edge in EDGES {
-        let slot = usual_slot(dice, state);
-        let pace = usual_pace(dice);
         let Page { file, number: page } = usual_page(dice, state);
-        calls.push(Call::Attach {
-            slot: edge,
-            file,
-            pace,
-        });
-        calls.push(Call::Attach {
-            slot,
-            file: edge,
-            pace,
-        });
-        calls.push(Call::Attach {
-            slot,
-            file,
-            pace: edge,
-        });
+        calls.extend(attaches_at(dice, state, file, edge));
         calls.push(Call::Detach { slot: edge });
         calls.push(Call::Read { slot: edge });
         calls.push(Call::Arrive { file: edge, page });
@@ -82,6 +62,44 @@ pub fn calls_at_bounds(dice: &mut Dice, state: &State) -> Vec<Call> {
         calls.push(Call::Run { turns: edge });
     }
     calls
+}
+
+/// Attach to a file, mostly one that is not refused.
+fn usual_attach(dice: &mut Dice, state: &State, file: u64) -> Call {
+    let slot = match dice.below(2) {
+        0 => dice.below(SLOTS),
+        _ => usual_slot(dice, state),
+    };
+    let (start, last) = usual_start_and_last(dice, state.size(file));
+    Call::Attach {
+        slot: seldom_wild(dice, slot),
+        file: seldom_wild(dice, file),
+        pace: usual_pace(dice),
+        start: seldom_wild(dice, start),
+        last: seldom_wild(dice, last),
+    }
+}
+
+/// Attach with each of its numbers at this edge.
+fn attaches_at(dice: &mut Dice, state: &State, file: u64, edge: u64) -> [Call; 5] {
+    let slot = usual_slot(dice, state);
+    let pace = usual_pace(dice);
+    let (start, last) = usual_start_and_last(dice, state.size(file));
+    let attach = |numbers: [u64; 5]| {
+        let [slot, file, pace, start, last] = numbers;
+        Call::Attach {
+            slot,
+            file,
+            pace,
+            start,
+            last,
+        }
+    };
+    std::array::from_fn(|at| {
+        let mut numbers = [slot, file, pace, start, last];
+        numbers[at] = edge;
+        attach(numbers)
+    })
 }
 
 /// The number itself, or now and then another in its place.
@@ -135,6 +153,23 @@ fn usual_pace(dice: &mut Dice) -> u64 {
     }
 }
 
+/// A start and a last page for a file of this size, mostly in it: both at and
+/// past their bounds too.
+fn usual_start_and_last(dice: &mut Dice, size: u64) -> (u64, u64) {
+    let last = match dice.below(8) {
+        0..=2 => size,
+        3 => dice.pick(&[0, 0, 1, size + 1, size + 256, size + 65_536]),
+        _ => dice.between(size.min(1), size),
+    };
+    let start = match dice.below(8) {
+        0..=2 => 0,
+        3 => last,
+        4 => last + dice.pick(&[1, 256, 65_536]),
+        _ => dice.between(0, last),
+    };
+    (start, last)
+}
+
 /// Turns, or a refused number of them. What the model would take long for is
 /// cut short here; long runs have a trial of their own.
 pub(super) fn usual_turns(dice: &mut Dice, state: &State) -> u64 {
@@ -170,7 +205,7 @@ fn cut_short(state: &State, turns: u64) -> u64 {
 fn affordable_turns(state: &State) -> u64 {
     let looked_at = state.readers.values().map(|reader| {
         let reach = state.look_ahead / reader.pace;
-        reach.min(state.size(reader.file) - reader.position)
+        reach.min(reader.last - reader.position)
     });
     40_000 / (looked_at.sum::<u64>() + state.cached.len() as u64 + 1) + 1
 }

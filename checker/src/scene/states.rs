@@ -37,7 +37,8 @@ pub fn long_run_state(dice: &mut Dice, frames: u64, reach: u64) -> State {
     state.fetch_time = dice.pick(&[0, 0, pace, 3 * pace]);
     state.sizes = [1_024; FILES as usize];
     for slot in 0..SLOTS {
-        let reader = Reader::running(dice.below(FILES), pace, dice.below(40));
+        let last = dice.pick(&[1_024, 1_024, 700]);
+        let reader = Reader::running(dice.below(FILES), pace, dice.below(40), last);
         state.readers.insert(slot, reader);
     }
     fill_cache(dice, &mut state);
@@ -101,19 +102,30 @@ fn seat_readers(dice: &mut Dice, state: &mut State, one_pace: u64) {
     for _ in 0..dice.pick(&[0, 1, 2, 3, 5, 8, 16, 40]) {
         let file = dice.pick(&files);
         let size = state.size(file);
+        let last = any_last_page(dice, size);
         let position = match dice.below(12) {
             0 => 0,
-            1 => size,
-            2 => size - 1,
-            _ if close_together => (size / 3 + dice.below(9)).min(size),
-            _ => dice.between(0, size),
+            1 => last,
+            2 => last - 1,
+            _ if close_together => (size / 3 + dice.below(9)).min(last),
+            _ => dice.between(0, last),
         };
         let pace = match paces_differ {
             true => any_pace(dice),
             false => one_pace,
         };
-        let reader = Reader::running(file, pace, position);
+        let reader = Reader::running(file, pace, position, last);
         state.readers.insert(dice.below(SLOTS), reader);
+    }
+}
+
+/// A last page: often the file's, else within it.
+fn any_last_page(dice: &mut Dice, size: u64) -> u64 {
+    match dice.below(8) {
+        0..=3 => size,
+        4 => dice.pick(&[1, size.div_ceil(2), size - size / 9]),
+        5 => (size / 3 + dice.between(1, 20)).min(size),
+        _ => dice.between(1, size),
     }
 }
 
@@ -180,6 +192,7 @@ fn open_fetches(dice: &mut Dice, state: &mut State) {
 
 fn let_some_wait(dice: &mut Dice, state: &mut State) {
     for reader in state.readers.values_mut() {
-        reader.waiting = state.in_fetch.contains(&reader.next_page()) && !dice.once_in(3);
+        let may_wait = !reader.is_at_end() && state.in_fetch.contains(&reader.next_page());
+        reader.waiting = may_wait && !dice.once_in(3);
     }
 }

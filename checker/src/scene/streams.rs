@@ -3,6 +3,8 @@
 use super::broken::{any_bytes, broken_line, long_line};
 use super::calls::{any_call, any_call_at_bounds, usual_turns};
 use super::states::any_state;
+use crate::call::Call;
+use crate::cases;
 use crate::limits::{FILES, SLOTS};
 use crate::model::{respond, Page, State};
 use crate::random::Dice;
@@ -36,6 +38,8 @@ pub struct Stream {
     pub state: State,
     /// How many lines there are.
     pub lines: u64,
+    /// What they have met that their answers do not tell.
+    pub met: Vec<(&'static str, &'static str)>,
 }
 
 impl Default for Stream {
@@ -46,6 +50,7 @@ impl Default for Stream {
             output: Vec::new(),
             state: State::idle(),
             lines: 0,
+            met: Vec::new(),
         }
     }
 }
@@ -61,7 +66,19 @@ impl Stream {
         self.output.extend(answer.bytes());
         self.output.push(b'\n');
         self.lines += 1;
+        self.note(line.as_ref(), &answer);
         answer
+    }
+
+    fn note(&mut self, line: &[u8], answer: &str) {
+        if !cases::is_told(answer) {
+            return;
+        }
+        let call = std::str::from_utf8(line).ok().and_then(Call::of_line);
+        if let Some(call) = call {
+            let page = named_page(answer);
+            self.met.extend(cases::met(&self.state, call, answer, page));
+        }
     }
 
     /// The input without its last line end. (A last line that is empty needs it,
@@ -97,8 +114,17 @@ impl Stream {
     fn set_up(&mut self, dice: &mut Dice) {
         let wanted = any_state(dice);
         self.say(setup_line(&setup_values(&wanted)));
-        for (slot, reader) in &wanted.readers {
-            self.say(format!("A,{slot},{},{}", reader.file, reader.pace));
+        let from_0 = dice.once_in(2);
+        for (&slot, reader) in &wanted.readers {
+            let start = if from_0 { 0 } else { reader.position };
+            let attach = Call::Attach {
+                slot,
+                file: reader.file,
+                pace: reader.pace,
+                start,
+                last: reader.last,
+            };
+            self.say(attach.line());
         }
     }
 
@@ -197,6 +223,7 @@ impl Stream {
                 let length = dice.between(198, 203) as usize;
                 long_line(dice, length)
             }
+            2 => b"A,0,0,10".to_vec(), // without a start and a last page
             _ => broken_line(dice, line.as_bytes()),
         };
         self.say(line);
@@ -219,13 +246,20 @@ pub fn reads(frames: u64, size: u64, look_ahead: u64, afresh: bool, lines: u64) 
             stream.say(format!("D,{slot}"));
         }
         for slot in 0..SLOTS {
-            stream.say(format!("A,{slot},{},10", slot % FILES));
+            stream.say(format!("A,{slot},{},10,0,{size}", slot % FILES));
         }
         for turn in 0..size * SLOTS {
             stream.read_one(turn % SLOTS);
         }
     }
     stream
+}
+
+/// The page at the end of an answer, if it names one.
+fn named_page(answer: &str) -> Option<Page> {
+    let mut pieces = answer.split(',').skip(1).map(|field| field.parse().ok());
+    let (file, number) = (pieces.next()??, pieces.next()??);
+    Some(Page { file, number })
 }
 
 /// The values of a setup that gives this state's frames, L, T and sizes.

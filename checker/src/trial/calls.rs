@@ -1,5 +1,6 @@
 //! Random calls on valid states, calls at every bound, and long runs.
 
+use super::last::old_image;
 use super::{hold, Report};
 use crate::call::{Call, Entry};
 use crate::limits::MOST_TURNS;
@@ -10,10 +11,15 @@ use crate::scene::{any_call, any_state, calls_at_bounds, long_run_state};
 /// Calls made one after the other from each random state.
 const CALLS_PER_STATE: u64 = 30;
 
-/// From each of so many random states a row of random calls.
+/// From each of so many random states, or an old image of it, a row of random
+/// calls.
 pub fn random_calls(report: &mut Report, entry: Entry, dice: &mut Dice, states: u64) {
     for _ in 0..states {
-        let mut image = any_state(dice).image();
+        let state = any_state(dice);
+        let mut image = match dice.below(2) {
+            0 => old_image(dice, &state),
+            _ => state.image(),
+        };
         for _ in 0..CALLS_PER_STATE {
             let (state, _) = State::restore(&image);
             (_, image) = hold(report, entry, &image, any_call(dice, &state));
@@ -37,11 +43,8 @@ pub fn bounds(report: &mut Report, entry: Entry, dice: &mut Dice, states: u64) {
 }
 
 fn reads_left(state: &State) -> u64 {
-    let left = |file, position| state.size(file) - position;
     let readers = state.readers.values();
-    readers
-        .map(|reader| left(reader.file, reader.position))
-        .sum()
+    readers.map(|reader| reader.last - reader.position).sum()
 }
 
 /// Runs of 16,384 turns with sixteen readers on full files: narrow and wide

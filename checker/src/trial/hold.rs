@@ -1,14 +1,15 @@
 //! One call through an entry, held to the model.
 
-use super::{Outcomes, Report};
+use super::{last, Outcomes, Report};
 use crate::call::{Call, Entry};
-use crate::model::{self, State};
+use crate::cases;
+use crate::model::{self, Page, State};
 use std::ops::Range;
 
 /// Every answer and refusal that the paper gives the calls of the C boundary.
 /// An I or an N may come with or without a page dropped or fetched.
 pub const CALL_OUTCOMES: &Outcomes = &[
-    ("Attach", &["O", "E,2", "E,3", "E,4", "E,5", "E,13"]),
+    ("Attach", &["O", "E,2", "E,3", "E,4", "E,15", "E,5", "E,13"]),
     ("Detach", &["O", "E,2", "E,6", "E,13"]),
     ("Read", &["Z", "H", "W", "F", "E,2", "E,6", "E,7", "E,13"]),
     ("Arrive", &["I", "I dropping", "E,3", "E,8", "E,9", "E,13"]),
@@ -25,7 +26,16 @@ const GUARD_BYTE: u8 = 0xA5;
 /// Makes the call on a copy of the image. Returns number and image by the model.
 pub fn hold(report: &mut Report, entry: Entry, image: &[u8], call: Call) -> (u64, Vec<u8>) {
     let expected = model::entry(image, call);
-    report.note(call.name(), outcome(expected.0));
+    let answer = outcome(expected.0);
+    if cases::is_told(&answer) {
+        let (after, _) = State::restore(&expected.1);
+        let page = (expected.0 & 0xFFFF).checked_sub(1).map(Page::of_key);
+        for (name, case) in cases::met(&after, call, &answer, page) {
+            report.note(name, case.to_string());
+        }
+    }
+    last::note(report, image, &answer);
+    report.note(call.name(), answer);
     let act = |buffer: &mut [u8]| entry(buffer, call);
     hold_buffer(report, image, &expected, act, || {
         format!("{call:?}, {}", describe(image))

@@ -1,14 +1,17 @@
-//! Trials by name: sentences of the paper that random calls may miss, each as a
+//! Trials by name: sentences of the papers that random calls may miss, each as a
 //! few lines with their answers. The program gets the lines, the C entries the
-//! calls among them.
+//! calls among them. Some are of images, and so for the entries alone.
 
+use super::last::{last_in, put_last};
 use super::{hold, streams, Report};
 use crate::call::{Call, Entry};
 use crate::feed::{Cut, Feed, Program};
 use crate::model::{respond, State};
 use crate::scene::Stream;
 
-/// A trial: lines, each with the answer that the paper gives it.
+/// A trial: lines, each with the answer that the papers give it. Between them
+/// `LAST,slot,page: put` writes a reader's last page over the image, and `LAST,slot:
+/// page` says what stands there.
 pub struct Named {
     /// What it tries.
     pub name: &'static str,
@@ -17,20 +20,31 @@ pub struct Named {
 
 /// File 0 has 5 pages, no other file any. Slot 0 waits for page 1, which is in
 /// fetch; the other slots are empty.
-const WAITING: &str = "S,2,10,0,5,0,0,0,0,0,0,0: O / A,0,0,1: O / R,0: F,0,1";
+const WAITING: &str = "S,2,10,0,5,0,0,0,0,0,0,0: O / A,0,0,1,0,5: O / R,0: F,0,1";
 
-/// The trials: WAITING stands for the lines above, LONG for a line of 200 bytes.
+/// The same file without a reader.
+const FIVE: &str = "S,5,10,0,5,0,0,0,0,0,0,0: O";
+
+/// The trials: WAITING and FIVE stand for the lines above, LONG for a line of 200
+/// bytes.
 #[rustfmt::skip]
-const TABLE: [(&str, &str); 21] = [
+const TABLE: [(&str, &str); 36] = [
     ("each refusal has its number",
-     "WAITING / S,0,10,0,5,0,0,0,0,0,0,0: E,1 / A,16,0,1: E,2 / A,1,8,1: E,3 / A,1,0,1001: E,4 / \
-      A,0,0,1: E,5 / D,16: E,2 / D,1: E,6 / R,4294967295: E,2 / R,15: E,6 / R,0: E,7 / \
-      I,1,1: E,3 / I,0,6: E,8 / I,0,2: E,9 / X,8,1: E,3 / X,0,4294967295: E,8 / X,0,5: E,9 / \
-      N,1: E,10 / C,8: E,3 / C,1: E,3 / X,0,1: O / N,16385: E,11"),
+     "WAITING / S,0,10,0,5,0,0,0,0,0,0,0: E,1 / A,16,0,1,0,5: E,2 / A,1,8,1,0,5: E,3 / \
+      A,1,0,1001,0,5: E,4 / A,1,0,1,0,6: E,15 / A,0,0,1,0,5: E,5 / D,16: E,2 / D,1: E,6 / \
+      R,4294967295: E,2 / R,15: E,6 / R,0: E,7 / I,1,1: E,3 / I,0,6: E,8 / I,0,2: E,9 / \
+      X,8,1: E,3 / X,0,4294967295: E,8 / X,0,5: E,9 / N,1: E,10 / C,8: E,3 / C,1: E,3 / \
+      X,0,1: O / N,16385: E,11"),
     // "Where several refusals apply, the one listed first for the call is given."
-    ("Attach gives 2 before 3", "WAITING / A,16,8,1: E,2 / A,4294967295,1,1: E,2"),
-    ("Attach gives 3 before 4", "WAITING / A,1,8,0: E,3 / A,1,1,1001: E,3"),
-    ("Attach gives 4 before 5", "WAITING / A,0,0,0: E,4 / A,0,0,1001: E,4 / A,0,0,1000: E,5"),
+    ("Attach gives 2 before 3", "WAITING / A,16,8,1,0,5: E,2 / A,4294967295,1,1,0,5: E,2"),
+    ("Attach gives 3 before 4", "WAITING / A,1,8,0,0,5: E,3 / A,1,1,1001,0,5: E,3"),
+    ("Attach gives 4 before 5",
+     "WAITING / A,0,0,0,0,5: E,4 / A,0,0,1001,0,5: E,4 / A,0,0,1000,0,5: E,5"),
+    // "after 4 and before 5"
+    ("Attach gives 3 before 15", "WAITING / A,1,1,1,0,0: E,3 / A,1,8,1,2,1: E,3"),
+    ("Attach gives 4 before 15", "WAITING / A,1,0,0,0,0: E,4 / A,1,0,1001,6,5: E,4"),
+    ("Attach gives 15 before 5",
+     "WAITING / A,0,0,1,0,0: E,15 / A,0,0,1,0,6: E,15 / A,0,0,1,5,4: E,15 / A,0,0,1,5,5: E,5"),
     ("Arrive gives 3 before 8", "WAITING / I,8,0: E,3 / I,1,0: E,3"),
     ("Arrive gives 8 before 9", "WAITING / I,0,0: E,8 / I,0,6: E,8 / I,0,2: E,9"),
     ("Lost gives 3 before 8", "WAITING / X,8,0: E,3 / X,1,0: E,3"),
@@ -39,8 +53,11 @@ const TABLE: [(&str, &str); 21] = [
 
     // "14: any other line", whatever else it could be refused for.
     ("14 comes before all else",
-     "WAITING / S,0,10,0,05,0,0,0,0,0,0,0: E,14 / A,16,8,00: E,14 / D,016: E,14 / R,016: E,14 / \
-      I,8,00: E,14 / X,8,00: E,14 / N,016385: E,14 / C,08: E,14 / R,0: E,7"),
+     "WAITING / S,0,10,0,05,0,0,0,0,0,0,0: E,14 / A,16,8,00,0,0: E,14 / D,016: E,14 / \
+      R,016: E,14 / I,8,00: E,14 / X,8,00: E,14 / N,016385: E,14 / C,08: E,14 / R,0: E,7"),
+    // "The program's A line [...] take[s] both numbers at their end"
+    ("an A line has five fields",
+     "WAITING / A,1,0,1: E,14 / A,1,0,1,0: E,14 / A,1,0,1,0,5,0: E,14 / A,1,0,1,0,5: O"),
     // "lines of at most 200 bytes, the line end not counted"
     ("a line of 201 bytes is one line", "T: U / LONG: E,14 / T: U / LONGT: E,14"),
     // "A last line may lack its line end."
@@ -48,52 +65,103 @@ const TABLE: [(&str, &str); 21] = [
 
     // "A cluster is a longest unbroken stretch of cached pages of one file."
     ("a cluster ends with its file",
-     "S,4,2,0,1024,1,0,0,0,0,0,0: O / A,15,0,1: O / N,16352: N,1022,1022 / P: F,0,1023 / \
-      P: F,0,1024 / I,0,1023: I,0,1022 / I,0,1024: I,0,3 / A,0,1,1: O / R,0: F,1,1 / \
-      I,1,1: I,0,2 / C,0: C,2,1,1,1023,1024 / C,1: C,1,1,1"),
+     "S,4,2,0,1024,1,0,0,0,0,0,0: O / A,15,0,1,0,1024: O / N,16352: N,1022,1022 / \
+      P: F,0,1023 / P: F,0,1024 / I,0,1023: I,0,1022 / I,0,1024: I,0,3 / A,0,1,1,0,1: O / \
+      R,0: F,1,1 / I,1,1: I,0,2 / C,0: C,2,1,1,1023,1024 / C,1: C,1,1,1"),
     // "the answer letter's ASCII code × 65,536 + (key + 1, or 0 without a page)",
     // up to the largest key
     ("every answer has its number",
-     "S,1,1,0,0,0,0,0,0,0,0,1024: O / P: U / A,15,7,1: O / R,15: F,7,1 / I,7,1: I / \
+     "S,1,1,0,0,0,0,0,0,0,0,1024: O / P: U / A,15,7,1,0,1024: O / R,15: F,7,1 / I,7,1: I / \
       N,16368: N,1022,1023 / P: F,7,1024 / R,15: W,7,1024 / X,7,1024: O / R,15: F,7,1024 / \
       I,7,1024: I,7,1023 / R,15: H,7,1024 / R,15: Z / T: S,7,1024 / T: U / D,15: O"),
     // "A reader's seat distance is (slot − turn) modulo 16": at turn 1 that of
     // slots 0, 1 and 2 is 15, 0 and 1.
     ("the seat distance is slot less turn",
-     "S,3,10,0,1,1,1,0,0,0,0,0: O / N,1: N,0,0 / A,0,0,10: O / A,1,1,10: O / A,2,2,10: O / \
-      Q: Q,3,1,1,2,1,0,1 / P: F,1,1 / P: F,2,1 / P: F,0,1 / I,0,1: I / I,1,1: I / I,2,1: I / \
-      L: L,3,0,1,2,1,1,1 / T: S,0,1 / T: S,2,1 / T: S,1,1"),
+     "S,3,10,0,1,1,1,0,0,0,0,0: O / N,1: N,0,0 / A,0,0,10,0,1: O / A,1,1,10,0,1: O / \
+      A,2,2,10,0,1: O / Q: Q,3,1,1,2,1,0,1 / P: F,1,1 / P: F,2,1 / P: F,0,1 / I,0,1: I / \
+      I,1,1: I / I,2,1: I / L: L,3,0,1,2,1,1,1 / T: S,0,1 / T: S,2,1 / T: S,1,1"),
     // Lost: "the fetch is closed and its waiters run."
     ("Lost closes the fetch",
-     "WAITING / A,1,0,1: O / R,1: W,0,1 / X,0,1: O / X,0,1: E,9 / N,0: N,0,0 / R,1: F,0,1 / \
+     "WAITING / A,1,0,1,0,5: O / R,1: W,0,1 / X,0,1: O / X,0,1: E,9 / N,0: N,0,0 / R,1: F,0,1 / \
       R,0: W,0,1"),
     // "every reader waiting for it runs": not one that waits for another page of
     // the file, or for the page of that number in another file
     ("an ended fetch wakes its waiters",
-     "S,4,10,0,5,5,0,0,0,0,0,0: O / A,0,0,1: O / R,0: F,0,1 / I,0,1: I / R,0: H,0,1 / \
-      R,0: F,0,2 / T: S,0,1 / A,1,0,1: O / R,1: F,0,1 / A,2,1,1: O / R,2: F,1,1 / X,0,1: O / \
-      R,0: E,7 / R,2: E,7 / R,1: F,0,1 / I,0,1: I / R,0: E,7 / R,2: E,7 / R,1: H,0,1"),
+     "S,4,10,0,5,5,0,0,0,0,0,0: O / A,0,0,1,0,5: O / R,0: F,0,1 / I,0,1: I / R,0: H,0,1 / \
+      R,0: F,0,2 / T: S,0,1 / A,1,0,1,0,5: O / R,1: F,0,1 / A,2,1,1,0,5: O / R,2: F,1,1 / \
+      X,0,1: O / R,0: E,7 / R,2: E,7 / R,1: F,0,1 / I,0,1: I / R,0: E,7 / R,2: E,7 / \
+      R,1: H,0,1"),
     // "neither cached nor in fetch"
     ("no page is fetched twice",
      "WAITING / Q: Q,4,0,2,0,3,0,4,0,5 / P: F,0,2 / P: F,0,3 / Q: Q,2,0,4,0,5"),
     // "the head of the steal order is dropped first. Then the page [...] is cached"
     ("Arrive steals before it caches",
-     "S,1,1,0,2,0,0,0,0,0,0,0: O / A,0,0,1: O / R,0: F,0,1 / I,0,1: I / R,0: H,0,1 / \
+     "S,1,1,0,2,0,0,0,0,0,0,0: O / A,0,0,1,0,2: O / R,0: F,0,1 / I,0,1: I / R,0: H,0,1 / \
       R,0: F,0,2 / D,0: O / I,0,2: I,0,1 / T: S,0,2"),
     // "The order is worked out afresh for each steal". Page 2 of file 0 is 40
     // ticks off until page 1 arrives, then 20; page 1 of file 1 is 30.
     ("Steal's order is worked out afresh",
-     "S,4,100,20,2,1,1,0,0,0,0,0: O / A,0,0,10: O / A,1,1,30: O / A,2,2,10: O / R,2: F,2,1 / \
-      I,2,1: I / D,2: O / P: F,0,1 / P: F,1,1 / P: F,0,2 / I,1,1: I / I,0,2: I / \
+     "S,4,100,20,2,1,1,0,0,0,0,0: O / A,0,0,10,0,2: O / A,1,1,30,0,1: O / A,2,2,10,0,1: O / \
+      R,2: F,2,1 / I,2,1: I / D,2: O / P: F,0,1 / P: F,1,1 / P: F,0,2 / I,1,1: I / I,0,2: I / \
       L: L,3,2,1,0,2,1,1 / T: S,2,1 / I,0,1: I / T: S,1,1 / L: L,2,0,2,0,1"),
     ("Run's order is worked out afresh",
-     "S,2,10,0,4,0,0,0,0,0,0,0: O / A,0,0,1: O / N,64: N,4,4 / T: S,0,4 / T: S,0,1"),
+     "S,2,10,0,4,0,0,0,0,0,0,0: O / A,0,0,1,0,4: O / N,64: N,4,4 / T: S,0,4 / T: S,0,1"),
+
+    // "15, last page 0 or above the size, or start above the last"
+    ("15 has three reasons",
+     "WAITING / A,1,0,1,0,0: E,15 / A,1,0,1,0,6: E,15 / A,1,0,1,5,4: E,15 / A,1,0,1,6,6: E,15 / \
+      A,1,0,1,5,5: O / A,2,0,1,0,1: O"),
+    // "Attach takes a start position and a last page."
+    ("a reader goes on from its start",
+     "FIVE / A,0,0,1,3,5: O / Q: Q,2,0,4,0,5 / R,0: F,0,4 / I,0,4: I / R,0: H,0,4 / R,0: F,0,5"),
+    // "The reader's Z comes at its last page", though the next page is in fetch, or
+    // cached
+    ("Z comes at the last page",
+     "FIVE / A,0,0,1,0,2: O / N,64: N,2,2 / R,0: Z / A,1,0,1,2,5: O / R,1: F,0,3 / R,0: Z / \
+      I,0,3: I / R,0: Z / A,2,0,1,5,5: O / R,2: Z"),
+    // "a page beyond it is not ahead of that reader. A page ahead of no reader of its
+    // file stands in the first stretch."
+    ("a page past the last page is not ahead",
+     "S,16,40,0,16,0,0,0,0,0,0,0: O / A,0,0,10,0,3: O / N,48: N,3,3 / A,1,0,10,4,5: O / \
+      A,2,0,10,6,7: O / N,16: N,2,2 / D,0: O / D,1: O / D,2: O / A,0,0,10,3,6: O / \
+      L: L,5,0,7,0,3,0,2,0,1,0,5 / Q: Q,2,0,4,0,6 / T: S,0,7 / T: S,0,3"),
+    // "Its look-ahead ends there"
+    ("the look-ahead ends at the last page",
+     "FIVE / A,0,0,1,1,3: O / Q: Q,2,0,2,0,3 / P: F,0,2 / P: F,0,3 / P: U / Q: Q,0"),
+
+    // "0 there, in an old image, means the file's size", beside a slot that has its own
+    ("a last page of 0 is the size",
+     "FIVE / A,0,0,1,0,1: O / A,1,0,1,2,3: O / LAST,0: 1 / LAST,0,0: put / P: F,0,1 / \
+      LAST,0: 5 / LAST,1: 3 / P: F,0,3 / P: F,0,2 / P: F,0,4 / P: F,0,5 / P: U"),
+    // Restore, call, Save
+    ("Z and U fill the zeros in",
+     "FIVE / A,0,0,1,5,5: O / A,1,0,1,5,5: O / LAST,0,0: put / LAST,1,0: put / R,0: Z / \
+      LAST,0: 5 / LAST,1: 5 / LAST,0,0: put / P: U / LAST,0: 5 / LAST,1,0: put / T: U / \
+      LAST,1: 5"),
+    // "a refusal leaves it"
+    ("a refusal leaves the zeros",
+     "WAITING / LAST,0,0: put / R,0: E,7 / A,0,0,1,0,5: E,5 / A,1,0,1,0,6: E,15 / D,1: E,6 / \
+      I,0,2: E,9 / X,0,6: E,8 / N,1: E,10 / LAST,0: 0 / X,0,1: O / LAST,0: 5"),
+    // "A last page above the size or below the position, or a waiting reader at it,
+    // gets 13", though its next page is in fetch
+    ("no last page is above the size",
+     "FIVE / A,0,0,1,3,5: O / LAST,0,6: put / T: E,13 / LAST,0,65535: put / R,0: E,13 / \
+      LAST,0,5: put / T: U"),
+    ("no last page is below the position",
+     "FIVE / A,0,0,1,3,5: O / LAST,0,2: put / T: E,13 / LAST,0,1: put / R,0: E,13 / \
+      LAST,0,3: put / R,0: Z"),
+    ("no reader waits at its last page",
+     "FIVE / A,0,0,1,2,5: O / R,0: F,0,3 / LAST,0,2: put / R,0: E,13 / I,0,3: E,13 / P: E,13 / \
+      LAST,0,3: put / R,0: E,7 / LAST,0,0: put / R,0: E,7"),
 ];
 
 /// Every trial.
 pub fn all() -> Vec<Named> {
     let long = format!("S{},11", ",1".repeat(98));
-    let written_out = |steps: &str| steps.replace("WAITING", WAITING).replace("LONG", &long);
+    let written_out = |steps: &str| {
+        let steps = steps.replace("WAITING", WAITING).replace("FIVE", FIVE);
+        steps.replace("LONG", &long)
+    };
     let trials = TABLE.iter().map(|(name, steps)| Named {
         name,
         steps: written_out(steps),
@@ -109,8 +177,11 @@ impl Named {
     }
 
     /// Feeds a program the lines: whole, without the last line end, and so again
-    /// byte by byte.
+    /// byte by byte. It has no image.
     pub fn by_program(&self, report: &mut Report, program: Program) {
+        if self.steps.contains(LAST) {
+            return;
+        }
         let failed_before = report.failed();
         let mut stream = Stream::default();
         for (line, answer) in self.steps() {
@@ -131,28 +202,20 @@ impl Named {
         self.give_name(report, failed_before);
     }
 
-    /// Makes the calls through an entry, each on the image of the state before
-    /// it. "The buffer must be exactly 2,208 bytes, else 13, tested first".
+    /// Makes the calls through an entry, each on the image that the step before
+    /// has left.
     pub fn by_entry(&self, report: &mut Report, entry: Entry) {
         let failed_before = report.failed();
-        let mut state = State::idle();
+        let mut image = State::idle().image();
         for (line, answer) in self.steps() {
-            if let Some(call) = Call::of_line(line).filter(|_| answer != "E,14") {
-                let image = state.image();
-                let longer = [&image[..], &[0]].concat();
-                let tries = [
-                    (&image[..], number_of(answer)),
-                    (&image[1..], 13),
-                    (&longer, 13),
-                ];
-                for (image, expected) in tries {
-                    let (number, _) = hold(report, entry, image, call);
-                    report.check(number == expected, || {
-                        format!("{call:?} is to answer {expected}, not {number}")
-                    });
-                }
+            if let Some(place) = line.strip_prefix(LAST) {
+                last_page(report, &mut image, place, answer);
+            } else if let Some(call) = Call::of_line(line).filter(|_| answer != "E,14") {
+                image = hold_call(report, entry, &image, call, number_of(answer));
+            } else if line.starts_with('S') {
+                let (state, _) = respond(State::restore(&image).0, line.as_bytes());
+                image = state.image();
             }
-            (state, _) = respond(state, line.as_bytes());
         }
         self.give_name(report, failed_before);
     }
@@ -162,6 +225,43 @@ impl Named {
         let good = report.failed() == failed_before;
         report.check(good, || format!("above: {}", self.name));
     }
+}
+
+/// What a step on an image starts with.
+const LAST: &str = "LAST,";
+
+/// Writes a slot's last page over the image, or holds it to what is said.
+fn last_page(report: &mut Report, image: &mut [u8], place: &str, answer: &str) {
+    let number = |field: &str| field.parse::<u16>().expect("a number");
+    if let Some((slot, page)) = place.split_once(',') {
+        put_last(image, number(slot).into(), number(page));
+    } else {
+        let last = last_in(image, number(place).into());
+        report.check(last == number(answer), || {
+            format!("the last page of slot {place} is to be {answer}, not {last}")
+        });
+    }
+}
+
+/// One call on an image, and on buffers that are none: "The buffer must be exactly
+/// 2,208 bytes, else 13, tested first". Gives the image behind it.
+fn hold_call(
+    report: &mut Report,
+    entry: Entry,
+    image: &[u8],
+    call: Call,
+    expected: u64,
+) -> Vec<u8> {
+    let longer = [image, &[0]].concat();
+    let tries = [(image, expected), (&image[1..], 13), (&longer, 13)];
+    let [after, ..] = tries.map(|(buffer, expected)| {
+        let (number, after) = hold(report, entry, buffer, call);
+        report.check(number == expected, || {
+            format!("{call:?} is to answer {expected}, not {number}")
+        });
+        after
+    });
+    after
 }
 
 /// The number at the C boundary of an answer that is written as a line: "the

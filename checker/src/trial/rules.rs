@@ -5,8 +5,8 @@
 use super::{hold, Report};
 use crate::call::{Call, Entry};
 use crate::layout::{
-    CACHED, FETCH_TIME, FOUR_ZEROS, FRAMES, IN_FETCH, LOOK_AHEAD, READERS, READER_BYTES, SIZES,
-    TURN, ZERO_BYTE,
+    CACHED, FETCH_TIME, FOUR_ZEROS, FRAMES, IN_FETCH, LAST, LOOK_AHEAD, READERS, READER_BYTES,
+    SIZES, TURN, ZERO_BYTE,
 };
 use crate::model::{Page, Reader, State};
 
@@ -37,6 +37,8 @@ const EVERY_CALL: [Call; 8] = [
         slot: 16,
         file: 0,
         pace: 1,
+        start: 0,
+        last: 1,
     },
     Call::Detach { slot: 1 },
     Call::Read { slot: 0 },
@@ -61,15 +63,16 @@ fn changed(changes: &Changes) -> Vec<u8> {
 
 /// Two frames, both taken. File 0 has 20 pages, 1 to 3 have 1,024, 4 has 64,
 /// 5 has 1, 6 and 7 none. Slot 0 runs in file 0, slot 1 waits for page 5 of
-/// file 1, slot 2 runs in file 2; slot 3 is empty.
+/// file 1, slot 2 runs in file 2; slot 3 is empty. Slot 0 reads up to page 12, the
+/// others up to their files' ends.
 fn sound_state() -> State {
     let mut state = State::idle();
     state.frames = 2;
     state.look_ahead = 100;
     state.fetch_time = 20;
     state.sizes = [20, 1_024, 1_024, 1_024, 64, 1, 0, 0];
-    for (slot, file, position) in [(0, 0, 3), (1, 1, 4), (2, 2, 9)] {
-        let mut reader = Reader::running(file, 10, position);
+    for (slot, file, position, last) in [(0, 0, 3, 12), (1, 1, 4, 1_024), (2, 2, 9, 1_024)] {
+        let mut reader = Reader::running(file, 10, position, last);
         reader.waiting = slot == 1;
         state.readers.insert(slot, reader);
     }
@@ -88,12 +91,21 @@ fn bit(map: usize, page: Page) -> (usize, Vec<u8>) {
     (map + key / 8, vec![1 << (key % 8)])
 }
 
-/// A reader's record: slot, condition, file, pace, position.
+/// A reader's record: slot, condition, file, pace, position; its last page is 0,
+/// which is the size.
 fn record(slot: usize, condition: u8, file: u8, pace: u16, position: u16) -> (usize, Vec<u8>) {
     let mut bytes = vec![condition, file];
     bytes.extend(pace.to_le_bytes());
     bytes.extend(position.to_le_bytes());
+    bytes.extend([0, 0]);
     (READERS + READER_BYTES * slot, bytes)
+}
+
+/// Slot 2 running or waiting in a file, with pace 10: position and last page.
+fn reader(condition: u8, file: u8, position: u16, last: u16) -> (usize, Vec<u8>) {
+    let (at, mut bytes) = record(2, condition, file, 10, position);
+    bytes[LAST..].copy_from_slice(&last.to_le_bytes());
+    (at, bytes)
 }
 
 fn nothing_cached() -> (usize, Vec<u8>) {
@@ -154,13 +166,36 @@ fn broken() -> Vec<(String, Changes)> {
             vec![bit(IN_FETCH, page(1, 6))],
         ),
     ];
-    let zeros = (FOUR_ZEROS..CACHED).chain(READERS + 6..READERS + READER_BYTES);
+    let last_pages = broken_last_pages().into_iter();
+    list.extend(last_pages.map(|(rule, record)| (rule, vec![record])));
+    let zeros = FOUR_ZEROS..CACHED;
     list.extend(zeros.map(|at| ("a 0 byte that is not 0", vec![(at, vec![1])])));
     let empty_slot = READERS + READER_BYTES * 3;
     let record_bytes = empty_slot + 1..empty_slot + READER_BYTES;
     list.extend(record_bytes.map(|at| ("an empty slot not all 0", vec![(at, vec![128])])));
     let named = |(rule, changes): (&str, Changes)| (format!("{rule} {changes:?}"), changes);
     list.into_iter().map(named).collect()
+}
+
+/// "A last page above the size or below the position, or a waiting reader at it,
+/// gets 13." Pages 5 of file 1 and 1 of file 2 are in fetch.
+fn broken_last_pages() -> [(&'static str, (usize, Vec<u8>)); 11] {
+    [
+        ("a last page above the size", reader(1, 0, 3, 21)),
+        ("the same by its high byte", reader(1, 0, 3, 256 + 3)),
+        ("a last page of 1,025", reader(1, 2, 9, 1_025)),
+        ("a last page far above", reader(1, 2, 9, u16::MAX)),
+        ("position and last page above", reader(1, 0, 21, 21)),
+        ("a last page below the position", reader(1, 2, 9, 8)),
+        ("the same by a high byte", reader(1, 2, 256, 255)),
+        ("a last page of 1", reader(1, 2, 1_024, 1)),
+        ("waiting at its last page", reader(2, 1, 4, 4)),
+        ("waiting above its last page", reader(2, 1, 4, 3)),
+        (
+            "waiting at the size, key behind",
+            reader(2, 1, 1_024, 1_024),
+        ),
+    ]
 }
 
 fn unbroken() -> Vec<(&'static str, Changes)> {
@@ -181,6 +216,15 @@ fn unbroken() -> Vec<(&'static str, Changes)> {
         ("waiting at position 0", vec![record(2, 2, 2, 10, 0)]),
         ("two waiting for one page", vec![record(2, 2, 1, 10, 4)]),
         ("a reader in slot 15", vec![record(15, 1, 5, 10, 1)]),
+        ("last page 1, position 0", vec![reader(1, 2, 0, 1)]),
+        ("last page at the position", vec![reader(1, 2, 9, 9)]),
+        ("last page at the size", vec![reader(1, 0, 3, 20)]),
+        (
+            "last page and position 1,024",
+            vec![reader(1, 1, 1_024, 1_024)],
+        ),
+        ("waiting for the last page", vec![reader(2, 1, 4, 5)]),
+        ("waiting for a last page of 1", vec![reader(2, 2, 0, 1)]),
         (
             "the last page in fetch",
             vec![bit(IN_FETCH, page(3, 1_024))],

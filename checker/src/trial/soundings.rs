@@ -1,4 +1,5 @@
-//! The paper's "Soundings to check by (marked 1 to 12)" and its listing.
+//! The paper's "Soundings to check by (marked 1 to 12)" and its listing, and one
+//! more sounding, of a reader with a last page.
 
 use super::{hold, Report};
 use crate::call::{Call, Entry};
@@ -6,7 +7,7 @@ use crate::model::{Answer, Page, Reader, State};
 
 /// One sounding: a state and what the paper says of it.
 struct Sounding {
-    mark: u32,
+    mark: &'static str,
     state: State,
     says: Says,
 }
@@ -35,7 +36,14 @@ fn usual(fetch_time: u64) -> State {
 fn seat(mut state: State, slot: u64, position: u64, pace: u64) -> State {
     state
         .readers
-        .insert(slot, Reader::running(0, pace, position));
+        .insert(slot, Reader::running(0, pace, position, 16));
+    state
+}
+
+/// The first reader up to page 6 only: page 7 is ahead of no reader.
+fn shortened() -> State {
+    let mut state = usual(0);
+    state.readers.insert(0, Reader::running(0, 10, 3, 6));
     state
 }
 
@@ -76,24 +84,26 @@ fn all() -> Vec<Sounding> {
     larger.sizes[0] = 1_024;
 
     let table = [
-        (1, usual(20), steal(&[3, 2, 1, 7, 5])),
-        (2, usual(20), fetch(&[4, 6])),
-        (2, usual(20), times(&[(4, 10), (6, 50)])),
-        (3, usual(40), steal(&[3, 2, 1, 7, 5])),
-        (3, usual(40), fetch(&[4])),
-        (4, usual(41), fetch(&[])),
-        (5, usual(0), steal(&[3, 2, 1, 7, 5])),
-        (5, usual(0), fetch(&[4, 6])),
-        (6, seat(usual(0), 0, 3, 40), fetch(&[4])),
-        (6, seat(usual(0), 0, 3, 41), fetch(&[])),
-        (7, seat(usual(0), 1, 6, 10), steal(&[3, 2, 1, 5, 7])),
-        (8, two_near(0), steal(&[7, 5])),
-        (8, two_near(1), steal(&[5, 7])),
-        (9, unread(&pages(&[2, 5])), steal(&[5, 2])),
-        (10, two_files, Says::Steal(vec![five_of(1), five_of(0)])),
-        (11, larger, Says::Clusters(vec![64, 65])),
-        (12, unread(&[]), Says::Clusters(vec![])),
-        (12, unread(&[]), steal(&[])),
+        ("1", usual(20), steal(&[3, 2, 1, 7, 5])),
+        ("2", usual(20), fetch(&[4, 6])),
+        ("2", usual(20), times(&[(4, 10), (6, 50)])),
+        ("3", usual(40), steal(&[3, 2, 1, 7, 5])),
+        ("3", usual(40), fetch(&[4])),
+        ("4", usual(41), fetch(&[])),
+        ("5", usual(0), steal(&[3, 2, 1, 7, 5])),
+        ("5", usual(0), fetch(&[4, 6])),
+        ("6", seat(usual(0), 0, 3, 40), fetch(&[4])),
+        ("6", seat(usual(0), 0, 3, 41), fetch(&[])),
+        ("7", seat(usual(0), 1, 6, 10), steal(&[3, 2, 1, 5, 7])),
+        ("8", two_near(0), steal(&[7, 5])),
+        ("8", two_near(1), steal(&[5, 7])),
+        ("9", unread(&pages(&[2, 5])), steal(&[5, 2])),
+        ("10", two_files, Says::Steal(vec![five_of(1), five_of(0)])),
+        ("11", larger, Says::Clusters(vec![64, 65])),
+        ("12", unread(&[]), Says::Clusters(vec![])),
+        ("12", unread(&[]), steal(&[])),
+        ("A.1", shortened(), steal(&[7, 3, 2, 1, 5])),
+        ("A.1", shortened(), fetch(&[4, 6])),
     ];
     let sounding = |(mark, state, says)| Sounding { mark, state, says };
     table.into_iter().map(sounding).collect()
@@ -136,8 +146,10 @@ pub fn by_entry(report: &mut Report, entry: Entry) {
     }
 }
 
-/// "Input, then the output whole", slashes for line ends.
-const INPUT: &str = "S,3,100,0,6,0,0,0,0,0,0,0 / A,0,0,10 / R,0 / R,0 / I,0,1 / R,0 / A,1,0,10 / \
+/// "Input, then the output whole", slashes for line ends; the A lines "take both
+/// numbers at their end", in the listing ",0,6".
+const INPUT: &str =
+    "S,3,100,0,6,0,0,0,0,0,0,0 / A,0,0,10,0,6 / R,0 / R,0 / I,0,1 / R,0 / A,1,0,10,0,6 / \
     N,32 / L / P / T / I,0,4 / C,0 / I,0,5 / N,16 / L";
 const OUTPUT: &str = "O / O / F,0,1 / E,7 / I / H,0,1 / O / N,2,4 / L,3,0,2,0,1,0,3 / F,0,4 / \
     S,0,2 / I / C,2,1,1,3,4 / E,9 / N,0,2 / L,3,0,3,0,1,0,4";

@@ -2,6 +2,7 @@
 //! model's, byte for byte.
 
 use super::{Outcomes, Report};
+use crate::call::Call;
 use crate::explain::Explained;
 use crate::feed::{Cut, Feed, Program};
 use crate::process::{Process, Unreadable, Unwritable};
@@ -15,7 +16,7 @@ use std::str::from_utf8;
 /// long enough, and 13, since it restores no image.
 pub const LINE_OUTCOMES: &Outcomes = &[
     ("S setup", &["O", "E,1"]),
-    ("A attach", &["O", "E,2", "E,3", "E,4", "E,5"]),
+    ("A attach", &["O", "E,2", "E,3", "E,4", "E,15", "E,5"]),
     ("D detach", &["O", "E,2", "E,6"]),
     ("R read", &["Z", "H", "W", "F", "E,2", "E,6", "E,7"]),
     ("I arrive", &["I", "I dropping", "E,3", "E,8", "E,9"]),
@@ -26,10 +27,11 @@ pub const LINE_OUTCOMES: &Outcomes = &[
     ("L steal list", &["L", "L empty"]),
     ("Q fetch list", &["Q", "Q empty"]),
     ("C clusters", &["C", "C empty", "E,3"]),
-    (OTHER_LINE, &["E,14"]),
+    (OTHER_LINE, &["E,14", A_OF_THREE]),
 ];
 
 const OTHER_LINE: &str = "other line";
+const A_OF_THREE: &str = "A of three fields";
 
 /// The most bytes of a small piece.
 const SMALL: u64 = 64;
@@ -85,7 +87,11 @@ pub fn cut_everywhere(report: &mut Report, program: Program, dice: &mut Dice, st
 /// Some lines of every kind, together shorter than 400 bytes.
 fn short_stream(dice: &mut Dice) -> Stream {
     let mut stream = Stream::default();
-    for line in ["S,2,40,10,16,0,0,0,0,0,0,3", "A,0,0,10", "A,15,7,10"] {
+    for line in [
+        "S,2,40,10,16,0,0,0,0,0,0,3",
+        "A,0,0,10,0,16",
+        "A,15,7,10,1,2",
+    ] {
         stream.say(line);
     }
     while stream.input.len() < 150 {
@@ -140,16 +146,25 @@ pub fn long_lists(report: &mut Report, program: Program) {
         let sizes = ",1024".repeat(8);
         stream.say(format!("S,1024,{look_ahead},{fetch_time}{sizes}"));
         for slot in 0..16 {
-            stream.say(format!("A,{slot},{},{}", slot % 8, 10 + slot / 3));
+            stream.say(format!("A,{slot},{},{},0,1024", slot % 8, 10 + slot / 3));
         }
         for line in [
-            "N,2048", "L", "Q", "D,3", "D,9", "A,9,3,1", "N,25", "L", "Q", "C,3",
+            "N,2048",
+            "L",
+            "Q",
+            "D,3",
+            "D,9",
+            "A,9,3,1,40,900",
+            "N,25",
+            "L",
+            "Q",
+            "C,3",
         ] {
             stream.say(line);
         }
     }
     stream.say("S,1024,2000000,0,0,1024,0,0,0,0,0,0");
-    stream.say("A,5,1,1");
+    stream.say("A,5,1,1,0,1024");
     for _ in 0..1_024 {
         stream.say("P");
     }
@@ -178,7 +193,7 @@ pub fn at_borders(report: &mut Report, program: Program) {
             for _ in 0..filler / 64 {
                 stream.say([b'#'; 63]);
             }
-            for line in [LINE, "A,0,0,10", "R,0", "I,0,1", "R,0", "L"] {
+            for line in [LINE, "A,0,0,10,0,9", "R,0", "I,0,1", "R,0", "L"] {
                 stream.say(line);
             }
             hold(report, program, &stream, &Feed::whole(&stream.input));
@@ -320,7 +335,19 @@ fn note_answers(report: &mut Report, stream: &Stream) {
     for (line, answer) in lines.zip(answers).take(stream.lines as usize) {
         let answer = from_utf8(answer).expect("answers are ASCII");
         report.note(name_of(line, answer), outcome(answer));
+        if is_a_of_three(line) && answer == "E,14" {
+            report.note(OTHER_LINE, A_OF_THREE.to_string());
+        }
     }
+    for (name, case) in &stream.met {
+        report.note(name, case.to_string());
+    }
+}
+
+/// Whether it is an A line as it was before readers had a start and a last page.
+fn is_a_of_three(line: &[u8]) -> bool {
+    let whole = from_utf8(line).map(|line| format!("{line},0,1"));
+    whole.is_ok_and(|line| matches!(Call::of_line(&line), Some(Call::Attach { .. })))
 }
 
 /// The name that the line has in the table.

@@ -9,13 +9,15 @@ use Rattle.bits.specs.Map.{on, putBit}
 use Rattle.rules.specs.Lists.{onOption}
 use Rattle.rules.specs.Pages.{fileOf, pageOf, keyOf}
 use Rattle.rules.specs.Readers.{readerIn}
-use Rattle.rules.specs.Calls.{withCached, without, closed}
+use Rattle.rules.specs.Calls.{reply, withReader, withFetching, withCached, without, closed}
 use Rattle.parts.specs.Files.{noFileIn, noPageIn}
 use Rattle.rules.specs.declared.State.{State}
+use Rattle.rules.specs.declared.Reply.{Reply}
 use Rattle.rules.specs.declared.Answer.{Answer}
 use Rattle.rules.specs.declared.View.{View}
 use Rattle.rules.specs.declared.Outcome.{Outcome}
 use Rattle.rules.specs.declared.Answer.the-variants.{Refused, Arrived, Replaced}
+use Rattle.calls.specs.declared.Step.{Step}
 use Rattle.calls.specs.declared.Fetched.{Fetched}
 use Rattle.calls.specs.declared.Fetched.the-variants.{Open, Refused as NotOpen}
 
@@ -26,6 +28,10 @@ outcomeOf v a = record { view = v; answer = a }
 -- a refusal, which leaves the view
 abbrev pub refusal : View → ℕ → Outcome
 refusal v number = outcomeOf v (Refused number)
+
+-- the state and the answer after a running reader's Read: its slot has the new record, and the fetch map is this
+abbrev pub stepped : State → ℕ → Step → List ℕ → Reply
+stepped s slot r fetching = reply (withFetching (withReader s slot (r .reader)) fetching) (r .answer)
 
 -- what Arrive and Lost find of a page: its key where it is in fetch, else 3, 8 or 9
 unfoldable pub openFetch : List ℕ → List ℕ → ℕ → ℕ → Fetched

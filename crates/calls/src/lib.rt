@@ -14,7 +14,8 @@ ghost use lib.ListN.{getD};
 ghost use Rattle.bits.specs.Map.{ones};
 ghost use Rattle.rules.specs.Views.{stateOf, noPages, replyOf};
 ghost use Rattle.rules.specs.Lists.{within, every};
-ghost use Rattle.rules.specs.Valid.{Valid, Placed};
+ghost use Rattle.rules.specs.Readers.{readerIn};
+ghost use Rattle.rules.specs.Valid.{Valid};
 ghost use Rattle.rules.specs.Calls.{
   reply,
   settingsIn,
@@ -32,12 +33,18 @@ ghost use Rattle.rules.specs.Calls.{
   prefetchOf,
 };
 ghost use Rattle.order.specs.Choices.{chosen, Housed};
-ghost use Rattle.calls.specs.Inner.{outcomeOf, refusal, openFetch, OthersStay, InMap, eased, landedWith, arrivalOf};
+ghost use Rattle.calls.specs.Inner.{outcomeOf, refusal, stepped, openFetch, OthersStay, InMap, eased, landedWith, arrivalOf};
 
 // What Arrive and Lost find of a page: the key of one that is in fetch, or the number of the refusal.
 pub enum Fetched {
     Open(usize),
     Refused(u8),
+}
+
+// What a Read makes of a running reader: the record that it has then, and the answer.
+pub struct Step {
+    pub reader: Reader,
+    pub answer: Answer,
 }
 
 // ---- outcomes and refusals
@@ -46,6 +53,12 @@ fn outcome(view: View, answer: Answer) -> Outcome
     ensures { λ r. ⌜ r ≡ outcomeOf view answer ⌝ }
 {
     Outcome { view, answer }
+}
+
+fn answered(reader: Reader, answer: Answer) -> Step
+    ensures { λ r. ⌜ r ≡ record { reader = reader; answer = answer } ⌝ }
+{
+    Step { reader, answer }
 }
 
 // A refusal gives the view back.
@@ -134,8 +147,8 @@ pub fn setup(frames: u64, look_ahead: u64, fetch_time: u64, sizes: [u64; 8]) -> 
 // ---- the calls of a slot: one record changes, and the others stay
 
 // The slot's record is looked at last: 5 is the last of the refusals.
-pub fn attach(mut v: View, slot: u64, file: u64, pace: u64) -> Outcome
-    ensures { λ r. ⌜ ((c f : List ℕ) → replyOf r c f ≡ attachOf (stateOf v c f) slot file pace) ⌝ }
+pub fn attach(mut v: View, slot: u64, file: u64, pace: u64, start: u64, last: u64) -> Outcome
+    ensures { λ r. ⌜ ((c f : List ℕ) → replyOf r c f ≡ attachOf (stateOf v c f) slot file pace start last) ⌝ }
     ensures one_record { λ r. ⌜ OthersStay v slot (r .view) ⌝ }
 {
     if 15 < slot {
@@ -148,52 +161,49 @@ pub fn attach(mut v: View, slot: u64, file: u64, pace: u64) -> Outcome
     if !parts::within(1, 1000, pace) {
         return refuse(v, 4);
     }
+    let f = file as usize;
+    let size = sizes[f];
+    if parts::no_range(size, start, last) {
+        return refuse(v, 15);
+    }
     let i = slot as usize;
     let old = v.readers[i];
     let condition = old.condition;
     match condition {
         Condition::Empty => {
-            v.readers[i] = parts::docked(file as u8, pace as u16);
+            v.readers[i] = parts::docked(file as u8, pace as u16, start as u16, last as u16);
             outcome(v, Answer::Done)
         }
         Condition::Running | Condition::Waiting => refuse(v, 5),
     }
 }
 
-// The Read of a running reader, whose record is `old`.
-fn read_running(
-    mut v: View,
-    cached: &[u64; 128],
-    fetching: &mut [u64; 128],
-    i: usize,
-    old: Reader,
-) -> Outcome
-    requires { ⌜ Placed (stateOf v (now cached) (now fetching)) old ⌝ }
-    requires { ⌜ getD (v .sizes) (old .file) 0 ≤ 1024 ⌝ }
-    requires { ⌜ i < 16 ⌝ }
-    ensures { λ r. ⌜ replyOf r (now (cached .entry)) (now (fetching .exit)) ≡ readRunning (stateOf v (now (cached .entry)) (now (fetching .entry))) i old ⌝ }
+// The Read of a running reader, whose record is `old`. The view stays with the caller, which stores the record: a view is dear to pass.
+fn read_running(cached: &[u64; 128], fetching: &mut [u64; 128], old: Reader) -> Step
+    requires { ⌜ (old .file < 8) × (old .position ≤ old .last) × (old .last ≤ 1024) ⌝ }
+    ensures { λ r. ⌜ ((v : View) (i : ℕ) → old ≡ readerIn (v .readers) i
+        → stepped (stateOf v (now (cached .entry)) (now (fetching .entry))) i r (now (fetching .exit))
+        ≡ readRunning (stateOf v (now (cached .entry)) (now (fetching .entry))) i old) ⌝ }
 {
-    let sizes = v.sizes;
-    if old.position == parts::last_page(sizes, old) {
-        return outcome(v, Answer::End);
+    if old.position == old.last {
+        return answered(old, Answer::End);
     }
     let file = old.file;
     let page = old.position + 1;
     let key = parts::next_key(old);
     if bits::has_bit(cached, key) {
-        v.readers[i] = parts::onward(old);
-        return outcome(v, Answer::Hit { file, page });
+        return answered(parts::onward(old), Answer::Hit { file, page });
     }
-    v.readers[i] = parts::in_condition(old, Condition::Waiting);
+    let waiting = parts::in_condition(old, Condition::Waiting);
     if bits::has_bit(fetching, key) {
-        return outcome(v, Answer::Wait { file, page });
+        return answered(waiting, Answer::Wait { file, page });
     }
     bits::set_bit(fetching, key);
-    outcome(v, Answer::Fetch { file, page })
+    answered(waiting, Answer::Fetch { file, page })
 }
 
 // The maps are looked at only for a running reader; the one that waits is not moved by Read but by the end of its fetch.
-pub fn read(v: View, cached: &[u64; 128], fetching: &mut [u64; 128], slot: u64) -> Outcome
+pub fn read(mut v: View, cached: &[u64; 128], fetching: &mut [u64; 128], slot: u64) -> Outcome
     requires { ⌜ Valid (stateOf v (now cached) (now fetching)) ⌝ }
     ensures { λ r. ⌜ replyOf r (now (cached .entry)) (now (fetching .exit)) ≡ readOf (stateOf v (now (cached .entry)) (now (fetching .entry))) slot ⌝ }
     ensures one_record { λ r. ⌜ OthersStay v slot (r .view) ⌝ }
@@ -206,7 +216,13 @@ pub fn read(v: View, cached: &[u64; 128], fetching: &mut [u64; 128], slot: u64) 
     let condition = old.condition;
     match condition {
         Condition::Empty => refuse(v, 6),
-        Condition::Running => read_running(v, cached, fetching, i, old),
+        Condition::Running => {
+            let r = read_running(cached, fetching, old);
+            let answer = r.answer;
+            let reader = r.reader;
+            v.readers[i] = reader;
+            outcome(v, answer)
+        }
         Condition::Waiting => refuse(v, 7),
     }
 }

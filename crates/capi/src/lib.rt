@@ -82,8 +82,15 @@ fn finish<'a>(r: Outcome, cached: &'a [u64; 128], fetching: &'a [u64; 128], imag
 // ---- the entries: each restores the state from the image, does its call on it and saves it
 
 #[no_mangle]
-pub extern "C" fn quay_attach(image: &mut [u8], slot: u64, file: u64, pace: u64) -> u64
-    ensures { λ n. ⌜ record { number = n; image = now (image .exit) } ≡ enter (attach slot file pace) (now (image .entry)) ⌝ }
+pub extern "C" fn quay_attach(
+    image: &mut [u8],
+    slot: u64,
+    file: u64,
+    pace: u64,
+    start: u64,
+    last: u64,
+) -> u64
+    ensures { λ n. ⌜ record { number = n; image = now (image .exit) } ≡ enter (attach slot file pace start last) (now (image .entry)) ⌝ }
 {
     let mut cached = [0u64; 128];
     let mut fetching = [0u64; 128];
@@ -93,7 +100,7 @@ pub extern "C" fn quay_attach(image: &mut [u8], slot: u64, file: u64, pace: u64)
         return NO_IMAGE;
     }
     finish(
-        calls::attach(restored.view, slot, file, pace),
+        calls::attach(restored.view, slot, file, pace, start, last),
         &cached,
         &fetching,
         image,

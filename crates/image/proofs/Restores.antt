@@ -15,14 +15,13 @@ use Rattle.rules.specs.Lists.{range, every, within}
 use Rattle.rules.specs.Pages.{size, cached, Page, cachedPages}
 use Rattle.rules.specs.Schedules.{num, count}
 use Rattle.rules.specs.Calls.{reply, refused, settingsIn, idle}
-use Rattle.rules.specs.Image.{stateFrom, slotHolds, keyHolds, accepts, restoreOf, imageNumbers, imageLength, restored}
+use Rattle.rules.specs.Image.{stateFrom, slotHolds, keyHolds, accepts, restoreOf, imageNumbers, imageLength}
 use Rattle.rules.proofs.laws.Cases.{passed}
 use Rattle.rules.proofs.laws.Tests.{or-left}
 use Rattle.rules.proofs.laws.Members.{range-at}
 use Rattle.rules.proofs.laws.Indexed.{every-all}
 use Rattle.rules.proofs.laws.Counts.{pages-count}
 use Rattle.rules.proofs.images.Accepts.{settings-in, key-in, unset}
-use Rattle.rules.proofs.images.Images.{upgraded-same}
 use Rattle.rules.proofs.images.Offsets.{setting-at}
 use Rattle.image.specs.Bytes.{numberAt, stateIn}
 use Rattle.image.specs.Tests.{SizesLow, settingsFrom, gapsHold, apartAt, sizeHolds}
@@ -129,16 +128,16 @@ room-pass words frames number n e f l = le-leb (ones words 0 8192) frames (rw (e
 module _ (image : List ℕ) where
   -- another length
   pub restore-short : (length image ≡ imageLength → ⊥) → refused idle 13 ≡ restoreOf image
-  unfolding restoreOf restored
-  restore-short n = rw (upgraded-same image, ne-eqb (length image) imageLength n)
+  unfolding restoreOf
+  restore-short n = rw (ne-eqb (length image) imageLength n)
 
   -- the tests fail
   pub restore-stop : length image ≡ imageLength → (t : Bool) → t ≡ accepts (imageNumbers image) → not t ≡ true → refused idle 13 ≡ restoreOf image
-  unfolding restoreOf restored
-  restore-stop l t e n = rw (upgraded-same image, l, ← e, not-true t n)
+  unfolding restoreOf
+  restore-stop l t e n = rw (l, ← e, not-true t n)
 
   -- they pass
   pub restore-pass : length image ≡ imageLength → (t : Bool) (s : State) → t ≡ accepts (imageNumbers image) → not t ≡ false → s ≡ stateIn image
       → reply s Done ≡ restoreOf image
-  unfolding restoreOf restored
-  restore-pass l t s e n read = rw (upgraded-same image, l, ← e, not-false t n, read)
+  unfolding restoreOf
+  restore-pass l t s e n read = rw (l, ← e, not-false t n, read)

@@ -10,7 +10,7 @@ ghost use Rattle.rules.specs.Lists.{range, every, within};
 ghost use Rattle.rules.specs.Views.{viewOf, replyOf};
 ghost use Rattle.rules.specs.Calls.{refused, idle as idleState};
 ghost use Rattle.rules.specs.Readers.{awaits};
-ghost use Rattle.rules.specs.Image.{conditionOf, readerFrom, readerPlaced, readerHolds, slotHolds, accepts, restoreOf, imageNumbers, imageLength};
+ghost use Rattle.rules.specs.Image.{conditionOf, lastFrom, readerFrom, readerPlaced, readerHolds, slotHolds, accepts, restoreOf, imageNumbers, imageLength};
 ghost use Rattle.parts.specs.Files.{sizedWith};
 ghost use Rattle.image.specs.Bytes.{numbersAt, stateIn};
 ghost use Rattle.image.specs.Tests.{FromImage, SizesLow, settingsFrom, gapsHold, apartAt, clearAt, clearAbove, sizeHolds};
@@ -42,6 +42,26 @@ fn condition_of(n: u8) -> Condition
     }
 }
 
+// The last page of a slot. In an older image a taken slot has 0 there, which means its file's size.
+fn last_in(image: &[u8], slot: usize) -> u16
+    requires { ⌜ (length (now image) ≡ imageLength) × (slot < 16) ⌝ }
+    ensures { λ r. ⌜ r ≡ lastFrom (imageNumbers (now (image .entry))) slot ⌝ }
+{
+    let at = READERS_AT + 8 * slot;
+    let last = get_u16(image, at + 6);
+    if last != 0 {
+        return last;
+    }
+    if get_u8(image, at) == 0 {
+        return 0;
+    }
+    let file = get_u8(image, at + 1) as usize;
+    if 7 < file {
+        return 0;
+    }
+    get_u16(image, SIZES_AT + 2 * file)
+}
+
 // The record of a slot.
 fn reader_in(image: &[u8], slot: usize) -> Reader
     requires { ⌜ (length (now image) ≡ imageLength) × (slot < 16) ⌝ }
@@ -54,6 +74,7 @@ fn reader_in(image: &[u8], slot: usize) -> Reader
         get_u8(image, at + 1),
         get_u16(image, at + 2),
         get_u16(image, at + 4),
+        last_in(image, slot),
     )
 }
 
@@ -154,7 +175,7 @@ fn settings_hold(image: &[u8], sizes: &[u16; 8]) -> bool
     sizes_hold(sizes)
 }
 
-// An attached reader: its file is there, its pace is in range, its position is in the file.
+// An attached reader: its file is there, its pace is in range, its last page is in the file, and its position is not past it.
 fn reader_placed(r: Reader, sizes: &[u16; 8]) -> bool
     ensures { λ t. ⌜ t ≡ readerPlaced (sizedWith (now (sizes .entry)) []) r ⌝ }
 {
@@ -165,22 +186,23 @@ fn reader_placed(r: Reader, sizes: &[u16; 8]) -> bool
     if !parts::within(1, 1000, r.pace as u64) {
         return false;
     }
-    r.position <= parts::last_page(all, r)
+    let file = r.file as usize;
+    !parts::no_range(all[file], r.position as u64, r.last as u64)
 }
 
-// A reader's next page is in fetch.
-fn reader_awaits(r: Reader, sizes: &[u16; 8], fetching: &[u64; 128]) -> bool
-    requires { ⌜ (r .file < 8) × SizesLow (now sizes) ⌝ }
-    ensures { λ t. ⌜ t ≡ awaits (sizedWith (now (sizes .entry)) (now (fetching .entry))) r ⌝ }
+// A reader is not at its last page, and its next page is in fetch.
+fn reader_awaits(r: Reader, fetching: &[u64; 128]) -> bool
+    requires { ⌜ (r .file < 8) × (r .last ≤ 1024) ⌝ }
+    ensures { λ t. ⌜ t ≡ awaits (sizedWith [] (now (fetching .entry))) r ⌝ }
 {
-    if parts::last_page(*sizes, r) <= r.position {
+    if r.last <= r.position {
         return false;
     }
     bits::has_bit(fetching, parts::next_key(r))
 }
 
 fn is_blank(r: Reader) -> bool
-    ensures { λ t. ⌜ t ≡ (eqb (r .file) 0 && (eqb (r .pace) 0 && eqb (r .position) 0)) ⌝ }
+    ensures { λ t. ⌜ t ≡ (eqb (r .file) 0 && (eqb (r .pace) 0 && (eqb (r .position) 0 && eqb (r .last) 0))) ⌝ }
 {
     if r.file != 0 {
         return false;
@@ -188,7 +210,10 @@ fn is_blank(r: Reader) -> bool
     if r.pace != 0 {
         return false;
     }
-    r.position == 0
+    if r.position != 0 {
+        return false;
+    }
+    r.last == 0
 }
 
 fn reader_holds(r: Reader, sizes: &[u16; 8], fetching: &[u64; 128]) -> bool
@@ -203,12 +228,12 @@ fn reader_holds(r: Reader, sizes: &[u16; 8], fetching: &[u64; 128]) -> bool
             if !reader_placed(r, sizes) {
                 return false;
             }
-            reader_awaits(r, sizes, fetching)
+            reader_awaits(r, fetching)
         }
     }
 }
 
-// A slot: its condition is in range, its record holds, its two 0 bytes are 0.
+// A slot: its condition is in range, and its record holds.
 fn slot_holds(image: &[u8], slot: usize, sizes: &[u16; 8], fetching: &[u64; 128]) -> bool
     requires { ⌜ FromImage (now image) (now sizes) (now fetching) × SizesLow (now sizes) × (slot < 16) ⌝ }
     ensures { λ r. ⌜ r ≡ slotHolds (imageNumbers (now (image .entry))) slot ⌝ }
@@ -217,10 +242,7 @@ fn slot_holds(image: &[u8], slot: usize, sizes: &[u16; 8], fetching: &[u64; 128]
     if !parts::within(0, 2, get_u8(image, at) as u64) {
         return false;
     }
-    if !reader_holds(reader_in(image, slot), sizes, fetching) {
-        return false;
-    }
-    get_u16(image, at + 6) == 0
+    reader_holds(reader_in(image, slot), sizes, fetching)
 }
 
 fn slots_hold(image: &[u8], sizes: &[u16; 8], fetching: &[u64; 128]) -> bool

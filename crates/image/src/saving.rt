@@ -42,7 +42,7 @@ fn put_reader(buffer: &mut [u8], at: usize, r: Reader)
     put_u8(buffer, at + 1, r.file);
     put_u16(buffer, at + 2, r.pace);
     put_u16(buffer, at + 4, r.position);
-    put_u16(buffer, at + 6, 0);
+    put_u16(buffer, at + 6, r.last);
 }
 
 fn put_sizes(buffer: &mut [u8], at: usize, sizes: &[u16; 8])

@@ -24,12 +24,12 @@ Not c letter = c ≡ letter → ⊥
 
 module _ (s : State) (c : ℕ) where
   -- no letter takes so many fields
-  pub other-count : (x : List ℕ) (n : ℕ) → length x ≡ 11 → n ≤ 11 → Not n 0 → Not n 1 → Not n 2 → Not n 3 → Not n 11
+  pub other-count : (x : List ℕ) (n : ℕ) → length x ≡ 11 → n ≤ 11 → Not n 0 → Not n 1 → Not n 2 → Not n 5 → Not n 11
       → obeyed s c (take n x) ≡ told (refused s 14)
   unfolding obeyed
   other-count x n all few a b d e f =
       let long : length (take n x) ≡ n = length-take-le n x (omega arith) in
-      simp (long, ne-eqb n 0 a, ne-eqb n 1 b, ne-eqb n 2 d, ne-eqb n 3 e, ne-eqb n 11 f, and-false)
+      simp (long, ne-eqb n 0 a, ne-eqb n 1 b, ne-eqb n 2 d, ne-eqb n 5 e, ne-eqb n 11 f, and-false)
 
   -- P, T, L and Q have no field
   pub other-alone : Not c 80 → Not c 84 → Not c 76 → Not c 81 → obeyed s c [] ≡ told (refused s 14)
@@ -46,10 +46,10 @@ module _ (s : State) (c : ℕ) where
   unfolding obeyed
   other-two file page i x = simp (ne-eqb c 73 i, ne-eqb c 88 x, and-false)
 
-  -- A has three
-  pub other-three : (slot file pace : ℕ) → Not c 65 → obeyed s c (slot ∷ file ∷ pace ∷ []) ≡ told (refused s 14)
+  -- A has five
+  pub other-five : (slot file pace start last : ℕ) → Not c 65 → obeyed s c (slot ∷ file ∷ pace ∷ start ∷ last ∷ []) ≡ told (refused s 14)
   unfolding obeyed
-  other-three slot file pace a = simp (ne-eqb c 65 a, and-false)
+  other-five slot file pace start last a = simp (ne-eqb c 65 a, and-false)
 
   -- S has eleven
   pub other-eleven : (x : List ℕ) → length x ≡ 11 → Not c 83 → obeyed s c x ≡ told (refused s 14)
@@ -72,10 +72,10 @@ module _ (x : List ℕ) (e : length x ≡ 11) where
   unfolding range
   fields-two = sym (part-listed x 0 0 2 (omega arith))
 
-  -- three
-  pub fields-three : getD x 0 0 ∷ getD x 1 0 ∷ getD x 2 0 ∷ [] ≡ take 3 x
+  -- five
+  pub fields-five : getD x 0 0 ∷ getD x 1 0 ∷ getD x 2 0 ∷ getD x 3 0 ∷ getD x 4 0 ∷ [] ≡ take 5 x
   unfolding range
-  fields-three = sym (part-listed x 0 0 3 (omega arith))
+  fields-five = sym (part-listed x 0 0 5 (omega arith))
 
   -- all
   pub fields-all : x ≡ take 11 x

@@ -125,7 +125,8 @@ pub(crate) fn answer(v: View, answer: Answer, out: &mut [u8]) -> Said
     requires { ⌜ Roomy (now out) ⌝ }
     ensures { λ a. ⌜ ((c f : List ℕ) → Gives (told (record { state = stateOf v c f; answer = answer })) (now (out .entry)) (now (out .exit)) (saidOf a c f)) ⌝ }
 {
-    say(Outcome { view: v, answer }, out)
+    let len = tell(answer, out);
+    Said { view: v, len }
 }
 
 // 14: any other line.

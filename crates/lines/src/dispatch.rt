@@ -82,14 +82,24 @@ fn obey_two(
     }
 }
 
-// A letter and three numbers, whatever the maps.
-fn obey_three(v: View, letter: u8, slot: u64, file: u64, pace: u64, out: &mut [u8]) -> Said
+// A letter and five numbers, whatever the maps.
+fn obey_five(
+    v: View,
+    letter: u8,
+    slot: u64,
+    file: u64,
+    pace: u64,
+    start: u64,
+    last: u64,
+    out: &mut [u8],
+) -> Said
     requires { ⌜ Roomy (now out) ⌝ }
     ensures { λ a.
-        ⌜ ((c f : List ℕ) → Gives (obeyed (stateOf v c f) letter (slot ∷ file ∷ pace ∷ [])) (now (out .entry)) (now (out .exit)) (saidOf a c f)) ⌝ }
+        ⌜ ((c f : List ℕ) → Gives (obeyed (stateOf v c f) letter (slot ∷ file ∷ pace ∷ start ∷ last ∷ []))
+        (now (out .entry)) (now (out .exit)) (saidOf a c f)) ⌝ }
 {
     if letter == b'A' {
-        return answers::say(calls::attach(v, slot, file, pace), out);
+        return answers::say(calls::attach(v, slot, file, pace, start, last), out);
     }
     answers::refuse(v, out)
 }
@@ -137,7 +147,7 @@ fn obey(
         0 => obey_alone(v, cached, fetching, letter, out),
         1 => obey_one(v, cached, fetching, letter, x[0], out),
         2 => obey_two(v, cached, fetching, letter, x[0], x[1], out),
-        3 => obey_three(v, letter, x[0], x[1], x[2], out),
+        5 => obey_five(v, letter, x[0], x[1], x[2], x[3], x[4], out),
         11 => obey_eleven(v, cached, fetching, letter, x, out),
         _ => answers::refuse(v, out),
     }

@@ -15,7 +15,7 @@ use Rattle.bits.proofs.Bits.{bit-le, and-is}
 use Rattle.bits.proofs.Finds.{Next, next-is, last-is}
 use Rattle.rules.specs.Lists.{head}
 use Rattle.rules.specs.Pages.{fileOf, cached}
-use Rattle.rules.specs.Readers.{readerAt, attached, lastPage}
+use Rattle.rules.specs.Readers.{readerAt, attached}
 use Rattle.rules.specs.Valid.{Valid}
 use Rattle.rules.specs.UseTimes.{before, never, useFor}
 use Rattle.rules.specs.Orders.{absent, fetchOrder, victim}
@@ -183,38 +183,37 @@ absent-bit s k =
     other (suc zero) h = refl
     other (suc (suc b)) h = absurd (omega arith)
 
-module _ (s : State) (w : Valid s) (r : Reader) (here : T (attached r)) (key : ℕ)
-    (e : key ≡ nextAbsent (s .cached) (s .fetching) (r .file * 1024 + r .position) (lastPage (s .sizes) r - r .position)) where
-  found : Next (joined (s .cached) (s .fetching)) 0 (r .file * 1024 + r .position) (lastPage (s .sizes) r - r .position) key
+module _ (s : State) (r : Reader) (here : T (attached r)) (key : ℕ)
+    (e : key ≡ nextAbsent (s .cached) (s .fetching) (r .file * 1024 + r .position) (r .last - r .position)) where
+  found : Next (joined (s .cached) (s .fetching)) 0 (r .file * 1024 + r .position) (r .last - r .position) key
   found =
-      let f = e ∙ absent-joined (s .cached) (s .fetching) (r .file * 1024 + r .position) (lastPage (s .sizes) r - r .position) in
-      rw f (next-is (joined (s .cached) (s .fetching)) 0 (r .file * 1024 + r .position) (lastPage (s .sizes) r - r .position))
+      let f = e ∙ absent-joined (s .cached) (s .fetching) (r .file * 1024 + r .position) (r .last - r .position) in
+      rw f (next-is (joined (s .cached) (s .fetching)) 0 (r .file * 1024 + r .position) (r .last - r .position))
 
-  none-earlier : (i : ℕ) → T (before s r i) → i < key → T (absent s i) → ⊥
+  none-earlier : (i : ℕ) → T (before r i) → i < key → T (absent s i) → ⊥
   none-earlier i b l a =
-      let q = before-is s r i b in
+      let q = before-is r i b in
       found .before i (omega (arith, q .of-file, q .past)) l (eqb→eq (bit (joined (s .cached) (s .fetching)) i) 0 (subst T (sym (absent-bit s i)) a))
 
   -- the reader lacks no page
-  pub none-absent : key ≡ r .file * 1024 + lastPage (s .sizes) r → (k : ℕ) → FirstAbsent s r k → ⊥
+  pub none-absent : key ≡ r .file * 1024 + r .last → (k : ℕ) → FirstAbsent s r k → ⊥
   none-absent z k a =
-      let q = before-is s r k (a .ahead-of) in
-      none-earlier k (a .ahead-of) (omega (arith, q .of-file, q .in-file)) (a .lacking)
+      let q = before-is r k (a .ahead-of) in
+      none-earlier k (a .ahead-of) (omega (arith, q .of-file, q .in-reach)) (a .lacking)
 
-  module _ (n : key ≡ r .file * 1024 + lastPage (s .sizes) r → ⊥) (p : r .position ≤ lastPage (s .sizes) r) where
+  module _ (n : key ≡ r .file * 1024 + r .last → ⊥) (p : r .position ≤ r .last) (high : r .last ≤ 1024) where
     -- the reader has the page found before it
-    absent-before : Before s r key
+    absent-before : Before r key
     absent-before =
-        let m = w .sizes-high (r .file) in
         let t = found in
-        record { here = here; of-file = omega arith; past = omega arith; in-file = omega arith }
+        record { here = here; of-file = omega arith; past = omega arith; in-reach = omega arith }
 
     -- the page found is the reader's first absent one
     pub first-absent : FirstAbsent s r key
     first-absent = record {
-      ahead-of = is-before s r key absent-before;
+      ahead-of = is-before r key absent-before;
       lacking = subst T (absent-bit s key) (passed _ (eq-eqb (bit (joined (s .cached) (s .fetching)) key) 0 (found .found (omega (arith, found .high)))));
-      first = λ i h u a. none-earlier i h (omega (arith, before-is s r i h .of-file, absent-before .of-file)) a;
+      first = λ i h u a. none-earlier i h (omega (arith, before-is r i h .of-file, absent-before .of-file)) a;
     }
 
 module _ (s : State) where

@@ -47,14 +47,15 @@ seat-more readers f n = rw (add-one n) refl
 -- ---- the array, slot by slot
 
 -- no slot
-pub seated-none : (readers : List Reader) → Seated readers 0 (replicate 56 0)
+pub seated-none : (readers : List Reader) → Seated readers 0 (replicate 72 0)
 unfolding lastSeat
 seated-none readers = record {
   long = refl;
   position = λ j u. absurd (omega arith);
   pace = λ j u. absurd (omega arith);
+  reach = λ j u. absurd (omega arith);
   next = λ j u. absurd (omega arith);
-  last = λ f u. same-at 56 (48 + f) 0;
+  last = λ f u. same-at 72 (48 + f) 0;
 }
 
 module _ (readers : List Reader) (n : ℕ) (seats : List ℕ) (a : Seated readers n seats) where
@@ -64,6 +65,7 @@ module _ (readers : List Reader) (n : ℕ) (seats : List ℕ) (a : Seated reader
     long = a .long;
     position = one-more (λ j. T (attached (readerIn readers j)) → getD seats j 0 ≡ readerIn readers j .position) n (a .position) (λ h. absurd (failed _ e h));
     pace = one-more (λ j. T (attached (readerIn readers j)) → getD seats (16 + j) 0 ≡ readerIn readers j .pace) n (a .pace) (λ h. absurd (failed _ e h));
+    reach = one-more (λ j. T (attached (readerIn readers j)) → getD seats (56 + j) 0 ≡ readerIn readers j .last) n (a .reach) (λ h. absurd (failed _ e h));
     next =
         one-more (λ j. T (attached (readerIn readers j)) → getD seats (32 + j) 0 ≡ lastSeat readers (readerIn readers j .file) j) n
         (a .next) (λ h. absurd (failed _ e h));
@@ -89,7 +91,7 @@ module _ (readers : List Reader) (n : ℕ) (seats : List ℕ) (a : Seated reader
         getD-set-other three (48 + r .file) i (n + 1) 0 w ∙ getD-set-other two (32 + n) i _ 0 v
         ∙ getD-set-other one (16 + n) i (r .pace) 0 q ∙ getD-set-other seats n i (r .position) 0 p
 
-    long : (length one ≡ 56) × (length two ≡ 56) × (length three ≡ 56) × (length four ≡ 56)
+    long : (length one ≡ 72) × (length two ≡ 72) × (length three ≡ 72) × (length four ≡ 72)
     long =
         let e = a .long in
         (simp length-set e, simp length-set e, simp length-set e, simp length-set e)
@@ -120,17 +122,34 @@ module _ (readers : List Reader) (n : ℕ) (seats : List ℕ) (a : Seated reader
         by (yes e) = rw (eq-eqb (r .file) f e, ← e) (getD-set-same three (48 + r .file) (n + 1) 0 (omega (arith, long .2)))
         by (no e) = rw (ne-eqb (r .file) f e) (kept (48 + f) (omega arith) (omega arith) (omega arith) (omega arith) ∙ a .last f v)
 
-    pub seated-reader : Seated readers (n + 1) four
+    -- and the last page
+    abbrev five : List ℕ
+    five = set four (56 + n) (r .last)
+
+    under : (i : ℕ) → i ≢ 56 + n → getD five i 0 ≡ getD four i 0
+    under i p = getD-set-other four (56 + n) i (r .last) 0 p
+
+    reach : getD five (56 + n) 0 ≡ readerIn readers n .last
+    reach = getD-set-same four (56 + n) (r .last) 0 (omega (arith, long .3)) ∙ ap (λ r. r .last) er
+
+    pub seated-reader : Seated readers (n + 1) five
     seated-reader = record {
-      long = long .3;
+      long = let e = a .long in simp length-set e;
       position =
-          one-more (λ j. T (attached (readerIn readers j)) → getD four j 0 ≡ readerIn readers j .position) n
-          (λ j v t. kept j (omega arith) (omega arith) (omega arith) (omega arith) ∙ a .position j v t) (λ t. position);
+          one-more (λ j. T (attached (readerIn readers j)) → getD five j 0 ≡ readerIn readers j .position) n
+          (λ j v t. under j (omega arith) ∙ kept j (omega arith) (omega arith) (omega arith) (omega arith) ∙ a .position j v t)
+          (λ t. under n (omega arith) ∙ position);
       pace =
-          one-more (λ j. T (attached (readerIn readers j)) → getD four (16 + j) 0 ≡ readerIn readers j .pace) n
-          (λ j v t. kept (16 + j) (omega arith) (omega arith) (omega arith) (omega arith) ∙ a .pace j v t) (λ t. pace);
+          one-more (λ j. T (attached (readerIn readers j)) → getD five (16 + j) 0 ≡ readerIn readers j .pace) n
+          (λ j v t. under (16 + j) (omega arith) ∙ kept (16 + j) (omega arith) (omega arith) (omega arith) (omega arith) ∙ a .pace j v t)
+          (λ t. under (16 + n) (omega arith) ∙ pace);
+      reach =
+          one-more (λ j. T (attached (readerIn readers j)) → getD five (56 + j) 0 ≡ readerIn readers j .last) n
+          (λ j v t. under (56 + j) (omega arith) ∙ kept (56 + j) (omega arith) (omega arith) (omega arith) (omega arith) ∙ a .reach j v t)
+          (λ t. reach);
       next =
-          one-more (λ j. T (attached (readerIn readers j)) → getD four (32 + j) 0 ≡ lastSeat readers (readerIn readers j .file) j) n
-          (λ j v t. kept (32 + j) (omega arith) (omega arith) (omega arith) (omega arith) ∙ a .next j v t) (λ t. next);
-      last = last;
+          one-more (λ j. T (attached (readerIn readers j)) → getD five (32 + j) 0 ≡ lastSeat readers (readerIn readers j .file) j) n
+          (λ j v t. under (32 + j) (omega arith) ∙ kept (32 + j) (omega arith) (omega arith) (omega arith) (omega arith) ∙ a .next j v t)
+          (λ t. under (32 + n) (omega arith) ∙ next);
+      last = λ f v. under (48 + f) (omega arith) ∙ last f v;
     }

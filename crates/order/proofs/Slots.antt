@@ -32,7 +32,7 @@ module _ (s : State) (r : Reader) (k : ℕ) where
   unfolding sees
   far w h =
       let l : s .«look_ahead» / r .pace < steps r k = div-lt-iff-lt-mul w .1 h in
-      rw (lt-leb (steps r k) (s .«look_ahead» / r .pace) l) (sym (none (before s r k)))
+      rw (lt-leb (steps r k) (s .«look_ahead» / r .pace) l) (sym (none (before r k)))
 
   -- T is above 0 and (q + 1) × T is above L: q is at least m
   pruned-off : 0 < s .«fetch_time» → s .«look_ahead» < (between s r k + 1) * s .«fetch_time» → sees s r k ≡ false
@@ -40,16 +40,16 @@ module _ (s : State) (r : Reader) (k : ℕ) where
   pruned-off t h =
       let m : ℕ = s .«look_ahead» / s .«fetch_time» in
       let l : m < between s r k + 1 = div-lt-iff-lt-mul t .1 h in
-      rw (lt-ltb 0 (s .«fetch_time») t, le-leb m (between s r k) (omega arith)) (sym (none-of (before s r k) (leb (steps r k) (s .«look_ahead» / r .pace))))
+      rw (lt-ltb 0 (s .«fetch_time») t, le-leb m (between s r k) (omega arith)) (sym (none-of (before r k) (leb (steps r k) (s .«look_ahead» / r .pace))))
 
-  module _ (b : Before s r k) (w : 1 ≤ r .pace) (near : steps r k * r .pace ≤ s .«look_ahead») where
+  module _ (b : Before r k) (w : 1 ≤ r .pace) (near : steps r k * r .pace ≤ s .«look_ahead») where
     within-K : leb (steps r k) (s .«look_ahead» / r .pace) ≡ true
     within-K = le-leb (steps r k) (s .«look_ahead» / r .pace) (le-div-iff-mul-le w .1 near)
 
     -- T is 0
     unpruned : s .«fetch_time» ≡ 0 → sees s r k ≡ true
     unfolding sees pruned
-    unpruned t = rw (is-true (before s r k) (is-before s r k b), within-K, t) refl
+    unpruned t = rw (is-true (before r k) (is-before r k b), within-K, t) refl
 
     -- T is above 0 and (q + 1) × T at most L: q is below m
     few : 0 < s .«fetch_time» → (between s r k + 1) * s .«fetch_time» ≤ s .«look_ahead» → sees s r k ≡ true
@@ -57,11 +57,7 @@ module _ (s : State) (r : Reader) (k : ℕ) where
     few t h =
         let m : ℕ = s .«look_ahead» / s .«fetch_time» in
         let l : between s r k + 1 ≤ m = le-div-iff-mul-le t .1 h in
-        rw (is-true (before s r k) (is-before s r k b), within-K, lt-ltb 0 (s .«fetch_time») t, lt-leb m (between s r k) (omega arith)) refl
-
--- what a reader has before it does not hang on the maps
-pub before-any : (v : View) (r : Reader) (k : ℕ) (a b c d : List ℕ) → Before (stateOf v a b) r k → Before (stateOf v c d) r k
-before-any v r k a b c d h = record { here = h .here; of-file = h .of-file; past = h .past; in-file = h .in-file }
+        rw (is-true (before r k) (is-before r k b), within-K, lt-ltb 0 (s .«fetch_time») t, lt-leb m (between s r k) (omega arith)) refl
 
 -- ---- the least number so far, and one slot's use key
 
@@ -98,7 +94,7 @@ module _ (s : State) (k j low : ℕ) where
       go true = refl
       go false = omega arith
 
-  module _ (b : Before s (readerAt s j) k) (w : 1 ≤ readerAt s j .pace) (near : steps (readerAt s j) k * readerAt s j .pace ≤ s .«look_ahead») where
+  module _ (b : Before (readerAt s j) k) (w : 1 ≤ readerAt s j .pace) (near : steps (readerAt s j) k * readerAt s j .pace ≤ s .«look_ahead») where
     -- no fetch takes time
     pub lower-free : s .«fetch_time» ≡ 0 → steps (readerAt s j) k * readerAt s j .pace * 16 + seat s j < low
         → steps (readerAt s j) k * readerAt s j .pace * 16 + seat s j ≡ lower s k j low

@@ -35,13 +35,13 @@ module _ (s : State) (k : ℕ) where
   unfolding useKey
   used-by l = let m = least-met 16 (useFor s k) never l in (m .0, m .1, use-sees s k (m .0) (omega (arith, m .2)), m .2)
 
-  ahead-by : (j : ℕ) → j < 16 → T (before s (readerAt s j) k) → T (ahead s k)
+  ahead-by : (j : ℕ) → j < 16 → T (before (readerAt s j) k) → T (ahead s k)
   unfolding ahead
-  ahead-by j l h = some-in 16 j (λ j. before s (readerAt s j) k) l h
+  ahead-by j l h = some-in 16 j (λ j. before (readerAt s j) k) l h
 
-  ahead-of : T (ahead s k) → (j : ℕ) × (j < 16) × T (before s (readerAt s j) k)
+  ahead-of : T (ahead s k) → (j : ℕ) × (j < 16) × T (before (readerAt s j) k)
   unfolding ahead
-  ahead-of h = some-at 16 (λ j. before s (readerAt s j) k) h
+  ahead-of h = some-at 16 (λ j. before (readerAt s j) k) h
 
   -- a page ahead of a reader
   rank-ahead : T (ahead s k) → rank s k ≤ never + place k
@@ -93,7 +93,7 @@ module _ (s : State) (k : ℕ) where
 pub record Swept (s : State) (k n top : ℕ) : Type 0 where
   pub low : rank s k ≤ top
   pub high : top ≤ 2 * never + place k
-  pub passed : (j : ℕ) → n ≤ j → j < 16 → T (before s (readerAt s j) k) → top ≤ never + place k
+  pub passed : (j : ℕ) → n ≤ j → j < 16 → T (before (readerAt s j) k) → top ≤ never + place k
   pub used : (j : ℕ) → n ≤ j → j < 16 → T (sees s (readerAt s j) k) → top ≤ useFor s k j
 
 module _ (s : State) (k : ℕ) where
@@ -102,7 +102,7 @@ module _ (s : State) (k : ℕ) where
   swept-none = record { low = rank-high s k; high = omega arith; passed = λ j l u. absurd (omega arith); used = λ j l u. absurd (omega arith) }
 
   -- slots that do not have the page before them
-  pub swept-not : (n j top : ℕ) → Swept s k n top → ((i : ℕ) → j ≤ i → i < n → T (before s (readerAt s i) k) → ⊥) → Swept s k j top
+  pub swept-not : (n j top : ℕ) → Swept s k n top → ((i : ℕ) → j ≤ i → i < n → T (before (readerAt s i) k) → ⊥) → Swept s k j top
   swept-not n j top a none = record {
     low = a .low;
     high = a .high;
@@ -110,7 +110,7 @@ module _ (s : State) (k : ℕ) where
     used = λ i l u b. early i l u b (decLt i n);
   }
     where
-      past : (i : ℕ) → j ≤ i → i < 16 → T (before s (readerAt s i) k) → Dec (i < n) → top ≤ never + place k
+      past : (i : ℕ) → j ≤ i → i < 16 → T (before (readerAt s i) k) → Dec (i < n) → top ≤ never + place k
       past i l u b (yes m) = absurd (none i l m b)
       past i l u b (no m) = a .passed i (omega arith) u b
 
@@ -122,11 +122,11 @@ module _ (s : State) (k : ℕ) where
   pub swept-seat : (n top at : ℕ) → Swept s k n top → at ≡ lastSeat (s .readers) (fileOf k) n → Swept s k at top
   swept-seat n top at a e = swept-not n at top a (λ i l u b.
       let r : Reader = readerAt s i in
-      let q = before-is s r k b in
+      let q = before-is r k b in
       seat-is (s .readers) (fileOf k) n .after i (omega arith) u (and-both (attached r) _ (q .here) (passed _ (eq-eqb (r .file) (fileOf k) (q .of-file)))))
 
   -- a slot that has
-  module _ (j top next : ℕ) (a : Swept s k (j + 1) top) (l : j < 16) (b : T (before s (readerAt s j) k))
+  module _ (j top next : ℕ) (a : Swept s k (j + 1) top) (l : j < 16) (b : T (before (readerAt s j) k))
       (e : next ≡ lower s k j (min top (never + place k))) where
     lower-used : T (sees s (readerAt s j) k) → next ≡ min (useFor s k j) (min top (never + place k))
     lower-used h = rw (is-true (sees s (readerAt s j) k) h) at e

@@ -4,10 +4,10 @@
 use rules::Reader;
 use rules::View;
 ghost use mathlib.Core.Path.{_≡_};
-ghost use mathlib.Core.Bool.{cond};
+ghost use mathlib.Core.Bool.{cond, _&&_};
 ghost use mathlib.Core.List.{List, [], _∷_};
 ghost use Prim.Native.Nat.{ℕ, min, _+_, _-_, _*_, _%_, _<_, _≤_};
-ghost use lib.Dec.{T};
+ghost use lib.Dec.{T, leb, ltb};
 ghost use Rattle.rules.specs.declared.State.{State};
 ghost use Rattle.rules.specs.Lists.{head};
 ghost use Rattle.rules.specs.Pages.{Page};
@@ -80,7 +80,7 @@ fn lowered(
     requires { ⌜ Ranged v ⌝ }
     requires { ⌜ (slot < 16) × (key < 8192) ⌝ }
     requires { ⌜ (position ≡ readerIn (v .readers) slot .position) × (pace ≡ readerIn (v .readers) slot .pace) ⌝ }
-    requires { ⌜ Before (stateOf v [] []) (readerIn (v .readers) slot) key ⌝ }
+    requires { ⌜ Before (readerIn (v .readers) slot) key ⌝ }
     ensures { λ r. ⌜ ((c f : List ℕ) → Presents (stateOf v c f) (now (present .entry)) → r ≡ lower (stateOf v c f) key slot low) ⌝ }
 {
     let from = position as usize;
@@ -107,12 +107,13 @@ fn lowered(
 }
 
 // What the sweeps read of the readers, in one array that can be lent. At `slot`: its reader's position; at 16 + slot: the pace; at 32 + slot: the last
-// slot before it with a reader of the same file; at 48 + file: the last slot with a reader of the file. These slots count from 1, and 0 is none.
-pub fn seats_of(readers: [Reader; 16]) -> [u16; 56]
+// slot before it with a reader of the same file; at 48 + file: the last slot with a reader of the file; at 56 + slot: the last page. These slots count
+// from 1, and 0 is none.
+pub fn seats_of(readers: [Reader; 16]) -> [u16; 72]
     requires { ⌜ ((j : ℕ) → T (attached (readerIn readers j)) → readerIn readers j .file < 8) ⌝ }
     ensures { λ r. ⌜ Seated readers 16 r ⌝ }
 {
-    let mut seats: [u16; 56] = [0; 56];
+    let mut seats: [u16; 72] = [0; 72];
     let mut slot: usize = 0;
     while slot < 16 {
         let r = readers[slot];
@@ -122,15 +123,23 @@ pub fn seats_of(readers: [Reader; 16]) -> [u16; 56]
             seats[16 + slot] = r.pace;
             seats[32 + slot] = seats[at];
             seats[at] = slot as u16 + 1;
+            seats[56 + slot] = r.last;
         }
         slot += 1;
     }
     seats
 }
 
+// Does a reader at the position still have the page before it, up to its last page?
+fn is_ahead(position: u16, last: u16, page: usize) -> bool
+    ensures { λ r. ⌜ r ≡ (ltb position page && leb page last) ⌝ }
+{
+    (position as usize) < page && page <= last as usize
+}
+
 // The rank of a page of its file, or, where that is no higher than the floor, a number that is no higher either: one pass over the file's readers,
 // from the last slot down, that stops as soon as the page cannot rank above the floor.
-fn rank_over(v: View, seats: &[u16; 56], present: &[u64; 128], key: usize, floor: u64) -> u64
+fn rank_over(v: View, seats: &[u16; 72], present: &[u64; 128], key: usize, floor: u64) -> u64
     requires { ⌜ Ranged v × Seated (v .readers) 16 (now seats) ⌝ }
     requires { ⌜ Page (stateOf v [] []) key ⌝ }
     ensures { λ r. ⌜ ((c f : List ℕ) → Presents (stateOf v c f) (now (present .entry)) → Over (stateOf v c f) key floor r) ⌝ }
@@ -142,7 +151,7 @@ fn rank_over(v: View, seats: &[u16; 56], present: &[u64; 128], key: usize, floor
     while 0 < at {
         let slot = at - 1;
         let position = seats[slot];
-        if (position as usize) < page {
+        if is_ahead(position, seats[56 + slot], page) {
             let low = lesser(top, NEVER + place);
             top = lowered(v, present, slot, position, seats[16 + slot], key, low);
             if top <= floor {
@@ -155,7 +164,7 @@ fn rank_over(v: View, seats: &[u16; 56], present: &[u64; 128], key: usize, floor
 }
 
 // A page's rank: the higher, the sooner it is given up. The seats are lent, so that a list of pages has them made once.
-pub fn rank(v: View, seats: &[u16; 56], present: &[u64; 128], key: usize) -> u64
+pub fn rank(v: View, seats: &[u16; 72], present: &[u64; 128], key: usize) -> u64
     requires { ⌜ Ranged v × Seated (v .readers) 16 (now seats) ⌝ }
     requires { ⌜ Page (stateOf v [] []) key ⌝ }
     ensures { λ r. ⌜ ((c f : List ℕ) → Presents (stateOf v c f) (now (present .entry)) → r ≡ rank (stateOf v c f) key) ⌝ }
@@ -164,7 +173,7 @@ pub fn rank(v: View, seats: &[u16; 56], present: &[u64; 128], key: usize) -> u64
 }
 
 // A page's use key; NEVER where the page is in no look-ahead.
-pub fn use_key(v: View, seats: &[u16; 56], present: &[u64; 128], key: usize) -> u64
+pub fn use_key(v: View, seats: &[u16; 72], present: &[u64; 128], key: usize) -> u64
     requires { ⌜ Ranged v × Seated (v .readers) 16 (now seats) ⌝ }
     requires { ⌜ Page (stateOf v [] []) key ⌝ }
     ensures { λ r. ⌜ ((c f : List ℕ) → Presents (stateOf v c f) (now (present .entry)) → r ≡ useKey (stateOf v c f) key) ⌝ }
@@ -186,7 +195,7 @@ fn pages_of(files: u64, file: usize, n: usize) -> usize
 // The last cached one of the file's first n pages, if the file is of the set, there is one, and its rank is higher than the best.
 fn higher<'a>(
     v: View,
-    seats: &[u16; 56],
+    seats: &[u16; 72],
     present: &'a [u64; 128],
     cached: &'a [u64; 128],
     files: u64,
@@ -297,29 +306,29 @@ fn next_absent<'a>(cached: &'a [u64; 128], fetching: &'a [u64; 128], from: usize
     end
 }
 
-// The slot's first absent page after its position, if that is used sooner than the best.
+// The first absent page after the position of the slot's reader, if that is used sooner than the best.
 fn sooner<'a>(
     v: View,
     present: &'a [u64; 128],
     cached: &'a [u64; 128],
     fetching: &'a [u64; 128],
     slot: usize,
+    r: Reader,
     best: Pick,
 ) -> Pick
     requires { ⌜ Valid (stateOf v (now cached) (now fetching)) ⌝ }
     requires { ⌜ Presents (stateOf v (now cached) (now fetching)) (now present) ⌝ }
     requires { ⌜ slot < 16 ⌝ }
     requires { ⌜ Soonest (stateOf v (now cached) (now fetching)) slot best ⌝ }
+    requires { ⌜ r ≡ readerIn (v .readers) slot ⌝ }
     ensures { λ r. ⌜ Soonest (stateOf v (now (cached .entry)) (now (fetching .entry))) (slot + 1) r ⌝ }
 {
-    let r = v.readers[slot];
     if !parts::is_attached(r) {
         return best;
     }
     let file = r.file as usize;
     let position = r.position as usize;
-    let sizes = v.sizes;
-    let last = parts::last_page(sizes, r) as usize;
+    let last = r.last as usize;
     let key = next_absent(cached, fetching, file * 1024 + position, last - position);
     if key == file * 1024 + last {
         return best;
@@ -345,7 +354,8 @@ pub fn next_fetch<'a>(v: View, cached: &'a [u64; 128], fetching: &'a [u64; 128])
     };
     let mut slot: usize = 0;
     while slot < 16 {
-        best = sooner(v, cached, cached, fetching, slot, best);
+        let r = v.readers[slot];
+        best = sooner(v, cached, cached, fetching, slot, r, best);
         slot += 1;
     }
     if best.value == NEVER {

@@ -1,6 +1,8 @@
 -- The rules' tests of files and pages by the sizes alone, and the numbers whose key can be worked out. Assumes nothing: these are definitions.
 use Prim.Native.Nat.{ℕ, _≤_, _<_}
-use mathlib.Core.Bool.{Bool}
+use mathlib.Core.Bool.{Bool, not, _||_}
+use lib.Dec.{ltb}
+use Rattle.rules.specs.Lists.{within}
 use mathlib.Core.List.{List}
 use Rattle.rules.specs.Calls.{noFile, noPage, fresh, withFetching}
 use Rattle.rules.specs.Views.{noPages}
@@ -20,6 +22,10 @@ noFileIn sizes file = noFile (sized sizes) file
 
 abbrev pub noPageIn : List ℕ → ℕ → ℕ → Bool
 noPageIn sizes file page = noPage (sized sizes) file page
+
+-- 15 by the file's size
+abbrev pub noRangeIn : ℕ → ℕ → ℕ → Bool
+noRangeIn size start last = not (within 1 size last) || ltb last start
 
 -- numbers of a file and a page whose key can be worked out
 pub record Small (file page : ℕ) : Type 0 where

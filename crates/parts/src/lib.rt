@@ -1,17 +1,18 @@
 // What the calls, the orders, the lists and the image all build and ask of readers, files and pages. A reader or a view is made here alone, by one
-// function for each kind of change, and a file's size is asked on behalf of a reader by `last_page` alone.
+// function for each kind of change.
 
 use rules::Condition;
 use rules::Reader;
 use rules::View;
 ghost use mathlib.Core.Path.{_≡_};
+ghost use mathlib.Core.Bool.{false};
 ghost use Prim.Native.Nat.{_<_};
 ghost use Rattle.rules.specs.Views.{stateOf, noPages};
 ghost use Rattle.rules.specs.Lists.{within};
 ghost use Rattle.rules.specs.Pages.{fileOf, pageOf, keyOf};
-ghost use Rattle.rules.specs.Readers.{noReader, attached, lastPage, nextKey, inCondition, onward};
+ghost use Rattle.rules.specs.Readers.{noReader, attached, nextKey, inCondition, onward};
 ghost use Rattle.rules.specs.Calls.{fresh, idle, docked};
-ghost use Rattle.parts.specs.Files.{noFileIn, noPageIn, Small};
+ghost use Rattle.parts.specs.Files.{noFileIn, noPageIn, noRangeIn, Small};
 
 // ---- files and pages
 
@@ -35,6 +36,14 @@ pub fn no_page(sizes: [u16; 8], file: u64, page: u64) -> bool
     ensures { λ r. ⌜ r ≡ noPageIn sizes file page ⌝ }
 {
     !within(1, sizes[file as usize] as u64, page)
+}
+
+// 15: last page 0 or above the size, or start above the last. What is not refused fits a size.
+pub fn no_range(size: u16, start: u64, last: u64) -> bool
+    ensures { λ r. ⌜ r ≡ noRangeIn size start last ⌝ }
+    ensures short { λ r. ⌜ (r ≡ false → last < 65536) ⌝ }
+{
+    !within(1, size as u64, last) || last < start
 }
 
 // The key of a page, whether the file has the page or not.
@@ -62,14 +71,15 @@ pub fn page_of(key: u16) -> u16
 // ---- readers
 
 // A record of these parts, as an image has them. All others are made of it.
-pub fn reader_of(condition: Condition, file: u8, pace: u16, position: u16) -> Reader
-    ensures { λ r. ⌜ r ≡ record { condition = condition; file = file; pace = pace; position = position } ⌝ }
+pub fn reader_of(condition: Condition, file: u8, pace: u16, position: u16, last: u16) -> Reader
+    ensures { λ r. ⌜ r ≡ record { condition = condition; file = file; pace = pace; position = position; last = last } ⌝ }
 {
     Reader {
         condition,
         file,
         pace,
         position,
+        last,
     }
 }
 
@@ -77,14 +87,14 @@ pub fn reader_of(condition: Condition, file: u8, pace: u16, position: u16) -> Re
 pub fn no_reader() -> Reader
     ensures { λ r. ⌜ r ≡ noReader ⌝ }
 {
-    reader_of(Condition::Empty, 0, 0, 0)
+    reader_of(Condition::Empty, 0, 0, 0, 0)
 }
 
-// The record that Attach gives a slot. Attach has tested the file and the pace.
-pub fn docked(file: u8, pace: u16) -> Reader
-    ensures { λ r. ⌜ r ≡ docked file pace ⌝ }
+// The record that Attach gives a slot. Attach has tested the numbers.
+pub fn docked(file: u8, pace: u16, start: u16, last: u16) -> Reader
+    ensures { λ r. ⌜ r ≡ docked file pace start last ⌝ }
 {
-    reader_of(Condition::Running, file, pace, 0)
+    reader_of(Condition::Running, file, pace, start, last)
 }
 
 // The reader after a Read that answers H.
@@ -101,7 +111,7 @@ pub fn onward(r: Reader) -> Reader
 pub fn in_condition(r: Reader, condition: Condition) -> Reader
     ensures { λ t. ⌜ t ≡ inCondition condition r ⌝ }
 {
-    reader_of(condition, r.file, r.pace, r.position)
+    reader_of(condition, r.file, r.pace, r.position, r.last)
 }
 
 // Is there a reader in the slot? Running and waiting readers count alike.
@@ -114,15 +124,6 @@ pub fn is_attached(r: Reader) -> bool
         Condition::Running => true,
         Condition::Waiting => true,
     }
-}
-
-// The page at which the reader is at its end. Nothing else asks a file's size on behalf of a reader.
-pub fn last_page(sizes: [u16; 8], r: Reader) -> u16
-    requires { ⌜ r .file < 8 ⌝ }
-    ensures { λ n. ⌜ n ≡ lastPage sizes r ⌝ }
-{
-    let file = r.file as usize;
-    sizes[file]
 }
 
 // The key of the page after the reader's position, whether the file has the page or not.

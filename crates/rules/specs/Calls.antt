@@ -9,7 +9,7 @@ use lib.Dec.{leb, ltb, eqb}
 use Rattle.bits.specs.Map.{putBit}
 use Rattle.rules.specs.Lists.{every, within, head, onOption}
 use Rattle.rules.specs.Pages.{size, fileOf, pageOf, keyOf, cached, inFetch, cachedPages}
-use Rattle.rules.specs.Readers.{noReader, readerAt, byCondition, lastPage, nextKey, inCondition, onward}
+use Rattle.rules.specs.Readers.{noReader, readerAt, byCondition, nextKey, inCondition, onward}
 use Rattle.rules.specs.Orders.{fetchOrder, victim}
 use Rattle.rules.specs.declared.State.{State}
 use Rattle.rules.specs.declared.Reader.{Reader}
@@ -72,6 +72,10 @@ noFile s file = ltb 7 file || eqb (size s file) 0
 abbrev pub noPage : State → ℕ → ℕ → Bool
 noPage s file page = not (within 1 (size s file) page)
 
+-- A.1, 15: "last page 0 or above the size, or start above the last"
+abbrev pub noRange : State → ℕ → ℕ → ℕ → Bool
+noRange s file start last = noPage s file last || ltb last start
+
 -- ---- Setup
 
 -- frames, L, T and the sizes in range
@@ -103,25 +107,26 @@ setupOf frames look time sizes = cond (settingsIn frames look time sizes) (reply
 
 -- ---- Attach
 
--- "position 0, running"
-abbrev pub docked : ℕ → ℕ → Reader
-docked file pace = record { condition = Running; file = file; pace = pace; position = 0 }
+-- running; A.1: "Attach takes a start position and a last page"
+abbrev pub docked : ℕ → ℕ → ℕ → ℕ → Reader
+docked file pace start last = record { condition = Running; file = file; pace = pace; position = start; last = last }
 
--- 2; 3; 4: pace out of range; 5: slot not empty
-unfoldable pub attachOf : State → ℕ → ℕ → ℕ → Reply
-attachOf s slot file pace =
+-- 2; 3; 4: pace out of range; 15, "after 4 and before 5"; 5: slot not empty
+unfoldable pub attachOf : State → ℕ → ℕ → ℕ → ℕ → ℕ → Reply
+attachOf s slot file pace start last =
     cond (noSlot slot) (refused s 2)
     (cond (noFile s file) (refused s 3)
     (cond (not (within 1 1000 pace)) (refused s 4)
-    (byCondition (readerAt s slot .condition) (reply (withReader s slot (docked file pace)) Done) (refused s 5) (refused s 5))))
+    (cond (noRange s file start last) (refused s 15)
+    (byCondition (readerAt s slot .condition) (reply (withReader s slot (docked file pace start last)) Done) (refused s 5) (refused s 5)))))
 
 -- ---- Read
 
--- "in this order: position equals size, Z; page c + 1 cached, H, and c grows by 1; in fetch, W, and the reader waits; else F, it is put in fetch and the
--- reader waits"
+-- "in this order: position equals size [A.1: the last page], Z; page c + 1 cached, H, and c grows by 1; in fetch, W, and the reader waits; else F, it is
+-- put in fetch and the reader waits"
 unfoldable pub readRunning : State → ℕ → Reader → Reply
 readRunning s slot r =
-    cond (eqb (r .position) (lastPage (s .sizes) r)) (reply s End)
+    cond (eqb (r .position) (r .last)) (reply s End)
     (cond (cached s (nextKey r)) (reply (withReader s slot (onward r)) (Hit (r .file) (r .position + 1)))
     (cond (inFetch s (nextKey r)) (reply (withReader s slot (inCondition Waiting r)) (Wait (r .file) (r .position + 1)))
     (reply (withFetch (withReader s slot (inCondition Waiting r)) (nextKey r)) (Fetch (r .file) (r .position + 1)))))

@@ -58,9 +58,9 @@ carriedOut Arrived = true
 carriedOut (Replaced file page) = true
 carriedOut (Ran fetches reads) = true
 
--- "Attach, Detach, Read, Arrive, Lost, Prefetch, Steal, Run", with their numbers
+-- "Attach, Detach, Read, Arrive, Lost, Prefetch, Steal, Run", with their numbers; A.1: Attach has the start and the last page "at their end"
 pub data Call : Type 0 where
-  attach : ℕ → ℕ → ℕ → Call
+  attach : ℕ → ℕ → ℕ → ℕ → ℕ → Call
   detach : ℕ → Call
   read : ℕ → Call
   arrive : ℕ → ℕ → Call
@@ -70,7 +70,7 @@ pub data Call : Type 0 where
   run : ℕ → Call
 
 abbrev pub callOf : Call → State → Reply
-callOf (attach slot file pace) s = attachOf s slot file pace
+callOf (attach slot file pace start last) s = attachOf s slot file pace start last
 callOf (detach slot) s = detachOf s slot
 callOf (read slot) s = readOf s slot
 callOf (arrive file page) s = arriveOf s file page

@@ -1,4 +1,4 @@
--- Save and Restore: 01, "Calls". Assumes nothing: these are definitions.
+-- Save and Restore: 01, "Calls", with the last pages of A.1. Assumes nothing: these are definitions.
 use Prim.Native.Nat.{ℕ, zero, suc, _+_, _*_, _/_, _%_}
 use mathlib.Core.Bool.{Bool, not, cond, _&&_, _||_}
 use mathlib.Core.List.{List, [], _∷_, _++_, map}
@@ -6,7 +6,7 @@ use lib.ListN.{getD, length, take, drop}
 use lib.Dec.{leb, ltb, eqb}
 use Rattle.rules.specs.Lists.{range, each, every, within}
 use Rattle.rules.specs.Pages.{size, fileOf, pageOf, cached, inFetch, cachedPages}
-use Rattle.rules.specs.Readers.{byCondition, lastPage, awaits}
+use Rattle.rules.specs.Readers.{byCondition, awaits}
 use Rattle.rules.specs.Calls.{reply, refused, settingsIn, idle, noFile}
 use Rattle.rules.specs.declared.State.{State}
 use Rattle.rules.specs.declared.Reader.{Reader}
@@ -30,10 +30,10 @@ field width value = record { width = width; value = value }
 abbrev pub conditionNumber : Condition → ℕ
 conditionNumber c = byCondition c 0 1 2
 
--- "8 bytes (condition ..; file; pace 2; position 2; two of 0)"
+-- "8 bytes (condition ..; file; pace 2; position 2; two of 0)"; A.1: "The two 0 bytes of a reader in the image hold the last page"
 abbrev pub readerFields : Reader → List Field
 readerFields r =
-    field 1 (conditionNumber (r .condition)) ∷ field 1 (r .file) ∷ field 2 (r .pace) ∷ field 2 (r .position) ∷ field 2 0 ∷ []
+    field 1 (conditionNumber (r .condition)) ∷ field 1 (r .file) ∷ field 2 (r .pace) ∷ field 2 (r .position) ∷ field 2 (r .last) ∷ []
 
 -- the fields behind those of 01: the image grows at its end
 abbrev pub tail : State → List Field
@@ -101,6 +101,13 @@ conditionOf (suc (suc n)) = Waiting
 abbrev pub readerNumber : List ℕ → ℕ → ℕ → ℕ
 readerNumber numbers slot i = getD numbers (13 + 5 * slot + i) 0
 
+-- A.1: "0 there, in an old image, means the file's size": the last page of a slot, which is taken where its condition is not 0
+abbrev pub lastFrom : List ℕ → ℕ → ℕ
+lastFrom numbers slot =
+    cond (not (eqb (readerNumber numbers slot 0) 0) && eqb (readerNumber numbers slot 4) 0)
+    (getD (take 8 (drop 5 numbers)) (readerNumber numbers slot 1) 0)
+    (readerNumber numbers slot 4)
+
 abbrev pub readerFrom : List ℕ → ℕ → Reader
 readerFrom numbers slot =
     record {
@@ -108,6 +115,7 @@ readerFrom numbers slot =
       file = readerNumber numbers slot 1;
       pace = readerNumber numbers slot 2;
       position = readerNumber numbers slot 3;
+      last = lastFrom numbers slot;
     }
 
 -- the state that the table's numbers are of
@@ -124,21 +132,19 @@ stateFrom numbers =
       fetching = take 128 (drop 222 numbers);
     }
 
--- "a file of size 0, a position above the size", file and pace in range
+-- "a file of size 0", file and pace in range; A.1: "A last page above the size or below the position .. gets 13"
 unfoldable pub readerPlaced : State → Reader → Bool
-readerPlaced s r = not (noFile s (r .file)) && (within 1 1000 (r .pace) && leb (r .position) (lastPage (s .sizes) r))
+readerPlaced s r = not (noFile s (r .file)) && (within 1 1000 (r .pace) && (within 1 (size s (r .file)) (r .last) && leb (r .position) (r .last)))
 
--- "an empty slot not all 0", "a waiting reader whose next page is not in fetch"
+-- "an empty slot not all 0", "a waiting reader whose next page is not in fetch"; A.1: "or a waiting reader at" its last page
 unfoldable pub readerHolds : State → Reader → Bool
 readerHolds s r =
-    byCondition (r .condition) (eqb (r .file) 0 && (eqb (r .pace) 0 && eqb (r .position) 0)) (readerPlaced s r)
+    byCondition (r .condition) (eqb (r .file) 0 && (eqb (r .pace) 0 && (eqb (r .position) 0 && eqb (r .last) 0))) (readerPlaced s r)
     (readerPlaced s r && awaits s r)
 
--- a slot's record, its condition in range and its two 0 bytes 0
+-- a slot's record, its condition in range
 unfoldable pub slotHolds : List ℕ → ℕ → Bool
-slotHolds numbers slot =
-    within 0 2 (readerNumber numbers slot 0)
-    && (readerHolds (stateFrom numbers) (readerFrom numbers slot) && eqb (readerNumber numbers slot 4) 0)
+slotHolds numbers slot = within 0 2 (readerNumber numbers slot 0) && readerHolds (stateFrom numbers) (readerFrom numbers slot)
 
 -- "a bit above the size, a page in both maps"
 unfoldable pub keyHolds : State → ℕ → Bool
@@ -154,15 +160,26 @@ accepts numbers =
     && (leb (length (cachedPages (stateFrom numbers))) (stateFrom numbers .frames)
     && (eqb (getD numbers 2 0) 0 && eqb (getD numbers 93 0) 0)))))
 
--- an older image as one of today's length, which it would be saved back as. There is none yet.
-unfoldable pub upgraded : List ℕ → List ℕ
-upgraded image = image
-
 -- "13: another length, .. The idle state comes back"
-unfoldable pub restored : List ℕ → Reply
-restored image =
+unfoldable pub restoreOf : List ℕ → Reply
+restoreOf image =
     cond (eqb (length image) imageLength && accepts (imageNumbers image)) (reply (stateFrom (imageNumbers image)) Done) (refused idle 13)
 
--- the one Restore, of an image of any age
-unfoldable pub restoreOf : List ℕ → Reply
-restoreOf image = restored (upgraded image)
+-- ---- an accepted image, as it is saved back
+
+-- the five numbers of a slot, its last page filled in
+abbrev pub filledSlot : List ℕ → ℕ → List ℕ
+filledSlot numbers slot = take 4 (drop (13 + 5 * slot) numbers) ++ lastFrom numbers slot ∷ []
+
+-- the numbers of an image, the last pages filled in
+unfoldable pub filled : List ℕ → List ℕ
+filled numbers = take 13 numbers ++ (each (filledSlot numbers) (range 0 16) ++ drop 93 numbers)
+
+-- a table's fields with other numbers
+unfoldable pub refielded : List Field → List ℕ → List Field
+refielded [] numbers = []
+refielded (f ∷ fs) numbers = field (f .width) (getD numbers 0 0) ∷ refielded fs (drop 1 numbers)
+
+-- an image with its last pages filled in, and nothing else changed: A.1: "only such an image is saved back different"
+unfoldable pub upgraded : List ℕ → List ℕ
+upgraded image = encoded (refielded (layout idle) (filled (imageNumbers image)))

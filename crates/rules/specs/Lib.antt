@@ -1,4 +1,4 @@
--- The scope paper as definitions: a file for each part of it, in its order.
+-- The scope paper as definitions, a file for each part of it, in its order; what a request changed stands beside the rule that it changed.
 pub mod Views
 pub mod Lists
 pub mod Pages

@@ -120,11 +120,12 @@ shown s line = record { state = s; line = line }
 abbrev pub asks : ℕ → List ℕ → ℕ → ℕ → Bool
 asks first numbers wanted count = eqb first wanted && eqb (length numbers) count
 
--- "S setup, A attach, D detach, R read, I arrive, X lost, P prefetch, T steal, N run, L steal list, Q fetch list, C clusters"; "14: any other line"
+-- "S setup, A attach, D detach, R read, I arrive, X lost, P prefetch, T steal, N run, L steal list, Q fetch list, C clusters"; "14: any other line";
+-- A.1: the A line takes the start and the last page at its end
 unfoldable pub obeyed : State → ℕ → List ℕ → Response
 obeyed s c x =
     cond (asks c x (ascii "S") 11) (toldSetup s (setupOf (getD x 0 0) (getD x 1 0) (getD x 2 0) (drop 3 x)))
-    (cond (asks c x (ascii "A") 3) (told (attachOf s (getD x 0 0) (getD x 1 0) (getD x 2 0)))
+    (cond (asks c x (ascii "A") 5) (told (attachOf s (getD x 0 0) (getD x 1 0) (getD x 2 0) (getD x 3 0) (getD x 4 0)))
     (cond (asks c x (ascii "D") 1) (told (detachOf s (getD x 0 0)))
     (cond (asks c x (ascii "R") 1) (told (readOf s (getD x 0 0)))
     (cond (asks c x (ascii "I") 2) (told (arriveOf s (getD x 0 0) (getD x 1 0)))

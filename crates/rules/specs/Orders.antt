@@ -12,9 +12,9 @@ use Rattle.rules.specs.declared.State.{State}
 abbrev pub place : ℕ → ℕ
 place k = pageOf k * 8 + fileOf k
 
--- the first stretch: "pages that no reader of the file still has before it"
-unfoldable pub behindLast : State → List ℕ
-behindLast s = falling place (only (λ k. cached s k && not (ahead s k)) (pages s))
+-- the first stretch: "pages that no reader of the file still has before it"; A.1: "A page ahead of no reader of its file stands in the first stretch"
+unfoldable pub notAhead : State → List ℕ
+notAhead s = falling place (only (λ k. cached s k && not (ahead s k)) (pages s))
 
 -- the second: "pages ahead of some reader but in no look-ahead"
 unfoldable pub notSeen : State → List ℕ
@@ -26,7 +26,7 @@ useTime s = falling (useKey s) (only (λ k. cached s k && seen s k) (pages s))
 
 -- "The steal order is all cached pages, each once, in three stretches"
 unfoldable pub stealOrder : State → List ℕ
-stealOrder s = behindLast s ++ (notSeen s ++ useTime s)
+stealOrder s = notAhead s ++ (notSeen s ++ useTime s)
 
 -- neither cached nor in fetch
 abbrev pub absent : State → ℕ → Bool

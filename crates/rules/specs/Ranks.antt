@@ -9,7 +9,7 @@ use lib.Dec.{T}
 use Rattle.bits.specs.Map.{on, lastBit}
 use Rattle.rules.specs.Lists.{only, head}
 use Rattle.rules.specs.Pages.{fileOf, pageOf, keyOf, cached}
-use Rattle.rules.specs.Readers.{readerAt, attached, lastPage}
+use Rattle.rules.specs.Readers.{readerAt, attached}
 use Rattle.rules.specs.UseTimes.{before, present, sees, never, useFor, useKey, ahead, seen}
 use Rattle.rules.specs.Orders.{place, stealOrder, absent}
 use Rattle.rules.specs.declared.State.{State}
@@ -22,11 +22,11 @@ abbrev pub Presents : State → List ℕ → Type 0
 Presents s words = (k : ℕ) → present s k ≡ on words k
 
 -- `before`, in its parts
-pub record Before (s : State) (r : Reader) (k : ℕ) : Type 0 where
+pub record Before (r : Reader) (k : ℕ) : Type 0 where
   pub here : T (attached r)
   pub of-file : r .file ≡ fileOf k
   pub past : r .position < pageOf k
-  pub in-file : pageOf k ≤ lastPage (s .sizes) r
+  pub in-reach : pageOf k ≤ r .last
 
 -- ---- the steal order
 
@@ -58,9 +58,9 @@ AtMost s b f n = 0 < lastCached s f n → rank s (keyOf f (lastCached s f n)) �
 
 -- k is the first absent page that the reader has before it
 pub record FirstAbsent (s : State) (r : Reader) (k : ℕ) : Type 0 where
-  pub ahead-of : T (before s r k)
+  pub ahead-of : T (before r k)
   pub lacking : T (absent s k)
-  pub first : (i : ℕ) → T (before s r i) → pageOf i < pageOf k → T (absent s i) → ⊥
+  pub first : (i : ℕ) → T (before r i) → pageOf i < pageOf k → T (absent s i) → ⊥
 
 -- slot j's first absent page, if the slot sees it, has for the slot a key of at least b
 abbrev pub AtLeast : State → ℕ → ℕ → Type 0

@@ -1,4 +1,4 @@
--- Readers: 01, "State". Assumes nothing: these are definitions.
+-- Readers: 01, "State", with the last page of A.1. Assumes nothing: these are definitions.
 use Prim.Native.Nat.{ℕ, _+_}
 use mathlib.Core.Bool.{Bool, true, false, _&&_}
 use mathlib.Core.List.{List}
@@ -12,7 +12,7 @@ use Rattle.rules.specs.declared.Condition.the-variants.{Empty, Running, 
 
 -- an empty slot's record, all 0
 abbrev pub noReader : Reader
-noReader = record { condition = Empty; file = 0; pace = 0; position = 0 }
+noReader = record { condition = Empty; file = 0; pace = 0; position = 0; last = 0 }
 
 -- the record of a slot
 abbrev pub readerIn : List Reader → ℕ → Reader
@@ -35,21 +35,17 @@ attached r = byCondition (r .condition) false true true
 abbrev pub readsFile : ℕ → Reader → Bool
 readsFile f r = attached r && eqb (r .file) f
 
--- the page at which the reader is at its end: its file's size
-abbrev pub lastPage : List ℕ → Reader → ℕ
-lastPage sizes r = getD sizes (r .file) 0
-
--- the key of page c + 1, which the reader reads next if its file has it
+-- the key of page c + 1, which the reader reads next unless it is at its last page
 abbrev pub nextKey : Reader → ℕ
 nextKey r = keyOf (r .file) (r .position + 1)
 
--- the reader has a next page, and it is in fetch
+-- the reader is not at its last page, and its next page is in fetch
 unfoldable pub awaits : State → Reader → Bool
-awaits s r = ltb (r .position) (lastPage (s .sizes) r) && inFetch s (nextKey r)
+awaits s r = ltb (r .position) (r .last) && inFetch s (nextKey r)
 
--- a reader with some parts changed: Read, Arrive and Lost make their readers by the two names below, and they by this record
+-- a reader with some parts changed: all that change one make it by the two names below, and they by this record
 abbrev rewritten : Reader → Condition → ℕ → Reader
-rewritten r condition position = record { condition = condition; file = r .file; pace = r .pace; position = position }
+rewritten r condition position = record { condition = condition; file = r .file; pace = r .pace; position = position; last = r .last }
 
 -- the record in another condition
 abbrev pub inCondition : Condition → Reader → Reader

@@ -6,7 +6,7 @@ use mathlib.Core.List.{List, [], _∷_, _++_}
 use lib.ListN.{set, length}
 use lib.Dec.{T, eqb}
 use Rattle.rules.specs.Pages.{cached}
-use Rattle.rules.specs.Readers.{readerIn, readerAt, attached, lastPage, nextKey, onward}
+use Rattle.rules.specs.Readers.{readerIn, readerAt, attached, nextKey, onward}
 use Rattle.rules.specs.Valid.{Valid}
 use Rattle.rules.specs.Run.{turnOf, fetchOpen}
 use Rattle.rules.specs.Schedules.{Set, Serves, fetchesIn}
@@ -15,37 +15,37 @@ use Rattle.rules.specs.declared.Reader.{Reader}
 use Rattle.rules.specs.declared.Answer.{Answer}
 use Rattle.rules.specs.declared.Answer.the-variants.{Ran}
 
--- "The look-ahead covers if L is at least w × size", of the reader's file
+-- "The look-ahead covers if L is at least w × size"; A.1: "with the size .. read as the last page of each attached reader"
 abbrev pub Covers : State → ℕ → Reader → Type 0
-Covers s w r = w * lastPage (s .sizes) r ≤ s .«look_ahead»
+Covers s w r = w * r .last ≤ s .«look_ahead»
 
--- the mission's premises: one pace w, fetch time 0, a look-ahead that covers each file being read, no open fetch
+-- the mission's premises: one pace w, fetch time 0, a look-ahead that covers up to each attached reader's last page (A.1), no open fetch
 pub record Premises (s : State) (w : ℕ) : Type 0 where
   pub one-pace : (j : ℕ) → T (attached (readerAt s j)) → readerAt s j .pace ≡ w
   pub no-time : s .«fetch_time» ≡ 0
   pub covers : (j : ℕ) → T (attached (readerAt s j)) → Covers s w (readerAt s j)
   pub none-open : fetchOpen s ≡ false
 
--- ---- the reads laid down, "worked out from readers, sizes and turn, and from nothing that is cached"
+-- ---- the reads laid down, "worked out from readers, sizes and turn, and from nothing that is cached"; the sizes are in the readers' last pages (A.1)
 
 -- "the turn's slot holds a reader not yet at the position where Read answers Z"
-unfoldable pub goes : List ℕ → Reader → Bool
-goes sizes r = attached r && not (eqb (r .position) (lastPage sizes r))
+unfoldable pub goes : Reader → Bool
+goes r = attached r && not (eqb (r .position) (r .last))
 
 -- "its position grows by 1"
-abbrev pub movedOn : List ℕ → List Reader → ℕ → List Reader
-movedOn sizes readers turn =
-    cond (goes sizes (readerIn readers turn)) (set readers turn (onward (readerIn readers turn))) readers
+abbrev pub movedOn : List Reader → ℕ → List Reader
+movedOn readers turn =
+    cond (goes (readerIn readers turn)) (set readers turn (onward (readerIn readers turn))) readers
 
 -- "and the page of that number in its file goes to the end of the list; otherwise nothing does. Then the turn grows by 1 modulo 16"
-unfoldable pub laidDown : ℕ → List ℕ → List Reader → ℕ → List ℕ
-laidDown zero sizes readers turn = []
-laidDown (suc n) sizes readers turn =
-    cond (goes sizes (readerIn readers turn)) (nextKey (readerIn readers turn) ∷ []) []
-    ++ laidDown n sizes (movedOn sizes readers turn) ((turn + 1) % 16)
+unfoldable pub laidDown : ℕ → List Reader → ℕ → List ℕ
+laidDown zero readers turn = []
+laidDown (suc n) readers turn =
+    cond (goes (readerIn readers turn)) (nextKey (readerIn readers turn) ∷ []) []
+    ++ laidDown n (movedOn readers turn) ((turn + 1) % 16)
 
 abbrev pub laid : ℕ → State → List ℕ
-laid n s = laidDown n (s .sizes) (s .readers) (s .turn)
+laid n s = laidDown n (s .readers) (s .turn)
 
 -- ---- what the run read and held
 
@@ -76,6 +76,7 @@ pub record Best (n : ℕ) (s : State) (fetches reads : ℕ) : Type 0 where
   -- the mission's claim: no schedule that serves the same reads fetches less
   pub least : (Bs : List Set) → Serves 8192 (s .frames) (laid n s) Bs → fetches ≤ fetchesIn 8192 (cached s) Bs
 
--- what Run's answer to n turns from s must be: "Its start is any state whose image Restore's rules accept; permitted are 0 to 16,384 turns"
+-- what Run's answer to n turns from s must be: "Its start is any state whose image Restore's rules accept; permitted are 0 to 16,384 turns". `Valid` are
+-- the states that Restore gives: since A.1 a last page of 0 is accepted in an image, and is the size in the state
 pub record ThirdStatement (n : ℕ) (s : State) (answer : Answer) : Type 0 where
   pub best : Valid s → (w : ℕ) → Premises s w → n ≤ 16384 → (fetches : ℕ) × (reads : ℕ) × (answer ≡ Ran fetches reads) × Best n s fetches reads

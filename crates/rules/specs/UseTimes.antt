@@ -1,16 +1,16 @@
--- Look-aheads, times and use keys: 01, "Use times". Assumes nothing: these are definitions.
+-- Look-aheads, times and use keys: 01, "Use times"; a look-ahead ends at the reader's last page (A.1). Assumes nothing: these are definitions.
 use Prim.Native.Nat.{ℕ, zero, suc, _+_, _*_, _-_, _/_, _%_}
 use mathlib.Core.Bool.{Bool, not, cond, _&&_}
 use lib.Dec.{leb, ltb, eqb}
 use Rattle.rules.specs.Lists.{some-of, least}
 use Rattle.rules.specs.Pages.{fileOf, pageOf, keyOf, cached}
-use Rattle.rules.specs.Readers.{readerAt, attached, lastPage}
+use Rattle.rules.specs.Readers.{readerAt, attached}
 use Rattle.rules.specs.declared.State.{State}
 use Rattle.rules.specs.declared.Reader.{Reader}
 
--- the reader still has page k before it: c < page, and page at most its last page
-unfoldable pub before : State → Reader → ℕ → Bool
-before s r k = attached r && (eqb (r .file) (fileOf k) && (ltb (r .position) (pageOf k) && leb (pageOf k) (lastPage (s .sizes) r)))
+-- the reader still has page k before it: c < page; and A.1: "a page beyond [its last page] is not ahead of that reader"
+unfoldable pub before : Reader → ℕ → Bool
+before r k = attached r && (eqb (r .file) (fileOf k) && (ltb (r .position) (pageOf k) && leb (pageOf k) (r .last)))
 
 -- j, where k is page c + j
 abbrev pub steps : Reader → ℕ → ℕ
@@ -33,9 +33,9 @@ between s r k = missing s (r .file) (r .position) (steps r k - 1)
 unfoldable pub pruned : State → ℕ → Bool
 pruned s q = ltb 0 (s .«fetch_time») && leb (s .«look_ahead» / s .«fetch_time») q
 
--- page k is in the reader's look-ahead: j from 1 to K, K being L divided by w, rounded down; c + j at most the last page; not pruned
+-- page k is in the reader's look-ahead: j from 1 to K, K being L divided by w, rounded down; A.1: c + j at most the last page; not pruned
 unfoldable pub sees : State → Reader → ℕ → Bool
-sees s r k = before s r k && (leb (steps r k) (s .«look_ahead» / r .pace) && not (pruned s (between s r k)))
+sees s r k = before r k && (leb (steps r k) (s .«look_ahead» / r .pace) && not (pruned s (between s r k)))
 
 -- "Its time for that reader is j × w + q × T"
 unfoldable pub timeFor : State → Reader → ℕ → ℕ
@@ -59,7 +59,7 @@ useKey s k = least 16 (useFor s k) never
 
 -- page k is ahead of some reader of its file
 unfoldable pub ahead : State → ℕ → Bool
-ahead s k = some-of 16 (λ slot. before s (readerAt s slot) k)
+ahead s k = some-of 16 (λ slot. before (readerAt s slot) k)
 
 -- page k is in a look-ahead
 unfoldable pub seen : State → ℕ → Bool

@@ -6,21 +6,23 @@ use mathlib.Core.List.{List}
 use lib.ListN.{getD, length}
 use lib.Dec.{T}
 use Rattle.rules.specs.Pages.{size, cached, inFetch, Page, cachedPages}
-use Rattle.rules.specs.Readers.{noReader, readerAt, lastPage, awaits}
+use Rattle.rules.specs.Readers.{noReader, readerAt, awaits}
 use Rattle.rules.specs.declared.State.{State}
 use Rattle.rules.specs.declared.Reader.{Reader}
 use Rattle.rules.specs.declared.Condition.{Condition}
 use Rattle.rules.specs.declared.Condition.the-variants.{Empty, Running, Waiting}
 
--- an attached reader: a file that is there, a pace of 1 to 1,000, a position in the file
+-- an attached reader: a file that is there, a pace of 1 to 1,000, a last page in the file (A.1), a position up to it
 pub record Placed (s : State) (r : Reader) : Type 0 where
   pub file-high : r .file < 8
   pub file-there : 1 ≤ size s (r .file)
   pub pace-low : 1 ≤ r .pace
   pub pace-high : r .pace ≤ 1000
-  pub position-in : r .position ≤ lastPage (s .sizes) r
+  pub last-low : 1 ≤ r .last
+  pub last-high : r .last ≤ size s (r .file)
+  pub position-in : r .position ≤ r .last
 
--- by condition: an empty slot is all 0, and a waiting reader's next page is in fetch
+-- by condition: an empty slot is all 0, and a waiting reader is not at its last page (A.1) and has its next page in fetch
 abbrev pub ReaderIn : Condition → State → Reader → Type 0
 ReaderIn Empty s r = r ≡ noReader
 ReaderIn Running s r = Placed s r

@@ -7,12 +7,13 @@ pub enum Condition {
     Waiting,
 }
 
-// A reader slot's record: the position is the last page read, the pace the ticks for a page.
+// A reader slot's record: the position is the last page read, the pace the ticks for a page, and the last page the one at which the reader is at its end.
 pub struct Reader {
     pub condition: Condition,
     pub file: u8,
     pub pace: u16,
     pub position: u16,
+    pub last: u16,
 }
 
 // The box. A map has one bit a page, at the page's key. A type of the rules: no function passes it.

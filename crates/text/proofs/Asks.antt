@@ -230,7 +230,7 @@ obeyed-many : (s : State) (c : ℕ) (x : List ℕ) → 11 < length x → obeyed 
 unfolding obeyed
 obeyed-many s c x h =
     let no : (n : ℕ) → n ≤ 11 → eqb (length x) n ≡ false = λ n. not-so-many x n h in
-    simp (no 11 (omega arith), no 3 (omega arith), no 2 (omega arith), no 1 (omega arith), no 0 (omega arith), and-false)
+    simp (no 11 (omega arith), no 5 (omega arith), no 2 (omega arith), no 1 (omega arith), no 0 (omega arith), and-false)
 
 -- a line is answered by its command
 pub responds : (s : State) (line : List ℕ)

@@ -184,7 +184,8 @@ fn seated(quay: Quay) -> State {
     state.fetch_time = quay.fetch_time;
     state.sizes.fill(quay.pages);
     for slot in 0..quay.readers {
-        let reader = Reader::running(slot % quay.files, 10, slot / quay.files * 55);
+        let (file, position) = (slot % quay.files, slot / quay.files * 55);
+        let reader = Reader::running(file, 10, position, quay.pages);
         state.readers.insert(slot, reader);
     }
     state

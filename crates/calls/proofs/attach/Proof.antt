@@ -1,17 +1,33 @@
 -- The rule's tests one after the other, and last the slot's condition.
+use Prim.Native.Nat.{_<_}
+use native.Mathlib.Omega.{arith}
 use borrow.Author.Needs.{needs}
-use Rattle.parts.proofs.Files.{file-fits}
-use Rattle.calls.proofs.Ranges.{within-fits}
-use Rattle.calls.proofs.Slots.{attach-stays, attach-no-slot, attach-no-file, attach-no-pace, attach-there}
+use lib.ListN.{getD}
+use Rattle.parts.proofs.Files.{file-high, file-fits}
+use Rattle.calls.proofs.Ranges.{within-fits, range-in}
+use Rattle.calls.proofs.Slots.{attach-stays, attach-no-slot, attach-no-file, attach-no-pace, attach-no-range, attach-there}
 use Rattle.calls.proofs.Outcomes.{answers}
 use Rattle.calls.proofs.attach.Statement.{statement}
 use Rattle.calls.proofs.attach.Tie as tie
+
+-- start and last page fit
+short : (c : tie.After-enum-told) →
+    let at-start = c .before .before .before .before .before .before .before .before .before .before .before in
+    (at-start .args .start < 65536) × (at-start .args .last < 65536)
+short c =
+    let else-4 = c .before .before .before in
+    let after-no-range = else-4 .before in
+    let at-start = after-no-range .before .before .before .before .before .before .before in
+    let a = at-start .args in
+    let size = getD (a .t1 .sizes) (a .file) 0 in
+    let last = after-no-range .no-range .ensures .1 (else-4 .if4 .left) in
+    (omega (arith, range-in (after-no-range .no-range .result) size (a .start) (a .last) (after-no-range .no-range .ensures .0) (else-4 .if4 .left)), last)
 
 refuse-requires : tie.Need-refuse-requires
 refuse-requires c κs = search needs
 
 returns : tie.Need-returns
-returns c = attach-stays _ _ _ _ _ (λ a b. rw (c .refuse .ensures) (search (attach-no-slot, needs) depth 12))
+returns c = attach-stays _ _ _ _ _ _ _ (λ a b. rw (c .refuse .ensures) (search (attach-no-slot, needs) depth 12))
 
 no-file-requires : tie.Need-no-file-requires
 no-file-requires c κs = search needs
@@ -20,7 +36,7 @@ refuse-requires-2 : tie.Need-refuse-requires-2
 refuse-requires-2 c κs = search needs
 
 returns-2 : tie.Need-returns-2
-returns-2 c = attach-stays _ _ _ _ _ (λ a b. rw (c .refuse2 .ensures) (search (attach-no-file, needs) depth 12))
+returns-2 c = attach-stays _ _ _ _ _ _ _ (λ a b. rw (c .refuse2 .ensures) (search (attach-no-file, needs) depth 12))
 
 within-requires : tie.Need-within-requires
 within-requires c κs = search needs
@@ -29,7 +45,29 @@ refuse-requires-3 : tie.Need-refuse-requires-3
 refuse-requires-3 c κs = search needs
 
 returns-3 : tie.Need-returns-3
-returns-3 c = attach-stays _ _ _ _ _ (λ a b. rw (c .refuse3 .ensures) (search (attach-no-pace, needs) depth 12))
+returns-3 c = attach-stays _ _ _ _ _ _ _ (λ a b. rw (c .refuse3 .ensures) (search (attach-no-pace, needs) depth 12))
+
+mul-size : tie.Need-mul-size
+mul-size c =
+    let else-2 = c .before .before in
+    let after-no-file = else-2 .before in
+    let at-start = after-no-file .before .before .before in
+    omega (
+      arith,
+      file-high (after-no-file .no-file .result) (at-start .args .t1 .sizes) (at-start .args .file) (after-no-file .no-file .ensures) (else-2 .if2 .left),
+    )
+
+array-read-size : tie.Need-array-read-size
+array-read-size c = search (file-high, needs)
+
+no-range-requires : tie.Need-no-range-requires
+no-range-requires c κs = search needs
+
+refuse-requires-4 : tie.Need-refuse-requires-4
+refuse-requires-4 c κs = search needs
+
+returns-4 : tie.Need-returns-4
+returns-4 c = attach-stays _ _ _ _ _ _ _ (λ a b. rw (c .refuse4 .ensures) (search (attach-no-range, needs) depth 12))
 
 mul-old : tie.Need-mul-old
 mul-old c = search needs
@@ -46,11 +84,17 @@ cast-docked c = search (file-fits, needs)
 cast-docked-2 : tie.Need-cast-docked-2
 cast-docked-2 c = search (within-fits, needs)
 
+cast-docked-3 : tie.Need-cast-docked-3
+cast-docked-3 c = omega (arith, short c)
+
+cast-docked-4 : tie.Need-cast-docked-4
+cast-docked-4 c = omega (arith, short c)
+
 docked-requires : tie.Need-docked-requires
 docked-requires c κs = search needs
 
-mul-t24 : tie.Need-mul-t24
-mul-t24 c = search needs
+mul-t36 : tie.Need-mul-t36
+mul-t36 c = search needs
 
 element-set-from-v : tie.Need-element-set-from-v
 element-set-from-v c = search needs
@@ -58,14 +102,14 @@ element-set-from-v c = search needs
 outcome-requires : tie.Need-outcome-requires
 outcome-requires c κs = search needs
 
-refuse-requires-4 : tie.Need-refuse-requires-4
-refuse-requires-4 c κs = search needs
-
-returns-4 : tie.Need-returns-4
-returns-4 c = attach-stays _ _ _ _ _ (λ a b. rw (c .outcome .ensures, c .before .docked .ensures) (search (attach-there, answers) depth 12))
+refuse-requires-5 : tie.Need-refuse-requires-5
+refuse-requires-5 c κs = search needs
 
 returns-5 : tie.Need-returns-5
-returns-5 c = attach-stays _ _ _ _ _ (λ a b. rw (c .refuse4 .ensures) (search (attach-there, answers) depth 12))
+returns-5 c = attach-stays _ _ _ _ _ _ _ (λ a b. rw (c .outcome .ensures, c .before .docked .ensures) (search (attach-there, answers) depth 12))
+
+returns-6 : tie.Need-returns-6
+returns-6 c = attach-stays _ _ _ _ _ _ _ (λ a b. rw (c .refuse5 .ensures) (search (attach-there, answers) depth 12))
 
 pub attach-spec : {M : Type 1} → statement M
 attach-spec =
@@ -79,15 +123,22 @@ attach-spec =
     within-requires
     refuse-requires-3
     returns-3
+    mul-size
+    array-read-size
+    no-range-requires
+    refuse-requires-4
+    returns-4
     mul-old
     element-copy-out-old
     enum-told
     cast-docked
     cast-docked-2
+    cast-docked-3
+    cast-docked-4
     docked-requires
-    mul-t24
+    mul-t36
     element-set-from-v
     outcome-requires
-    refuse-requires-4
-    returns-4
-    returns-5)
+    refuse-requires-5
+    returns-5
+    returns-6)

@@ -1,5 +1,9 @@
 -- The slot, and then its condition, as the rule has them.
+use mathlib.Core.Path.{refl}
+use native.Mathlib.Omega.{arith}
 use borrow.Author.Needs.{needs}
+use Rattle.rules.specs.Views.{stateOf}
+use Rattle.rules.specs.Readers.{readerIn}
 use Rattle.rules.specs.Calls.{readOf}
 use Rattle.rules.proofs.calls.Kept.{running-placed}
 use Rattle.calls.proofs.Slots.{read-stays}
@@ -32,7 +36,18 @@ enum-told-2 c = search needs
 read-running-requires : tie.Need-read-running-requires
 read-running-requires c κs =
     let at-start = c .before .before .before .before .before in
-    (running-placed _ (at-start .pre) _ (search needs), (at-start .pre .sizes-high _, search needs))
+    let a = at-start .args in
+    let old = running-placed (stateOf (a .t1) (a .cached .now) (a .fetching .now)) (at-start .pre) (a .slot) (search needs) in
+    (old .file-high, old .position-in, omega (arith, old .last-high, at-start .pre .sizes-high (readerIn (a .t1 .readers) (a .slot) .file)))
+
+mul-reader : tie.Need-mul-reader
+mul-reader c = search needs
+
+element-set-from-reader : tie.Need-element-set-from-reader
+element-set-from-reader c = search needs
+
+outcome-requires : tie.Need-outcome-requires
+outcome-requires c κs = search needs
 
 enum-told-3 : tie.Need-enum-told-3
 enum-told-3 c = search needs
@@ -46,7 +61,12 @@ returns-2 c = read-stays _ _ _ _ _ _ _ (rw (c .refuse2 .ensures) (search answers
 
 returns-3 : tie.Need-returns-3
 unfolding readOf
-returns-3 c = read-stays _ _ _ _ _ _ _ (rw (c .read-running .ensures) (search answers depth 12))
+returns-3 c =
+    let after-read-running = c .before .before in
+    let at-match = after-read-running .before .before .before in
+    let at-start = at-match .before .before .before in
+    read-stays _ _ _ _ _ _ _
+    (rw (c .outcome .ensures) (search (after-read-running .read-running .ensures (at-start .args .t1) _ refl, answers) depth 12))
 
 returns-4 : tie.Need-returns-4
 unfolding readOf
@@ -64,6 +84,9 @@ read-spec =
     refuse-requires-2
     enum-told-2
     read-running-requires
+    mul-reader
+    element-set-from-reader
+    outcome-requires
     enum-told-3
     refuse-requires-3
     returns-2

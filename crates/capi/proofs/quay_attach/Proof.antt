@@ -18,7 +18,7 @@ returns : tie.Need-returns
 returns c =
     let after-carried-out = c .before in
     let after-restore = after-carried-out .before in
-    entry-unrestored _ _ (after-restore .restore .ensures) _ (after-carried-out .carried-out .ensures) (attach _ _ _) (c .if1 .taken)
+    entry-unrestored _ _ (after-restore .restore .ensures) _ (after-carried-out .carried-out .ensures) (attach _ _ _ _ _) (c .if1 .taken)
 
 attach-requires : tie.Need-attach-requires
 attach-requires c κs = search needs
@@ -30,7 +30,7 @@ finish-requires c κs =
     let after-carried-out = else-1 .before in
     let after-restore = after-carried-out .before in
     let after-slice-known = after-restore .before .before .before .before in
-    entry-ready _ _ (after-restore .restore .ensures) _ (after-carried-out .carried-out .ensures) (attach _ _ _) (else-1 .if1 .left)
+    entry-ready _ _ (after-restore .restore .ensures) _ (after-carried-out .carried-out .ensures) (attach _ _ _ _ _) (else-1 .if1 .left)
     _ (after-attach .attach .ensures .0 _ _) (after-slice-known .slice-known .given)
 
 same-length-2 : tie.Need-same-length-2
@@ -43,7 +43,7 @@ returns-2 c =
     let else-1 = after-attach .before in
     let after-carried-out = else-1 .before in
     let after-restore = after-carried-out .before in
-    entry-restored _ _ (after-restore .restore .ensures) _ (after-carried-out .carried-out .ensures) (attach _ _ _) (else-1 .if1 .left)
+    entry-restored _ _ (after-restore .restore .ensures) _ (after-carried-out .carried-out .ensures) (attach _ _ _ _ _) (else-1 .if1 .left)
     _ (after-attach .attach .ensures .0 _ _) _ (after-finish .finish .ensures)
 
 pub quay-attach-spec : {M : Type 1} → statement M

@@ -1,15 +1,17 @@
 -- Invariant: the number kept is the page's rank as far as the readers passed tell. Measure: the seat reached, down the file's chain.
-use mathlib.Core.Path.{_≡_, refl, ap, subst, _∙_}
-use mathlib.Core.List.{List, []}
+use mathlib.Core.Path.{_≡_, refl, sym, ap, subst, _∙_}
+use mathlib.Core.Bool.{_&&_}
+use mathlib.Core.List.{List}
 use mathlib.Core.Logic.{⊎-elim}
 use Prim.Native.Nat.{ℕ, min, _+_, _-_, _*_, _/_, _%_, _≤_, _<_}
 use native.Mathlib.Omega.{arith}
 use borrow.Author.Needs.{needs}
-use lib.Dec.{T, eqb→eq}
+use lib.Dec.{T, leb, ltb, eqb→eq, ltb→lt, lt→ltb, leb→le, le→leb}
 use lib.ListN.{getD}
 use Rattle.rules.specs.Readers.{readerAt, attached, readerIn, readsFile}
 use Rattle.rules.specs.UseTimes.{before, never}
-use Rattle.rules.proofs.laws.Tests.{and-first, and-second}
+use Rattle.rules.proofs.laws.Tests.{and-both, and-first, and-second}
+use Rattle.rules.proofs.laws.Cases.{passed, failed}
 use Rattle.rules.specs.Ranks.{Presents, Before}
 use Rattle.rules.proofs.orders.LookAheads.{before-is, is-before}
 use Rattle.rules.specs.declared.Reader.{Reader}
@@ -17,7 +19,6 @@ use Rattle.rules.specs.Views.{stateOf}
 use Rattle.order.specs.Seats.{lastSeat}
 use Rattle.order.specs.Searches.{lower}
 use Rattle.order.proofs.Seating.{seat-is}
-use Rattle.order.proofs.Slots.{before-any}
 use Rattle.order.proofs.Sweeps.{Swept, swept-none, swept-not, swept-seat, swept-before, swept-all}
 use Rattle.order.proofs.rank_over.Statement.{statement}
 use Rattle.order.proofs.rank_over.Tie as tie
@@ -62,48 +63,70 @@ of-file c = eqb→eq _ _ (and-second (attached (reader c)) _ (sits c))
 position-is : (c : tie.After-position Inv-loop μ-loop) → getD (start c .args .seats .now) (slot c) 0 ≡ reader c .position
 position-is c = start c .pre .0 .1 .position (slot c) (low c) (here c)
 
+reach-is : (c : tie.After-position Inv-loop μ-loop) → getD (start c .args .seats .now) (56 + slot c) 0 ≡ reader c .last
+reach-is c = start c .pre .0 .1 .reach (slot c) (low c) (here c)
+
 -- the slot before the turn's
 next-is : (c : tie.After-position Inv-loop μ-loop)
     → getD (start c .args .seats .now) (32 + slot c) 0 ≡ lastSeat (start c .args .v .readers) (start c .args .key / 1024) (slot c)
 next-is c = start c .pre .0 .1 .next (slot c) (low c) (here c) ∙ ap (λ f. lastSeat (start c .args .v .readers) f (slot c)) (of-file c)
 
+-- both tests of the page pass
+both-pass : (a b c : ℕ) → T (ltb a b && leb b c) → (a < b) × (b ≤ c)
+both-pass a b c h = (ltb→lt a b (and-first (ltb a b) _ h), leb→le b c (and-second (ltb a b) _ h))
+
+-- so they do where both hold
+both-tests : (a b c : ℕ) → a < b → b ≤ c → T (ltb a b && leb b c)
+both-tests a b c l m = and-both (ltb a b) _ (lt→ltb a b l) (le→leb b c m)
+
 -- the turn's reader has the page before it
-ahead : (c : tie.Then1 Inv-loop μ-loop) → Before (stateOf (start (c .before) .args .v) [] []) (reader (c .before)) (start (c .before) .args .key)
+ahead : (c : tie.Then1 Inv-loop μ-loop) →
+    let after-position = c .before .before .before in
+    Before (reader after-position) (start after-position .args .key)
 ahead c =
-    let after-position = c .before in
+    let after-is-ahead = c .before in
+    let after-position = after-is-ahead .before .before in
+    let a = start after-position .args in
+    let seats = a .seats .now in
+    let page = a .key % 1024 + 1 in
+    let passes = both-pass (getD seats (slot after-position) 0) page (getD seats (56 + slot after-position) 0)
+    (passed _ (sym (after-is-ahead .is-ahead .ensures) ∙ c .if1 .taken)) in
     record {
       here = here after-position;
       of-file = of-file after-position;
-      past = omega (arith, position-is after-position, turn after-position .loop .inv .0);
-      in-file = rw (of-file after-position) (start after-position .pre .1 .there);
+      past = omega (arith, passes .0, position-is after-position);
+      in-reach = omega (arith, passes .1, reach-is after-position);
     }
 
 -- what the slots from the turn's on leave
 lower-is : (c : tie.After-lowered Inv-loop μ-loop) (p q : List ℕ) →
-    let after-position = c .before .before .before .before in
+    let after-position = c .before .before .before .before .before .before in
     Presents (stateOf (start after-position .args .v) p q) (start after-position .args .present .now)
     → Swept (stateOf (start after-position .args .v) p q) (start after-position .args .key) (slot after-position) (c .lowered .result)
 lower-is c p q shows =
     let after-lesser = c .before .before in
     let then-1 = after-lesser .before in
-    let after-position = then-1 .before in
+    let after-position = then-1 .before .before .before in
     let at-loop-test = after-position .before in
     let a = start after-position .args in
     let S = stateOf (a .v) p q in
     let e : slot after-position + 1 ≡ turn after-position .loop .at = omega (arith, at-loop-test .loop-test .taken) in
     swept-before S (a .key) (slot after-position) (turn after-position .loop .top) (c .lowered .result)
     (rw e (turn after-position .loop .inv .4 p q shows)) (low after-position)
-    (is-before S (reader after-position) (a .key) (before-any (a .v) (reader after-position) (a .key) [] [] p q (ahead then-1)))
+    (is-before (reader after-position) (a .key) (ahead then-1))
     (c .lowered .ensures p q shows
     ∙ ap (λ x. lower S (a .key) (slot after-position) x)
     (after-lesser .lesser .ensures
     ∙ ap (λ x. min (turn after-position .loop .top) (never + x))
     (turn after-position .loop .inv .1 ∙ ap (λ x. x * 8 + a .key / 1024) (turn after-position .loop .inv .0))))
 
-left : (c : tie.Joined1 Inv-loop μ-loop) (p q : List ℕ) → Presents (stateOf (start (c .before) .args .v) p q) (start (c .before) .args .present .now)
-    → Swept (stateOf (start (c .before) .args .v) p q) (start (c .before) .args .key) (slot (c .before)) (c .if1 .top)
+left : (c : tie.Joined1 Inv-loop μ-loop) (p q : List ℕ) →
+    let after-position = c .before .before .before in
+    Presents (stateOf (start after-position .args .v) p q) (start after-position .args .present .now)
+    → Swept (stateOf (start after-position .args .v) p q) (start after-position .args .key) (slot after-position) (c .if1 .top)
 left c p q shows =
-    let after-position = c .before in
+    let after-is-ahead = c .before in
+    let after-position = after-is-ahead .before .before in
     let a = start after-position .args in
     let S = stateOf (a .v) p q in
     let at-loop = turn after-position .loop in
@@ -112,15 +135,17 @@ left c p q shows =
     rw (w .5)
     (lower-is
     record {
-      before = record { before = record { before = record { before = after-position; if1 = w .0 }; lesser = w .1 }; lowered-arg = w .2 };
+      before = record { before = record { before = record { before = after-is-ahead; if1 = w .0 }; lesser = w .1 }; lowered-arg = w .2 };
       lowered = w .3;
     } p q shows))
     (λ w.
     rw (w .1)
     (swept-not S (a .key) (at-loop .at) (slot after-position) (at-loop .top) (at-loop .inv .4 p q shows) (λ i l u b.
     let e : i ≡ slot after-position = omega arith in
-    let past = before-is S (reader after-position) (a .key) (subst (λ i. T (before S (readerAt S i) (a .key))) e b) .past in
-    omega (arith, past, w .0 .left, position-is after-position, at-loop .inv .0))))
+    let q = before-is (reader after-position) (a .key) (subst (λ i. T (before (readerAt S i) (a .key))) e b) in
+    failed _ (sym (after-is-ahead .is-ahead .ensures) ∙ w .0 .left)
+    (both-tests (getD (a .seats .now) (slot after-position) 0) (a .key % 1024 + 1) (getD (a .seats .now) (56 + slot after-position) 0)
+    (omega (arith, q .past, position-is after-position)) (omega (arith, q .in-reach, reach-is after-position))))))
     (c .if1 .came)
 
 -- the first slot
@@ -176,8 +201,17 @@ mul-position c = search needs
 element-copy-out-position : tie.Need-element-copy-out-position Inv-loop μ-loop
 element-copy-out-position c = search needs
 
-cast-if1 : tie.Need-cast-if1 Inv-loop μ-loop
-cast-if1 c = omega (arith, position-is c, start c .pre .0 .0 .position-high (slot c) (here c))
+add-is-ahead : tie.Need-add-is-ahead Inv-loop μ-loop
+add-is-ahead c = search needs
+
+mul-is-ahead : tie.Need-mul-is-ahead Inv-loop μ-loop
+mul-is-ahead c = search needs
+
+element-copy-out-is-ahead : tie.Need-element-copy-out-is-ahead Inv-loop μ-loop
+element-copy-out-is-ahead c = search needs
+
+is-ahead-requires : tie.Need-is-ahead-requires Inv-loop μ-loop
+is-ahead-requires c κs = search needs
 
 add-lesser : tie.Need-add-lesser Inv-loop μ-loop
 add-lesser c = search needs
@@ -197,7 +231,7 @@ element-copy-out-lowered c = search needs
 lowered-requires : tie.Need-lowered-requires Inv-loop μ-loop
 lowered-requires c κs =
     let then-1 = c .before .before in
-    let after-position = then-1 .before in (
+    let after-position = then-1 .before .before .before in (
       start after-position .pre .0 .0,
       (
         (low after-position, start after-position .pre .1 .low),
@@ -225,12 +259,12 @@ element-copy-out-at-2 c = search needs
 
 cast-at-2 : tie.Need-cast-at-2 Inv-loop μ-loop
 cast-at-2 c =
-    let after-position = c .before .before in
+    let after-position = c .before .before .before .before in
     omega (arith, next-is after-position, seat-is (start after-position .args .v .readers) (start after-position .args .key / 1024) (slot after-position))
 
 loop-less : tie.Need-loop-less Inv-loop μ-loop
 loop-less c =
-    let after-position = c .before .before in
+    let after-position = c .before .before .before .before in
     let at-loop-test = after-position .before in
     omega (
       arith,
@@ -242,7 +276,7 @@ loop-less c =
 loop-again : tie.Need-loop-again Inv-loop μ-loop
 loop-again c =
     let joined-1 = c .before in
-    let after-position = joined-1 .before in
+    let after-position = joined-1 .before .before .before in
     let a = start after-position .args in
     let n = seat-is (a .v .readers) (a .key / 1024) (slot after-position) in (
       turn after-position .loop .inv .0,
@@ -283,7 +317,10 @@ rank-over-spec =
     sub-slot
     mul-position
     element-copy-out-position
-    cast-if1
+    add-is-ahead
+    mul-is-ahead
+    element-copy-out-is-ahead
+    is-ahead-requires
     add-lesser
     lesser-requires
     add-lowered

@@ -1,12 +1,11 @@
 -- By cases: the slot has no reader; the reader lacks no page; its first absent page is used sooner than the best, or is not.
-use mathlib.Core.Path.{_≡_, refl, sym, _∙_}
-use mathlib.Core.List.{[]}
+use mathlib.Core.Path.{_≡_, sym, ap, subst, _∙_}
 use Prim.Native.Nat.{_+_, _-_, _*_, _≤_, _<_}
 use native.Mathlib.Omega.{arith}
 use borrow.Author.Needs.{needs}
 use borrow.Author.Tests.{not-true, not-false}
 use lib.Dec.{T}
-use Rattle.rules.specs.Readers.{attached, lastPage, readerIn}
+use Rattle.rules.specs.Readers.{attached, readerIn}
 use Rattle.rules.specs.Valid.{Placed}
 use Rattle.rules.proofs.laws.Cases.{passed, failed}
 use Rattle.rules.proofs.calls.Valids.{placed-at}
@@ -18,83 +17,82 @@ use Rattle.rules.specs.declared.Reader.{Reader}
 use Rattle.rules.specs.Views.{stateOf}
 use Rattle.order.specs.Absent.{nextAbsent}
 use Rattle.order.proofs.Ranges.{valid-ranged}
-use Rattle.order.proofs.Slots.{before-any, lower-least}
+use Rattle.order.proofs.Slots.{lower-least}
 use Rattle.order.proofs.Searching.{none-absent, first-absent, soonest-keep, soonest-take}
 use Rattle.order.proofs.sooner.Statement.{statement}
 use Rattle.order.proofs.sooner.Tie as tie
 
 abbrev at : tie.Start → State
-at c = stateOf (c .args .t1) (c .args .cached .now) (c .args .fetching .now)
+at c = stateOf (c .args .v) (c .args .cached .now) (c .args .fetching .now)
 
 -- the slot has a reader
 here : (c : tie.Else1) →
-    let at-start = c .before .before .before in
-    T (attached (readerIn (at-start .args .t1 .readers) (at-start .args .slot)))
+    let at-start = c .before .before in
+    T (attached (at-start .args .r))
 here c = passed _ (sym (c .before .is-attached .ensures) ∙ not-false _ (c .if1 .left))
 
 placed : (c : tie.Else1) →
-    let at-start = c .before .before .before in
-    Placed (at at-start) (readerIn (at-start .args .t1 .readers) (at-start .args .slot))
+    let at-start = c .before .before in
+    Placed (at at-start) (at-start .args .r)
 placed c =
-    let at-start = c .before .before .before in
-    placed-at (at at-start) (at-start .pre .0) (at-start .args .slot) (here c)
+    let at-start = c .before .before in
+    let e = at-start .pre .1 .1 .1 .1 in
+    rw e (placed-at (at at-start) (at-start .pre .0) (at-start .args .slot) (rw (sym e) (here c)))
 
 -- its last page
 last-high : (c : tie.Else1) →
-    let at-start = c .before .before .before in
-    lastPage (at-start .args .t1 .sizes) (readerIn (at-start .args .t1 .readers) (at-start .args .slot)) ≤ 1024
+    let at-start = c .before .before in
+    at-start .args .r .last ≤ 1024
 last-high c =
-    let at-start = c .before .before .before in
-    at-start .pre .0 .sizes-high (readerIn (at-start .args .t1 .readers) (at-start .args .slot) .file)
+    let at-start = c .before .before in
+    omega (arith, placed c .last-high, at-start .pre .0 .sizes-high (at-start .args .r .file))
 
 -- the places, back from where the last page is known
-abbrev attached-at : tie.After-last-page → tie.Else1
-attached-at c = c .before .before .before .before
+abbrev attached-at : tie.After-struct-known3 → tie.Else1
+attached-at c = c .before .before .before
 
-abbrev start : tie.After-last-page → tie.Start
-start c = attached-at c .before .before .before
+abbrev start : tie.After-struct-known3 → tie.Start
+start c = attached-at c .before .before
 
-abbrev reader : tie.After-last-page → Reader
-reader c = readerIn (start c .args .t1 .readers) (start c .args .slot)
+abbrev reader : tie.After-struct-known3 → Reader
+reader c = start c .args .r
+
+-- it is the slot's
+slot-reader : (c : tie.After-struct-known3) → reader c ≡ readerIn (start c .args .v .readers) (start c .args .slot)
+slot-reader c = start c .pre .1 .1 .1 .1
 
 -- where the search for an absent page ended
 found : (c : tie.After-next-absent)
     → c .next-absent .result ≡ nextAbsent (start (c .before) .args .cached .now) (start (c .before) .args .fetching .now)
     (reader (c .before) .file * 1024 + reader (c .before) .position)
-    (lastPage (start (c .before) .args .t1 .sizes) (reader (c .before)) - reader (c .before) .position)
-found c = rw (c .before .last-page .ensures) at (c .next-absent .ensures)
+    (reader (c .before) .last - reader (c .before) .position)
+found c = c .next-absent .ensures
 
 -- the page found
 lacks : (c : tie.Else2) →
     let after-next-absent = c .before in
-    let after-last-page = after-next-absent .before in
-    FirstAbsent (at (start after-last-page)) (reader after-last-page) (after-next-absent .next-absent .result)
+    let after-last = after-next-absent .before in
+    FirstAbsent (at (start after-last)) (reader after-last) (after-next-absent .next-absent .result)
 lacks c =
     let after-next-absent = c .before in
-    let after-last-page = after-next-absent .before in
-    first-absent (at (start after-last-page)) (start after-last-page .pre .0) (reader after-last-page)
-    (here (attached-at after-last-page)) (after-next-absent .next-absent .result) (found after-next-absent)
-    (λ e. c .if2 .left (rw (after-last-page .last-page .ensures) e)) (placed (attached-at after-last-page) .position-in)
+    let after-last = after-next-absent .before in
+    first-absent (at (start after-last)) (reader after-last)
+    (here (attached-at after-last)) (after-next-absent .next-absent .result) (found after-next-absent)
+    (c .if2 .left) (placed (attached-at after-last) .position-in) (last-high (attached-at after-last))
 
 ahead : (c : tie.Else2) →
     let after-next-absent = c .before in
-    let after-last-page = after-next-absent .before in
-    Before (at (start after-last-page)) (reader after-last-page) (after-next-absent .next-absent .result)
+    let after-last = after-next-absent .before in
+    Before (reader after-last) (after-next-absent .next-absent .result)
 ahead c =
     let after-next-absent = c .before in
-    let after-last-page = after-next-absent .before in
-    before-is (at (start after-last-page)) (reader after-last-page) (after-next-absent .next-absent .result) (lacks c .ahead-of)
+    let after-last = after-next-absent .before in
+    before-is (reader after-last) (after-next-absent .next-absent .result) (lacks c .ahead-of)
 
 small : (c : tie.Else2) → c .before .next-absent .result < 8192
 small c =
-    let after-last-page = c .before .before in
-    omega (arith, ahead c, placed (attached-at after-last-page))
-
-mul-r : tie.Need-mul-r
-mul-r c = search needs
-
-element-copy-out-r : tie.Need-element-copy-out-r
-element-copy-out-r c = search needs
+    let after-last = c .before .before in
+    omega (arith, ahead c, placed (attached-at after-last))
 
 is-attached-requires : tie.Need-is-attached-requires
 is-attached-requires c κs = search needs
@@ -102,20 +100,16 @@ is-attached-requires c κs = search needs
 returns : tie.Need-returns
 returns c =
     let after-is-attached = c .before in
-    let at-start = after-is-attached .before .before in
-    soonest-keep (at at-start) (at-start .args .slot) (at-start .args .best) (at-start .pre .1 .1 .1)
-    (λ h. absurd (failed _ (sym (after-is-attached .is-attached .ensures) ∙ not-true _ (c .if1 .taken)) h))
+    let at-start = after-is-attached .before in
+    soonest-keep (at at-start) (at-start .args .slot) (at-start .args .best) (at-start .pre .1 .1 .1 .0)
+    (λ h.
+    absurd (failed _ (sym (after-is-attached .is-attached .ensures) ∙ not-true _ (c .if1 .taken)) (rw (at-start .pre .1 .1 .1 .1) h)))
 
 cast-file : tie.Need-cast-file
 cast-file c = search needs
 
 cast-position : tie.Need-cast-position
 cast-position c = search needs
-
-last-page-requires : tie.Need-last-page-requires
-last-page-requires c κs =
-    let else-1 = c .before .before .before in
-    placed else-1 .file-high
 
 cast-last : tie.Need-cast-last
 cast-last c = search needs
@@ -141,31 +135,31 @@ add-if2 c = omega (arith, placed (attached-at (c .before)))
 returns-2 : tie.Need-returns-2
 returns-2 c =
     let after-next-absent = c .before in
-    let after-last-page = after-next-absent .before in
-    let s = start after-last-page in
-    soonest-keep (at s) (s .args .slot) (s .args .best) (s .pre .1 .1 .1)
+    let after-last = after-next-absent .before in
+    let s = start after-last in
+    soonest-keep (at s) (s .args .slot) (s .args .best) (s .pre .1 .1 .1 .0)
     (λ h k _ a.
-    absurd (none-absent (at s) (s .pre .0) (reader after-last-page) h (after-next-absent .next-absent .result) (found after-next-absent)
-    (rw (after-last-page .last-page .ensures) at (c .if2 .taken)) k a))
+    absurd (none-absent (at s) (reader after-last) (rw (slot-reader after-last) h) (after-next-absent .next-absent .result)
+    (found after-next-absent) (c .if2 .taken) k
+    (subst (λ q. FirstAbsent (at s) q k) (sym (slot-reader after-last)) a)))
 
 lowered-requires : tie.Need-lowered-requires
 lowered-requires c κs =
     let after-next-absent = c .before in
-    let after-last-page = after-next-absent .before in
-    let s = start after-last-page in (
+    let after-last = after-next-absent .before in
+    let s = start after-last in (
       valid-ranged (at s) (s .pre .0),
       (
         (s .pre .1 .1 .0, small c),
         (
-          (refl, refl),
-          before-any (s .args .t1) (reader after-last-page) (after-next-absent .next-absent .result) (s .args .cached .now)
-              (s .args .fetching .now) [] [] (ahead c),
+          (ap (λ q. q .position) (slot-reader after-last), ap (λ q. q .pace) (slot-reader after-last)),
+          rw (sym (slot-reader after-last)) (ahead c),
         ),
       ),
     )
 
-cast-t25 : tie.Need-cast-t25
-cast-t25 c =
+cast-t18 : tie.Need-cast-t18
+cast-t18 c =
     let else-2 = c .before .before .before in
     omega (arith, small else-2)
 
@@ -174,10 +168,10 @@ returns-3 c =
     let after-lowered = c .before .before in
     let else-2 = after-lowered .before in
     let after-next-absent = else-2 .before in
-    let after-last-page = after-next-absent .before in
-    let s = start after-last-page in
-    soonest-take (at s) (s .args .slot) (s .args .best) (s .pre .1 .1 .1) (after-next-absent .next-absent .result)
-    (after-lowered .lowered .result) (s .pre .1 .1 .0) (lacks else-2)
+    let after-last = after-next-absent .before in
+    let s = start after-last in
+    soonest-take (at s) (s .args .slot) (s .args .best) (s .pre .1 .1 .1 .0) (after-next-absent .next-absent .result)
+    (after-lowered .lowered .result) (s .pre .1 .1 .0) (rw (sym (slot-reader after-last)) (lacks else-2))
     (after-lowered .lowered .ensures (s .args .cached .now) (s .args .fetching .now) (s .pre .1 .0)) (c .if3 .taken)
 
 returns-4 : tie.Need-returns-4
@@ -185,29 +179,26 @@ returns-4 c =
     let after-lowered = c .before .before in
     let else-2 = after-lowered .before in
     let after-next-absent = else-2 .before in
-    let after-last-page = after-next-absent .before in
-    let s = start after-last-page in
+    let after-last = after-next-absent .before in
+    let s = start after-last in
     let k = after-next-absent .next-absent .result in
-    soonest-keep (at s) (s .args .slot) (s .args .best) (s .pre .1 .1 .1)
+    soonest-keep (at s) (s .args .slot) (s .args .best) (s .pre .1 .1 .1 .0)
     (λ _.
-    absent-least (at s) (s .args .best .value) (s .args .slot) k (lacks else-2)
+    absent-least (at s) (s .args .best .value) (s .args .slot) k (rw (sym (slot-reader after-last)) (lacks else-2))
     (omega (
       arith,
       after-lowered .lowered .ensures (s .args .cached .now) (s .args .fetching .now) (s .pre .1 .0),
-      lower-least (at s) k (s .args .slot) (s .args .best .value) (s .pre .1 .1 .1 .low),
+      lower-least (at s) k (s .args .slot) (s .args .best .value) (s .pre .1 .1 .1 .0 .low),
     )))
 
 pub sooner-spec : {M : Type 1} → statement M
 sooner-spec =
     tie.close
     (tie.spec
-    mul-r
-    element-copy-out-r
     is-attached-requires
     returns
     cast-file
     cast-position
-    last-page-requires
     cast-last
     mul-next-absent
     add-next-absent
@@ -217,6 +208,6 @@ sooner-spec =
     add-if2
     returns-2
     lowered-requires
-    cast-t25
+    cast-t18
     returns-3
     returns-4)

@@ -9,7 +9,7 @@ use lib.ListN.{getD, set, length, length-set}
 use lib.Dec.{T, ltb, eqb, not-T}
 use Rattle.bits.specs.Map.{putBit, on}
 use Rattle.rules.specs.Pages.{size, cached, inFetch, Page, cachedPages}
-use Rattle.rules.specs.Readers.{noReader, readerAt, lastPage, nextKey, awaits}
+use Rattle.rules.specs.Readers.{noReader, readerAt, nextKey, awaits}
 use Rattle.rules.specs.Valid.{Valid, Placed, ReaderIn, PageMap}
 use Rattle.rules.specs.Calls.{withTurn, withReaders, withCached, withFetching, withReader, withFetch, without}
 use Rattle.rules.specs.Schedules.{num, count}
@@ -73,6 +73,8 @@ module _ (s : State) (turn : ℕ) (readers : List Reader) (held fetching : List 
         file-there = p .file-there;
         pace-low = p .pace-low;
         pace-high = p .pace-high;
+        last-low = p .last-low;
+        last-high = p .last-high;
         position-in = p .position-in;
       }
 
@@ -82,7 +84,7 @@ module _ (s : State) (turn : ℕ) (readers : List Reader) (held fetching : List 
   reader-in Empty r w h = h
   reader-in Running r w h = placed-in r h
   reader-in Waiting r w h =
-      let short : Bool = ltb (r .position) (lastPage (s .sizes) r) in
+      let short : Bool = ltb (r .position) (r .last) in
       (placed-in r (h .0), and-both short _ (and-first short _ (h .1)) (w refl (and-second short _ (h .1))))
 
   -- turn, readers and maps that fit make a valid state

@@ -6,18 +6,20 @@ use mathlib.Core.List.{List, [], _∷_}
 use mathlib.Core.Option.{none}
 use native.Mathlib.Omega.{arith}
 use native.Mathlib.Nat.{zero-div}
-use borrow.Author.Tests.{eqb-false, not-false}
+use borrow.Author.Tests.{eqb-false, not-false, ltb-false}
 use lib.ListN.{getD, length, replicate, length-replicate}
 use lib.Dec.{T, T-not, eqb, ltb, lt→ltb}
 use Rattle.bits.specs.Map.{bit, on}
 use Rattle.rules.specs.Lists.{within, every, head}
-use Rattle.rules.specs.Pages.{fileOf, cached, inFetch, Page, cachedPages}
-use Rattle.rules.specs.Readers.{noReader, readerAt, attached, lastPage, nextKey, awaits, inCondition, onward}
+use Rattle.rules.specs.Pages.{size, fileOf, cached, inFetch, Page, cachedPages}
+use Rattle.rules.specs.Readers.{noReader, readerAt, attached, nextKey, awaits, inCondition, onward}
 use Rattle.rules.specs.Valid.{Valid, Placed, ReaderIn, PageMap}
 use Rattle.rules.specs.UseTimes.{seen}
 use Rattle.rules.specs.Orders.{wanted, fetchOrder}
 use Rattle.rules.specs.Calls.{
   noFile,
+  noPage,
+  noRange,
   withReader,
   withFetch,
   settingsIn,
@@ -42,7 +44,19 @@ use Rattle.rules.specs.declared.Reply.{Reply}
 use Rattle.rules.specs.declared.Condition.the-variants.{Running, Waiting}
 use Rattle.rules.proofs.laws.Tests.{and-both, and-first, and-second}
 use Rattle.rules.proofs.orders.Distinct.{victim-cached, fetch-wanted, wanted-page}
-use Rattle.rules.proofs.laws.Cases.{cond-all, condition-all, option-all, fetch-all, for-fetch-all, passed, failed, and-true, within-true, file-there}
+use Rattle.rules.proofs.laws.Cases.{
+  cond-all,
+  condition-all,
+  option-all,
+  fetch-all,
+  for-fetch-all,
+  passed,
+  failed,
+  and-true,
+  or-false,
+  within-true,
+  file-there,
+}
 use Rattle.rules.proofs.calls.Marks.{put-on}
 use Rattle.rules.proofs.calls.Changes.{none-cached, placed-in, turn-moved, reader-changed, fetch-opened, page-dropped}
 use Rattle.rules.proofs.calls.Landings.{placed-still, waiters-woken, landed-valid}
@@ -53,16 +67,27 @@ Keeps r = Valid (r .state)
 
 -- ---- Attach and Detach
 
-docked-in : (s : State) (file pace : ℕ) → noFile s file ≡ false → not (within 1 1000 pace) ≡ false → Placed s (docked file pace)
-docked-in s file pace f p =
+docked-in : (s : State) (file pace start last : ℕ) → noFile s file ≡ false → not (within 1 1000 pace) ≡ false → noRange s file start last ≡ false
+    → Placed s (docked file pace start last)
+docked-in s file pace start last f p e =
     let a = file-there s file f in
     let b = within-true 1 1000 pace (not-false (within 1 1000 pace) p) in
-    record { file-high = a .0; file-there = a .1; pace-low = b .0; pace-high = b .1; position-in = omega arith }
+    let c = or-false (noPage s file last) (ltb last start) e in
+    let d = within-true 1 (size s file) last (not-false (within 1 (size s file) last) (c .0)) in
+    record {
+      file-high = a .0;
+      file-there = a .1;
+      pace-low = b .0;
+      pace-high = b .1;
+      last-low = d .0;
+      last-high = d .1;
+      position-in = omega (arith, ltb-false last start (c .1));
+    }
 
 -- Attach keeps the state valid
-pub attach-kept : (s : State) (slot file pace : ℕ) → Valid s → Valid (attachOf s slot file pace .state)
+pub attach-kept : (s : State) (slot file pace start last : ℕ) → Valid s → Valid (attachOf s slot file pace start last .state)
 unfolding attachOf
-attach-kept s slot file pace v = search (cond-all Keeps, condition-all Keeps, reader-changed, docked-in) depth 12
+attach-kept s slot file pace start last v = search (cond-all Keeps, condition-all Keeps, reader-changed, docked-in) depth 12
 
 -- Detach keeps the state valid
 pub detach-kept : (s : State) (slot : ℕ) → Valid s → Valid (detachOf s slot .state)
@@ -72,18 +97,18 @@ detach-kept s slot v = search (cond-all Keeps, condition-all Keeps, reader-chang
 -- ---- Read
 
 -- a reader that is not at its end has a page before it
-pub next-page : (s : State) → Valid s → (r : Reader) → Placed s r → r .position < lastPage (s .sizes) r → Page s (nextKey r)
+pub next-page : (s : State) → Valid s → (r : Reader) → Placed s r → r .position < r .last → Page s (nextKey r)
 next-page s v r p h =
     let high = v .sizes-high (r .file) in
     let f : fileOf (nextKey r) ≡ r .file = omega (arith, p .file-high) in
-    record { low = omega (arith, p .file-high); there = rw f (omega arith) }
+    record { low = omega (arith, p .file-high); there = rw f (omega (arith, p .last-high)) }
 
 module _ (s : State) (v : Valid s) (slot : ℕ) (r : Reader) (p : Placed s r) where
-  not-at-end : eqb (r .position) (lastPage (s .sizes) r) ≡ false → r .position < lastPage (s .sizes) r
-  not-at-end ne = let h = eqb-false (r .position) (lastPage (s .sizes) r) ne in omega (arith, p .position-in)
+  not-at-end : eqb (r .position) (r .last) ≡ false → r .position < r .last
+  not-at-end ne = let h = eqb-false (r .position) (r .last) ne in omega (arith, p .position-in)
 
   -- H, W and F
-  hit-kept : r .condition ≡ Running → eqb (r .position) (lastPage (s .sizes) r) ≡ false → Valid (withReader s slot (onward r))
+  hit-kept : r .condition ≡ Running → eqb (r .position) (r .last) ≡ false → Valid (withReader s slot (onward r))
   hit-kept e ne =
       let l = not-at-end ne in
       let q : Placed s (onward r) = record {
@@ -91,17 +116,19 @@ module _ (s : State) (v : Valid s) (slot : ℕ) (r : Reader) (p : Placed s r) wh
         file-there = p .file-there;
         pace-low = p .pace-low;
         pace-high = p .pace-high;
+        last-low = p .last-low;
+        last-high = p .last-high;
         position-in = omega arith;
       } in
       reader-changed s v slot (onward r) (subst (λ c. ReaderIn c s (onward r)) (sym e) q)
 
-  wait-kept : eqb (r .position) (lastPage (s .sizes) r) ≡ false → T (inFetch s (nextKey r)) → Valid (withReader s slot (inCondition Waiting r))
+  wait-kept : eqb (r .position) (r .last) ≡ false → T (inFetch s (nextKey r)) → Valid (withReader s slot (inCondition Waiting r))
   unfolding awaits
   wait-kept ne f =
       reader-changed s v slot (inCondition Waiting r)
-      (placed-still Waiting s r p, and-both (ltb (r .position) (lastPage (s .sizes) r)) _ (lt→ltb _ _ (not-at-end ne)) f)
+      (placed-still Waiting s r p, and-both (ltb (r .position) (r .last)) _ (lt→ltb _ _ (not-at-end ne)) f)
 
-fetch-kept : (s : State) → Valid s → (slot : ℕ) (r : Reader) → Placed s r → eqb (r .position) (lastPage (s .sizes) r) ≡ false → cached s (nextKey r) ≡ false
+fetch-kept : (s : State) → Valid s → (slot : ℕ) (r : Reader) → Placed s r → eqb (r .position) (r .last) ≡ false → cached s (nextKey r) ≡ false
     → Valid (withFetch (withReader s slot (inCondition Waiting r)) (nextKey r))
 fetch-kept s v slot r p ne absent =
     let page = next-page s v r p (not-at-end s v slot r p ne) in
@@ -177,7 +204,7 @@ run-kept s turns v = search (cond-all Keeps, turns-kept) depth 12
 
 -- every call keeps the state valid
 pub kept : (c : Call) (s : State) → Valid s → Valid (callOf c s .state)
-kept (attach slot file pace) s v = attach-kept s slot file pace v
+kept (attach slot file pace start last) s v = attach-kept s slot file pace start last v
 kept (detach slot) s v = detach-kept s slot v
 kept (read slot) s v = read-kept s slot v
 kept (arrive file page) s v = arrive-kept s file page v

@@ -37,6 +37,8 @@ placed-still c s r p =
       file-there = p .file-there;
       pace-low = p .pace-low;
       pace-high = p .pace-high;
+      last-low = p .last-low;
+      last-high = p .last-high;
       position-in = p .position-in;
     }
 

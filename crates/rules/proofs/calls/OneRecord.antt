@@ -14,13 +14,13 @@ use Rattle.rules.proofs.laws.Cases.{cond-all, condition-all}
 
 -- the calls of a slot
 pub data SlotCall : Type 0 where
-  attaching : ℕ → ℕ → SlotCall
+  attaching : ℕ → ℕ → ℕ → ℕ → SlotCall
   reading : SlotCall
   detaching : SlotCall
 
 -- such a call at a slot
 abbrev pub callAt : SlotCall → ℕ → Call
-callAt (attaching file pace) slot = attach slot file pace
+callAt (attaching file pace start last) slot = attach slot file pace start last
 callAt reading slot = read slot
 callAt detaching slot = detach slot
 
@@ -56,6 +56,6 @@ One s slot r = ButSlot s slot (r .state)
 -- the three calls change no other record, no setting and not the cached map
 pub one-record : (c : SlotCall) (s : State) (slot : ℕ) → ButSlot s slot (callOf (callAt c slot) s .state)
 unfolding attachOf readOf readRunning detachOf
-one-record (attaching file pace) s slot = search (cond-all (One s slot), condition-all (One s slot), same-state, record-set) depth 12
+one-record (attaching file pace start last) s slot = search (cond-all (One s slot), condition-all (One s slot), same-state, record-set) depth 12
 one-record reading s slot = search (cond-all (One s slot), condition-all (One s slot), same-state, record-set) depth 12
 one-record detaching s slot = search (cond-all (One s slot), condition-all (One s slot), same-state, record-set) depth 12

@@ -20,7 +20,7 @@ member (m ∷ ms) n = eqb n m || member ms n
 
 -- the numbers with which a call is refused, in their order
 abbrev pub refusalsOf : Call → List ℕ
-refusalsOf (attach slot file pace) = 2 ∷ 3 ∷ 4 ∷ 5 ∷ []
+refusalsOf (attach slot file pace start last) = 2 ∷ 3 ∷ 4 ∷ 15 ∷ 5 ∷ []
 refusalsOf (detach slot) = 2 ∷ 6 ∷ []
 refusalsOf (read slot) = 2 ∷ 6 ∷ 7 ∷ []
 refusalsOf (arrive file page) = 3 ∷ 8 ∷ 9 ∷ []
@@ -44,8 +44,8 @@ fair-done s list r h n e = absurd (subst (λ a. T (carriedOut a)) e h)
 -- every call refuses with one of its numbers, and then changes nothing
 fair : (c : Call) (s : State) → Fair s (refusalsOf c) (callOf c s)
 unfolding attachOf detachOf readOf readRunning arriveOf lostOf prefetchOf stealOf runOf
-fair (attach slot file pace) s =
-    let F = Fair s (refusalsOf (attach slot file pace)) in search (cond-all F, condition-all F, fair-refused, fair-done, tt) depth 12
+fair (attach slot file pace start last) s =
+    let F = Fair s (refusalsOf (attach slot file pace start last)) in search (cond-all F, condition-all F, fair-refused, fair-done, tt) depth 12
 fair (detach slot) s = let F = Fair s (refusalsOf (detach slot)) in search (cond-all F, condition-all F, fair-refused, fair-done, tt) depth 12
 fair (read slot) s = let F = Fair s (refusalsOf (read slot)) in search (cond-all F, condition-all F, fair-refused, fair-done, tt) depth 12
 fair (arrive file page) s =

@@ -11,7 +11,7 @@ use Rattle.bits.specs.Map.{bit, digit}
 use Rattle.bits.proofs.Words.{digit-high}
 use Rattle.rules.specs.Lists.{range, every, within}
 use Rattle.rules.specs.Pages.{size, fileOf, pageOf, cached, inFetch, Page, cachedPages}
-use Rattle.rules.specs.Readers.{noReader, readerAt, byCondition, lastPage, awaits}
+use Rattle.rules.specs.Readers.{noReader, readerAt, byCondition, awaits}
 use Rattle.rules.specs.Valid.{Placed, ReaderIn, PageMap, Valid}
 use Rattle.rules.specs.Calls.{settingsIn}
 use Rattle.rules.specs.Image.{readerNumber, readerFrom, stateFrom, readerPlaced, readerHolds, slotHolds, keyHolds, accepts}
@@ -21,6 +21,8 @@ use Rattle.rules.proofs.laws.Indexed.{Always, always-take, always-drop,
 use Rattle.rules.proofs.images.Layouts.{
   condition-low,
   Lengths,
+  Lasts,
+  valid-lasts,
   valid-lengths,
   stateNumbers,
   slot-number,
@@ -92,12 +94,16 @@ module _ (s : State) (r : Reader) where
       let there = not-or (ltb 7 (r .file)) (eqb z 0) (and-first (not (ltb 7 (r .file) || eqb z 0)) _ h) in
       let rest = and-second (not (ltb 7 (r .file) || eqb z 0)) _ h in
       let pace = in-within 1 1000 (r .pace) (and-first (within 1 1000 (r .pace)) _ rest) in
+      let reach = and-second (within 1 1000 (r .pace)) _ rest in
+      let last = in-within 1 z (r .last) (and-first (within 1 z (r .last)) _ reach) in
       record {
         file-high = omega (arith, nltb→le 7 (r .file) (there .0));
         file-there = key z 0 (λ b. T (not b) → 1 ≤ z) (λ _ n. absurd n) (λ ne _. omega arith) (there .1);
         pace-low = pace .0;
         pace-high = pace .1;
-        position-in = leb→le (r .position) (lastPage (s .sizes) r) (and-second (within 1 1000 (r .pace)) _ rest);
+        last-low = last .0;
+        last-high = last .1;
+        position-in = leb→le (r .position) (r .last) (and-second (within 1 z (r .last)) _ reach);
       }
 
   in-placed : Placed s r → T (readerPlaced s r)
@@ -108,7 +114,7 @@ module _ (s : State) (r : Reader) where
       (less 7 (r .file) (λ b. T (not (b || eqb z 0))) (λ l. absurd (omega (arith, p .file-high)))
       (λ _. key z 0 (λ b. T (not b)) (λ e. absurd (omega (arith, p .file-there))) (λ _. tt)))
       (and-both (within 1 1000 (r .pace)) _ (within-in 1 1000 (r .pace) (p .pace-low) (p .pace-high))
-      (le→leb (r .position) (lastPage (s .sizes) r) (p .position-in)))
+      (and-both (within 1 z (r .last)) _ (within-in 1 z (r .last) (p .last-low) (p .last-high)) (le→leb (r .position) (r .last) (p .position-in))))
 
   -- the test of a record says what its condition asks
   pub reader-in : T (readerHolds s r) → ReaderIn (r .condition) s r
@@ -116,16 +122,19 @@ module _ (s : State) (r : Reader) where
   reader-in = go (r .condition) refl
     where
       go : (c : Condition) → r .condition ≡ c
-          → T (byCondition c (eqb (r .file) 0 && (eqb (r .pace) 0 && eqb (r .position) 0)) (readerPlaced s r) (readerPlaced s r && awaits s r))
+          → T (byCondition c (eqb (r .file) 0 && (eqb (r .pace) 0 && (eqb (r .position) 0 && eqb (r .last) 0))) (readerPlaced s r)
+          (readerPlaced s r && awaits s r))
           → ReaderIn c s r
       go Empty e h =
           let rest = and-second (eqb (r .file) 0) _ h in
+          let pages = and-second (eqb (r .pace) 0) _ rest in
           λ i.
           record {
             condition = e i;
             file = eqb→eq (r .file) 0 (and-first (eqb (r .file) 0) _ h) i;
             pace = eqb→eq (r .pace) 0 (and-first (eqb (r .pace) 0) _ rest) i;
-            position = eqb→eq (r .position) 0 (and-second (eqb (r .pace) 0) _ rest) i;
+            position = eqb→eq (r .position) 0 (and-first (eqb (r .position) 0) _ pages) i;
+            last = eqb→eq (r .last) 0 (and-second (eqb (r .position) 0) _ pages) i;
           }
       go Running e h = placed-in h
       go Waiting e h = (placed-in (and-first (readerPlaced s r) _ h), and-second (readerPlaced s r) _ h)
@@ -136,8 +145,9 @@ module _ (s : State) (r : Reader) where
   in-reader = go (r .condition)
     where
       go : (c : Condition) → ReaderIn c s r
-          → T (byCondition c (eqb (r .file) 0 && (eqb (r .pace) 0 && eqb (r .position) 0)) (readerPlaced s r) (readerPlaced s r && awaits s r))
-      go Empty e = subst (λ q. T (eqb (q .file) 0 && (eqb (q .pace) 0 && eqb (q .position) 0))) (sym e) tt
+          → T (byCondition c (eqb (r .file) 0 && (eqb (r .pace) 0 && (eqb (r .position) 0 && eqb (r .last) 0))) (readerPlaced s r)
+          (readerPlaced s r && awaits s r))
+      go Empty e = subst (λ q. T (eqb (q .file) 0 && (eqb (q .pace) 0 && (eqb (q .position) 0 && eqb (q .last) 0)))) (sym e) tt
       go Running p = in-placed p
       go Waiting p = and-both (readerPlaced s r) _ (in-placed (p .0)) (p .1)
 
@@ -145,18 +155,15 @@ module _ (s : State) (r : Reader) where
 pub record SlotIn (v : List ℕ) (j : ℕ) : Type 0 where
   pub condition-in : readerNumber v j 0 ≤ 2
   pub record-in : ReaderIn (readerFrom v j .condition) (stateFrom v) (readerFrom v j)
-  pub gap : readerNumber v j 4 ≡ 0
 
 module _ (v : List ℕ) (j : ℕ) where
   -- the test of a slot says so
   pub slot-in : T (slotHolds v j) → SlotIn v j
   unfolding slotHolds
   slot-in h =
-      let rest = and-second (within 0 2 (readerNumber v j 0)) _ h in
       record {
         condition-in = in-within 0 2 (readerNumber v j 0) (and-first (within 0 2 (readerNumber v j 0)) _ h) .1;
-        record-in = reader-in (stateFrom v) (readerFrom v j) (and-first (readerHolds (stateFrom v) (readerFrom v j)) _ rest);
-        gap = eqb→eq (readerNumber v j 4) 0 (and-second (readerHolds (stateFrom v) (readerFrom v j)) _ rest);
+        record-in = reader-in (stateFrom v) (readerFrom v j) (and-second (within 0 2 (readerNumber v j 0)) _ h);
       }
 
   -- and is passed where it is so
@@ -164,8 +171,7 @@ module _ (v : List ℕ) (j : ℕ) where
   unfolding slotHolds
   in-slot h =
       and-both (within 0 2 (readerNumber v j 0)) _ (within-in 0 2 (readerNumber v j 0) (omega arith) (h .condition-in))
-      (and-both (readerHolds (stateFrom v) (readerFrom v j)) _ (in-reader (stateFrom v) (readerFrom v j) (h .record-in))
-      (eq→eqb (readerNumber v j 4) 0 (h .gap)))
+      (in-reader (stateFrom v) (readerFrom v j) (h .record-in))
 
 -- ---- keys
 
@@ -293,7 +299,6 @@ module _ (v : List ℕ) (long : length v ≡ 350) (a : Accepted v) where
         gap = a .gap;
         gap-maps = a .gap-maps;
         conditions = λ j l. a .slots j l .condition-in;
-        gaps = λ j l. a .slots j l .gap;
       }
 
   reader-valid : (j : ℕ) → ReaderIn (readerAt (stateFrom v) j .condition) (stateFrom v) (readerAt (stateFrom v) j)
@@ -348,12 +353,16 @@ module _ (s : State) (v : Valid s) where
   lengths : Lengths s
   lengths = valid-lengths s v
 
+  lasts : Lasts s
+  lasts = valid-lasts s v
+
   slot-accepted : (j : ℕ) → j < 16 → SlotIn (stateNumbers s) j
   slot-accepted j l =
       record {
         condition-in = rw (slot-number s lengths j 0 l (omega arith)) (condition-low (readerAt s j .condition));
-        record-in = subst₂ (λ t r. ReaderIn (r .condition) t r) (sym (state-numbers s lengths)) (sym (reader-numbers s lengths j l)) (v .readers-in j);
-        gap = slot-number s lengths j 4 l (omega arith);
+        record-in =
+            subst₂ (λ t r. ReaderIn (r .condition) t r) (sym (state-numbers s lengths lasts)) (sym (reader-numbers s lengths lasts j l))
+            (v .readers-in j);
       }
 
   key-accepted : (k : ℕ) → KeyIn s k
@@ -366,7 +375,7 @@ module _ (s : State) (v : Valid s) where
   -- a valid state's numbers are accepted
   pub valid-accepted : Accepted (stateNumbers s)
   valid-accepted =
-      let back = sym (state-numbers s lengths) in
+      let back = sym (state-numbers s lengths lasts) in
       record {
         settings =
             subst (λ t. Settings (t .frames) (t .«look_ahead») (t .«fetch_time») (t .sizes)) back

@@ -5,11 +5,13 @@ use mathlib.Core.List.{List}
 use mathlib.Core.Logic.{⊎-elim}
 use Prim.Native.Nat.{ℕ, _≤_}
 use native.Mathlib.Omega.{arith}
+use lib.Dec.{T}
 use Rattle.rules.specs.Calls.{reply}
 use Rattle.rules.specs.Image.{imageOf, restoreOf}
 use Rattle.rules.specs.Entries.{code, carriedOut, Call, callOf, entered, enter}
+use Rattle.rules.proofs.laws.Tests.{is-true}
 use Rattle.rules.proofs.laws.Numbers.{Bytes}
-use Rattle.rules.proofs.images.Images.{done-or-not, restore-refused, restore-save, upgraded-same, save-restore, restored-valid}
+use Rattle.rules.proofs.images.Images.{done-reply, done-or-not, restore-refused, restore-save, restored-valid}
 use Rattle.rules.proofs.calls.Kept.{kept}
 use Rattle.rules.proofs.calls.Refusals.{refused-same}
 use Rattle.rules.specs.declared.Reply.{Reply}
@@ -30,8 +32,8 @@ answer-all P Arrived x y p q = p
 answer-all P (Replaced file page) x y p q = p
 answer-all P (Ran fetches reads) x y p q = p
 
--- a number up to 13 is a refusal's, and leaves the buffer
-low-left : (a : Answer) (saved image : List ℕ) → code a ≤ 13 → cond (carriedOut a) saved image ≡ image
+-- a number up to 15 is a refusal's, and leaves the buffer
+low-left : (a : Answer) (saved image : List ℕ) → code a ≤ 15 → cond (carriedOut a) saved image ≡ image
 unfolding code
 low-left (Refused n) saved image h = refl
 low-left Done saved image h = absurd (omega arith)
@@ -56,8 +58,8 @@ module _ (c : Call) (image : List ℕ) where
   unfolding enter
   enter-restored e = rw e
 
-  -- a number up to 13 is a refusal's, and the buffer is as it was
-  pub enter-refused : enter c image .number ≤ 13 → enter c image .image ≡ image
+  -- a number up to 15 is a refusal's, and the buffer is as it was
+  pub enter-refused : enter c image .number ≤ 15 → enter c image .image ≡ image
   enter-refused l =
       ⊎-elim
       (λ d.
@@ -66,15 +68,16 @@ module _ (c : Call) (image : List ℕ) where
       (rw (enter-restored d) at l))
       (λ d. ap (λ r. r .image) (enter-unrestored d)) (done-or-not image)
 
-  -- "each as Restore, call, Save": the buffer is the image of the call's state, refused or not
-  pub enter-saves : Bytes image → restoreOf image .answer ≡ Done → enter c image .image ≡ imageOf (callOf c (restoreOf image .state) .state)
-  enter-saves bytes d =
-      ap (λ r. r .image) (enter-restored d)
-      ∙ answer-all (λ l. l ≡ imageOf (callOf c (restoreOf image .state) .state)) (callOf c (restoreOf image .state) .answer) _ image refl
-      (λ n e. sym (save-restore image bytes d ∙ upgraded-same image) ∙ ap imageOf (sym (refused-same c (restoreOf image .state) n e)))
-
-  -- so the next entry finds an image that it takes
+  -- "each as Restore, call, Save": refused or not, the next entry finds an image that it takes, of the state after the call
   pub enter-again : Bytes image → restoreOf image .answer ≡ Done → restoreOf (enter c image .image) ≡ reply (callOf c (restoreOf image .state) .state) Done
   enter-again bytes d =
-      ap restoreOf (enter-saves bytes d)
-      ∙ restore-save (callOf c (restoreOf image .state) .state) (kept c (restoreOf image .state) (restored-valid image bytes))
+      let s = restoreOf image .state in
+      ap (λ r. restoreOf (r .image)) (enter-restored d)
+      ∙ answer-all (λ l. restoreOf l ≡ reply (callOf c s .state) Done) (callOf c s .answer) _ image
+      (restore-save (callOf c s .state) (kept c s (restored-valid image bytes)))
+      (λ n e. done-reply image d ∙ ap (λ t. reply t Done) (sym (refused-same c s n e)))
+
+  -- a call that is carried out leaves the image of its state, in which every last page stands
+  pub enter-saves : restoreOf image .answer ≡ Done → T (carriedOut (callOf c (restoreOf image .state) .answer))
+      → enter c image .image ≡ imageOf (callOf c (restoreOf image .state) .state)
+  enter-saves d h = ap (λ r. r .image) (enter-restored d) ∙ rw (is-true (carriedOut (callOf c (restoreOf image .state) .answer)) h) refl

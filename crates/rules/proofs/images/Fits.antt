@@ -17,8 +17,9 @@ use Rattle.rules.specs.declared.Condition.{Condition}
 use Rattle.rules.specs.declared.Condition.the-variants.{Empty, Running, Waiting}
 
 reader-fits : (s : State) (r : Reader) (c : Condition) → ((f : ℕ) → size s f ≤ 1024) → ReaderIn c s r
-    → (r .file < 256) × (r .pace < 65536) × (r .position < 65536)
-reader-fits s r Empty small e = subst (λ q. (q .file < 256) × (q .pace < 65536) × (q .position < 65536)) (sym e) (omega arith)
+    → (r .file < 256) × (r .pace < 65536) × (r .position < 65536) × (r .last < 65536)
+reader-fits s r Empty small e =
+    subst (λ q. (q .file < 256) × (q .pace < 65536) × (q .position < 65536) × (q .last < 65536)) (sym e) (omega arith)
 reader-fits s r Running small p = omega (arith, small (r .file))
 reader-fits s r Waiting small p = omega (arith, small (r .file))
 

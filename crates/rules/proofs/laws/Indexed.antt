@@ -129,12 +129,14 @@ each-alike c [] (y ∷ ys) e = absurd (omega arith)
 each-alike c (x ∷ xs) [] e = absurd (omega arith)
 each-alike c (x ∷ xs) (y ∷ ys) e = ap (λ r. c ++ r) (each-alike c xs ys (omega arith))
 
-length-range : (a n : ℕ) → length (range a n) ≡ n
+-- a range has so many numbers
+pub length-range : (a n : ℕ) → length (range a n) ≡ n
 unfolding range
 length-range a zero = refl
 length-range a (suc n) = ap suc (length-range (a + 1) n)
 
-getD-range : (a n i d : ℕ) → i < n → getD (range a n) i d ≡ a + i
+-- and they follow one another
+pub getD-range : (a n i d : ℕ) → i < n → getD (range a n) i d ≡ a + i
 unfolding range
 getD-range a zero i d h = absurd (omega arith)
 getD-range a (suc n) zero d h = omega arith

@@ -59,24 +59,24 @@ abbrev pub Clear : State → ℕ → ℕ → Type 0
 Clear s k i = (j : ℕ) → j < 16 → ClearAt s k i j
 
 module _ (s : State) (w : Valid s) (k i : ℕ) (one-file : fileOf k ≡ fileOf i) (later : pageOf k < pageOf i) (clear : Clear s k i) where
-  before-earlier : (j : ℕ) → j < 16 → T (before s (readerAt s j) i) → T (before s (readerAt s j) k)
+  before-earlier : (j : ℕ) → j < 16 → T (before (readerAt s j) i) → T (before (readerAt s j) k)
   before-earlier j l h =
       let r : Reader = readerAt s j in
-      let b = before-is s r i h in
-      is-before s r k record {
+      let b = before-is r i h in
+      is-before r k record {
         here = b .here;
         of-file = b .of-file ∙ sym one-file;
         past =
             less (r .position) (pageOf k) (λ _. r .position < pageOf k) (λ p. p)
             (λ p. absurd (omega (arith, clear j l (b .here) (b .of-file ∙ sym one-file) p, b .past)));
-        in-file = omega (arith, b .in-file);
+        in-reach = omega (arith, b .in-reach);
       }
 
   ahead-earlier : T (ahead s i) → T (ahead s k)
   unfolding ahead
   ahead-earlier h =
-      let a = some-at 16 (λ j. before s (readerAt s j) i) h in
-      some-in 16 (a .0) (λ j. before s (readerAt s j) k) (a .1) (before-earlier (a .0) (a .1) (a .2))
+      let a = some-at 16 (λ j. before (readerAt s j) i) h in
+      some-in 16 (a .0) (λ j. before (readerAt s j) k) (a .1) (before-earlier (a .0) (a .1) (a .2))
 
   use-earlier : T (seen s i) → T (seen s k) × (useKey s k < useKey s i)
   use-earlier h =
@@ -231,8 +231,8 @@ module _ (s : State) (w : Valid s) (files : ℕ → Bool) where
 -- there is one such page
 pub absent-one : (s : State) (r : Reader) (k i : ℕ) → FirstAbsent s r k → FirstAbsent s r i → k ≡ i
 absent-one s r k i a b =
-    let p = before-is s r k (a .ahead-of) in
-    let q = before-is s r i (b .ahead-of) in
+    let p = before-is r k (a .ahead-of) in
+    let q = before-is r i (b .ahead-of) in
     less (pageOf k) (pageOf i) (λ _. k ≡ i) (λ l. absurd (b .first k (a .ahead-of) l (a .lacking)))
     (λ l. less (pageOf i) (pageOf k) (λ _. k ≡ i) (λ m. absurd (a .first i (b .ahead-of) m (b .lacking))) (λ m. omega (arith, p .of-file, q .of-file)))
 
@@ -245,7 +245,7 @@ module _ (s : State) where
   pub slot-below : (m b c : ℕ) → NoneBelow s m b → c ≤ b → (T (attached (readerAt s m)) → AtLeast s c m) → NoneBelow s (m + 1) c
   slot-below m b c a l h =
       one-more (AtLeast s c) m (λ j p k g f. omega (arith, a j p k g f))
-      (λ k g f. h (before-is s (readerAt s m) k (f .ahead-of) .here) k g f)
+      (λ k g f. h (before-is (readerAt s m) k (f .ahead-of) .here) k g f)
 
   -- the slot's first absent page, once found, is the only one to bound
   pub absent-least : (b j k : ℕ) → FirstAbsent s (readerAt s j) k → b ≤ useFor s k j → AtLeast s b j
@@ -270,7 +270,7 @@ module _ (s : State) (w : Valid s) where
       r : Reader
       r = readerAt s (m .0)
 
-      first : (i : ℕ) → T (before s r i) → pageOf i < pageOf k → T (absent s i) → ⊥
+      first : (i : ℕ) → T (before r i) → pageOf i < pageOf k → T (absent s i) → ⊥
       first i b l a =
           let g : T (sees s r i) = sees-earlier s r i k b (omega arith) (m .2) in
           let x : T (wanted s i) = and-both (seen s i) _ (seen-by s i (m .0) (m .1) g) a in

@@ -41,8 +41,8 @@ module _ (s : State) (w : Valid s) where
   same-time : (j k i : ℕ) → T (sees s (readerAt s j) k) → T (sees s (readerAt s j) i) → timeFor s (readerAt s j) k ≡ timeFor s (readerAt s j) i → k ≡ i
   same-time j k i a b e =
       let r : Reader = readerAt s j in
-      let p = before-is s r k (sees-before s r k a) in
-      let q = before-is s r i (sees-before s r i b) in
+      let p = before-is r k (sees-before s r k a) in
+      let q = before-is r i (sees-before s r i b) in
       let one : 1 ≤ r .pace = placed-at s w j (p .here) .pace-low in
       less (pageOf k) (pageOf i) (λ _. k ≡ i) (λ l. absurd (omega (arith, time-rises s r k i one (p .past) l)))
       (λ l.

@@ -28,10 +28,11 @@ pub record AlikeReader (r q : Reader) : Type 0 where
   pub file-same : r .file ≡ q .file
   pub pace-same : r .pace ≡ q .pace
   pub position-same : r .position ≡ q .position
+  pub last-same : r .last ≡ q .last
 
 -- equal records are alike
 pub alike-same : {r q : Reader} → r ≡ q → AlikeReader r q
-alike-same e = rw e (record { attached-same = refl; file-same = refl; pace-same = refl; position-same = refl })
+alike-same e = rw e (record { attached-same = refl; file-same = refl; pace-same = refl; position-same = refl; last-same = refl })
 
 -- two states alike in what the ranks of file f read
 pub record SameFile (f : ℕ) (s t : State) : Type 0 where
@@ -42,17 +43,17 @@ pub record SameFile (f : ℕ) (s t : State) : Type 0 where
   pub readers-same : (j : ℕ) → AlikeReader (readerAt s j) (readerAt t j) ⊎ (NotOf f (readerAt s j) × NotOf f (readerAt t j))
   pub bits-same : (k : ℕ) → fileOf k ≡ f → bit (s .cached) k ≡ bit (t .cached) k
 
-not-before : (s : State) (r : Reader) (k : ℕ) → NotOf (fileOf k) r → before s r k ≡ false
+not-before : (r : Reader) (k : ℕ) → NotOf (fileOf k) r → before r k ≡ false
 unfolding before
-not-before s r k h = rw (← and-assoc (attached r) (eqb (r .file) (fileOf k)), h)
+not-before r k h = rw (← and-assoc (attached r) (eqb (r .file) (fileOf k)), h)
 
 not-sees : (s : State) (r : Reader) (k : ℕ) → NotOf (fileOf k) r → sees s r k ≡ false
 unfolding sees
-not-sees s r k h = rw (not-before s r k h)
+not-sees s r k h = rw (not-before r k h)
 
 -- what a slot says of page k in two states
 record SameSlot (s t : State) (k j : ℕ) : Type 0 where
-  before-alike : before s (readerAt s j) k ≡ before t (readerAt t j) k
+  before-alike : before (readerAt s j) k ≡ before (readerAt t j) k
   sees-alike : sees s (readerAt s j) k ≡ sees t (readerAt t j) k
   use-alike : useFor s k j ≡ useFor t k j
 
@@ -72,9 +73,9 @@ module _ (s t : State) (k : ℕ) (a : SameFile (fileOf k) s t) where
     between-same : between s r k ≡ between t q k
     between-same = rw (e .file-same, e .position-same, f) (missing-same (q .position) (steps q k - 1) (omega arith))
 
-    before-same : before s r k ≡ before t q k
+    before-same : before r k ≡ before q k
     unfolding before
-    before-same = rw (e .attached-same, e .file-same, e .position-same, f, a .size-same)
+    before-same = rw (e .attached-same, e .file-same, e .position-same, e .last-same, f)
 
     sees-same : sees s r k ≡ sees t q k
     unfolding sees pruned
@@ -90,7 +91,7 @@ module _ (s t : State) (k : ℕ) (a : SameFile (fileOf k) s t) where
     where
       neither : NotOf (fileOf k) (readerAt s j) → NotOf (fileOf k) (readerAt t j) → SameSlot s t k j
       neither m n = record {
-        before-alike = rw (not-before s (readerAt s j) k m, not-before t (readerAt t j) k n);
+        before-alike = rw (not-before (readerAt s j) k m, not-before (readerAt t j) k n);
         sees-alike = rw (not-sees s (readerAt s j) k m, not-sees t (readerAt t j) k n);
         use-alike = rw (not-sees s (readerAt s j) k m, not-sees t (readerAt t j) k n);
       }

@@ -8,7 +8,7 @@ use native.Mathlib.Nat.{mul-pos, mul-le-mul-right, mul-lt-mul-of-pos-right}
 use lib.Dec.{T, T-not, not-T, leb, ltb, eqb, leb→le, le→leb, lt→ltb, ltb→lt, eqb→eq, eqb-refl}
 use Rattle.rules.specs.Lists.{least}
 use Rattle.rules.specs.Pages.{size, fileOf, pageOf, Page}
-use Rattle.rules.specs.Readers.{readerAt, attached, lastPage}
+use Rattle.rules.specs.Readers.{readerAt, attached}
 use Rattle.rules.specs.Valid.{Valid}
 use Rattle.rules.specs.UseTimes.{before, steps, missing, between, pruned, sees, timeFor, seat, never, useFor, useKey, seen}
 use Rattle.rules.specs.Ranks.{Before}
@@ -21,12 +21,12 @@ use Rattle.rules.specs.declared.Reader.{Reader}
 
 -- ---- what a reader has before it
 
-module _ (s : State) (r : Reader) (k : ℕ) where
+module _ (r : Reader) (k : ℕ) where
   -- what the reader has before it has these parts
-  pub before-is : T (before s r k) → Before s r k
+  pub before-is : T (before r k) → Before r k
   unfolding before
   before-is h =
-      let c = leb (pageOf k) (lastPage (s .sizes) r) in
+      let c = leb (pageOf k) (r .last) in
       let b = ltb (r .position) (pageOf k) && c in
       let a = eqb (r .file) (fileOf k) && b in
       let ha = and-second (attached r) a h in
@@ -35,21 +35,21 @@ module _ (s : State) (r : Reader) (k : ℕ) where
         here = and-first (attached r) a h;
         of-file = eqb→eq _ _ (and-first (eqb (r .file) (fileOf k)) b ha);
         past = ltb→lt _ _ (and-first (ltb (r .position) (pageOf k)) c hb);
-        in-file = leb→le _ _ (and-second (ltb (r .position) (pageOf k)) c hb);
+        in-reach = leb→le _ _ (and-second (ltb (r .position) (pageOf k)) c hb);
       }
 
   -- what has these parts the reader has before it
-  pub is-before : Before s r k → T (before s r k)
+  pub is-before : Before r k → T (before r k)
   unfolding before
   is-before b =
       and-both (attached r) _ (b .here)
       (and-both (eqb (r .file) (fileOf k)) _ (subst (λ f. T (eqb (r .file) f)) (b .of-file) (eqb-refl (r .file)))
-      (and-both (ltb (r .position) (pageOf k)) _ (lt→ltb _ _ (b .past)) (le→leb _ _ (b .in-file))))
+      (and-both (ltb (r .position) (pageOf k)) _ (lt→ltb _ _ (b .past)) (le→leb _ _ (b .in-reach))))
 
-  -- what the reader sees it has before it
-  pub sees-before : T (sees s r k) → T (before s r k)
-  unfolding sees
-  sees-before h = and-first (before s r k) _ h
+-- what a reader sees it has before it
+pub sees-before : (s : State) (r : Reader) (k : ℕ) → T (sees s r k) → T (before r k)
+unfolding sees
+sees-before s r k h = and-first (before r k) _ h
 
 -- ---- times rise along a look-ahead
 
@@ -93,14 +93,14 @@ module _ (s : State) (r : Reader) (k i : ℕ) where
       omega arith
 
   -- a reader that sees a page sees every earlier one that it has before it
-  pub sees-earlier : T (before s r k) → pageOf k ≤ pageOf i → T (sees s r i) → T (sees s r k)
+  pub sees-earlier : T (before r k) → pageOf k ≤ pageOf i → T (sees s r i) → T (sees s r k)
   unfolding sees
   sees-earlier b l h =
       let n : ℕ = s .«look_ahead» / r .pace in
       let C : Bool = not (pruned s (between s r i)) in
-      let rest = and-second (before s r i) (leb (steps r i) n && C) h in
+      let rest = and-second (before r i) (leb (steps r i) n && C) h in
       let near : steps r i ≤ n = leb→le (steps r i) n (and-first (leb (steps r i) n) C rest) in
-      and-both (before s r k) _ b
+      and-both (before r k) _ b
       (and-both (leb (steps r k) n) _ (le→leb (steps r k) n (omega arith))
       (not-T (pruned s (between s r k)) (λ c.
       T-not (pruned s (between s r i)) (and-second (leb (steps r i) n) C rest) (pruned-rises s (between s r k) (between s r i) (between-rises l) c))))
@@ -138,9 +138,9 @@ module _ (s : State) (w : Valid s) where
   seen-page k h =
       let a = some-at 16 (λ j. sees s (readerAt s j) k) h in
       let r : Reader = readerAt s (a .0) in
-      let b = before-is s r k (sees-before s r k (a .2)) in
+      let b = before-is r k (sees-before s r k (a .2)) in
       let p = placed-at s w (a .0) (b .here) in
-      record { low = omega (arith, p .file-high, b .of-file); there = subst (λ f. pageOf k ≤ size s f) (b .of-file) (b .in-file) }
+      record { low = omega (arith, p .file-high, b .of-file); there = subst (λ f. pageOf k ≤ size s f) (b .of-file) (omega (arith, b .in-reach, p .last-high)) }
 
   -- the slot that a use key is of
   pub met-by : (k : ℕ) → T (seen s k) → (j : ℕ) × (j < 16) × T (sees s (readerAt s j) k) × (useKey s k ≡ useFor s k j)
@@ -151,10 +151,10 @@ module _ (s : State) (w : Valid s) where
       (m .0, m .1, use-sees s k (m .0) (omega (arith, m .2)), m .2)
 
   -- a later page has a larger key for a reader that sees it
-  pub use-rises : (j k i : ℕ) → T (before s (readerAt s j) k) → pageOf k < pageOf i → T (sees s (readerAt s j) i) → useFor s k j < useFor s i j
+  pub use-rises : (j k i : ℕ) → T (before (readerAt s j) k) → pageOf k < pageOf i → T (sees s (readerAt s j) i) → useFor s k j < useFor s i j
   use-rises j k i b l h =
       let r : Reader = readerAt s j in
-      let f = before-is s r k b in
+      let f = before-is r k b in
       let p = placed-at s w j (f .here) in
       omega (arith, use-for s i j h, use-for s k j (sees-earlier s r k i b (omega arith) h), time-rises s r k i (p .pace-low) (f .past) l)
 
@@ -163,5 +163,5 @@ module _ (s : State) (w : Valid s) where
   use-positive k h =
       let m = met-by k h in
       let r : Reader = readerAt s (m .0) in
-      let b = before-is s r k (sees-before s r k (m .2)) in
+      let b = before-is r k (sees-before s r k (m .2)) in
       omega (arith, m .3, use-for s k (m .0) (m .2), time-positive s r k (placed-at s w (m .0) (b .here) .pace-low) (b .past))

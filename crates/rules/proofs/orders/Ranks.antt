@@ -12,7 +12,7 @@ use Rattle.rules.specs.Pages.{size, fileOf, cached, Page, pages, cachedP
 use Rattle.rules.specs.Readers.{readerAt}
 use Rattle.rules.specs.Valid.{Valid}
 use Rattle.rules.specs.UseTimes.{before, steps, between, pruned, sees, timeFor, never, useFor, useKey, ahead, seen}
-use Rattle.rules.specs.Orders.{place, behindLast, notSeen, useTime, stealOrder}
+use Rattle.rules.specs.Orders.{place, notAhead, notSeen, useTime, stealOrder}
 use Rattle.rules.specs.Ranks.{rank}
 use Rattle.rules.proofs.laws.Tests.{leq, side, is-true, is-false, not-not, and-first, and-second}
 use Rattle.rules.proofs.laws.Members.{All, all-only, only-only, range-in, range-at, each-in, each-at}
@@ -23,14 +23,14 @@ use Rattle.rules.specs.declared.Reader.{Reader}
 
 pub seen-ahead : (s : State) (k : ℕ) → T (seen s k) → T (ahead s k)
 unfolding seen ahead sees
-seen-ahead s k = some-mono 16 (λ j. sees s (readerAt s j) k) (λ j. before s (readerAt s j) k) (λ j h. and-first (before s (readerAt s j) k) _ h)
+seen-ahead s k = some-mono 16 (λ j. sees s (readerAt s j) k) (λ j. before (readerAt s j) k) (λ j h. and-first (before (readerAt s j) k) _ h)
 
 time-small : (s : State) (r : Reader) (k : ℕ) → s .«look_ahead» ≤ 2000000 → T (sees s r k) → timeFor s r k ≤ 4000000
 unfolding sees pruned timeFor
 time-small s r k l h =
     let A : Bool = leb (steps r k) (s .«look_ahead» / r .pace) in
     let B : Bool = not (pruned s (between s r k)) in
-    let rest = and-second (before s r k) (A && B) h in
+    let rest = and-second (before r k) (A && B) h in
     let near : steps r k ≤ s .«look_ahead» / r .pace = leb→le (steps r k) (s .«look_ahead» / r .pace) (and-first A B rest) in
     let a : steps r k * r .pace ≤ s .«look_ahead» = le-trans (mul-le-mul-right (r .pace) near) (div-mul-le-self (s .«look_ahead») (r .pace)) in
     let b : between s r k * s .«fetch_time» ≤ s .«look_ahead» = few (between s r k) (s .«fetch_time») (s .«look_ahead») (and-second A B rest) in
@@ -98,8 +98,8 @@ module _ (s : State) (w : Valid s) where
       (λ l. leq a b (λ t. true ≡ t) (λ _. refl) (λ m. absurd (omega arith)))
       (λ l. leq a b (λ t. false ≡ t) (λ m. absurd (omega arith)) (λ _. refl))
 
-  behind-part : falling (rank s) (only (λ k. cached s k && not (ahead s k)) (pages s)) ≡ behindLast s
-  unfolding behindLast
+  behind-part : falling (rank s) (only (λ k. cached s k && not (ahead s k)) (pages s)) ≡ notAhead s
+  unfolding notAhead
   behind-part =
       alike-falling (rank s) place (λ k. T (cached s k && not (ahead s k)) × Page s k)
       (λ x y p q.

@@ -11,7 +11,7 @@ use Rattle.rules.specs.Lists.{range, each, only, every, put, sorted, lea
 use Rattle.rules.specs.Pages.{keyOf, pages, cachedPages, fetchingPages, held, ends, clusters}
 use Rattle.rules.specs.Readers.{noReader}
 use Rattle.rules.specs.UseTimes.{before, present, missing, pruned, sees, timeFor, useFor, useKey, ahead, seen}
-use Rattle.rules.specs.Orders.{behindLast, notSeen, useTime, stealOrder, fetchOrder, victim}
+use Rattle.rules.specs.Orders.{notAhead, notSeen, useTime, stealOrder, fetchOrder, victim}
 use Rattle.rules.specs.Calls.{
   idle,
   attachOf,
@@ -48,7 +48,7 @@ use Rattle.rules.specs.Lines.{
   programOf,
 }
 use Rattle.rules.specs.Schedules.{num}
-use Rattle.rules.proofs.tables.Soundings.{stateWith, reader, at, f0}
+use Rattle.rules.proofs.tables.Soundings.{upTo, stateWith, reader, at, f0}
 use Rattle.rules.proofs.tables.Sample.{bytes}
 use Rattle.rules.specs.declared.State.{State}
 use Rattle.rules.specs.declared.Reply.{Reply}
@@ -78,7 +78,7 @@ marks i (b ∷ bs) = cond (eqb b 0) [] (i ∷ b ∷ []) ++ marks (i + 1) bs
 abbrev laden : State
 laden =
     stateWith 770 11 1967877 657672 (1024 ∷ 300 ∷ 0 ∷ 0 ∷ 0 ∷ 0 ∷ 0 ∷ 1024 ∷ [])
-    (reader Running 0 1000 513 ∷ reader Waiting 1 258 299 ∷ (replicate 13 noReader ++ reader Running 7 1 2 ∷ []))
+    (reader Running 0 1000 513 772 ∷ reader Waiting 1 258 299 300 ∷ (replicate 13 noReader ++ reader Running 7 1 2 3 ∷ []))
     (0 ∷ 9 ∷ 1024 ∷ 8191 ∷ []) (1323 ∷ [])
 
 -- its image, as 01 lays it out
@@ -87,7 +87,9 @@ image =
     -- frames, turn, L and T, the sizes
     0 ∷ 2 ∷ 1 ∷ 3 ∷ 2 ∷ 11 ∷ 4 ∷ 5 ∷ 5 ∷ 7 ∷ 6 ∷ 30 ∷ 8 ∷ 8 ∷ 9 ∷ 9 ∷ 10 ∷ 10 ∷ 13 ∷ 4 ∷ 14 ∷ 44 ∷ 15 ∷ 1 ∷ 27 ∷ 4
     -- the readers in slots 0, 1 and 15
-    ∷ 28 ∷ 1 ∷ 30 ∷ 232 ∷ 31 ∷ 3 ∷ 32 ∷ 1 ∷ 33 ∷ 2 ∷ 36 ∷ 2 ∷ 37 ∷ 1 ∷ 38 ∷ 2 ∷ 39 ∷ 1 ∷ 40 ∷ 43 ∷ 41 ∷ 1 ∷ 148 ∷ 1 ∷ 149 ∷ 7 ∷ 150 ∷ 1 ∷ 152 ∷ 2
+    ∷ 28 ∷ 1 ∷ 30 ∷ 232 ∷ 31 ∷ 3 ∷ 32 ∷ 1 ∷ 33 ∷ 2 ∷ 34 ∷ 4 ∷ 35 ∷ 3
+    ∷ 36 ∷ 2 ∷ 37 ∷ 1 ∷ 38 ∷ 2 ∷ 39 ∷ 1 ∷ 40 ∷ 43 ∷ 41 ∷ 1 ∷ 42 ∷ 44 ∷ 43 ∷ 1
+    ∷ 148 ∷ 1 ∷ 149 ∷ 7 ∷ 150 ∷ 1 ∷ 152 ∷ 2 ∷ 154 ∷ 3
     -- the cached map and the fetch map
     ∷ 160 ∷ 1 ∷ 161 ∷ 2 ∷ 288 ∷ 1 ∷ 1183 ∷ 128 ∷ 1349 ∷ 8 ∷ []
 
@@ -111,7 +113,7 @@ saves-hold = refl
 
 -- as in the first sounding: five pages cached, two to fetch, three clusters
 abbrev sounded : State
-sounded = stateWith 16 0 40 20 (8 ∷ []) (at 3 10 ∷ []) (f0 (1 ∷ 2 ∷ 3 ∷ 5 ∷ 7 ∷ [])) []
+sounded = stateWith 16 0 40 20 (8 ∷ []) (upTo 8 3 10 ∷ []) (f0 (1 ∷ 2 ∷ 3 ∷ 5 ∷ 7 ∷ [])) []
 
 -- the refusal's number, the count, and the lent list after the call
 unfoldable pub written : Written → List ℕ
@@ -138,7 +140,7 @@ lists =
 
 pub lists-hold : Hold lists
 unfolding lists written bit putBit range each only put sorted least some-of pages held ends clusters before present missing pruned
-    sees timeFor useFor useKey ahead seen behindLast notSeen useTime stealOrder fetchOrder listed stealListOf fetchListOf clustersOf
+    sees timeFor useFor useKey ahead seen notAhead notSeen useTime stealOrder fetchOrder listed stealListOf fetchListOf clustersOf
 lists-hold = refl
 
 -- ---- "The number returned is the refusal's, or the answer letter's ASCII code × 65,536 + (key + 1, or 0 without a page)"
@@ -171,7 +173,7 @@ numbers-hold = refl
 
 -- a file of six pages, a reader in slot 0 that waits for its first page
 abbrev waiting : State
-waiting = stateWith 16 0 40 0 (6 ∷ []) (reader Waiting 0 10 0 ∷ []) [] (f0 (1 ∷ []))
+waiting = stateWith 16 0 40 0 (6 ∷ []) (reader Waiting 0 10 0 6 ∷ []) [] (f0 (1 ∷ []))
 
 -- a call and its number
 abbrev gives : Call → ℕ → Row
@@ -180,12 +182,17 @@ gives call n = is (callOf call waiting .answer) n
 -- by call: two neighbours in its list at once, and the limits of the slot, the file, the page and the turns
 unfoldable pub refusals : List Row
 refusals =
-    gives (attach 16 8 10) 2
-    ∷ gives (attach 15 8 0) 3
-    ∷ gives (attach 15 7 1001) 3
-    ∷ gives (attach 0 0 0) 4
-    ∷ gives (attach 0 0 1001) 4
-    ∷ gives (attach 0 0 1000) 5
+    gives (attach 16 8 10 0 6) 2
+    ∷ gives (attach 15 8 0 0 6) 3
+    ∷ gives (attach 15 7 1001 0 0) 3
+    ∷ gives (attach 0 0 0 0 0) 4
+    ∷ gives (attach 0 0 1001 0 7) 4
+    -- A.1: 15 "after 4 and before 5"
+    ∷ gives (attach 0 0 1000 0 0) 15
+    ∷ gives (attach 0 0 1000 0 7) 15
+    ∷ gives (attach 0 0 1000 3 2) 15
+    ∷ gives (attach 0 0 1000 6 6) 5
+    ∷ gives (attach 1 0 1000 6 6) 5177344
     ∷ gives (read 16) 2
     ∷ gives (read 15) 6
     ∷ gives (read 0) 7
@@ -240,7 +247,7 @@ orders =
 
 pub orders-hold : Hold orders
 unfolding orders bit putBit range each only put sorted least some-of pages held ends clusters before present missing pruned sees
-    timeFor useFor useKey ahead seen behindLast notSeen useTime stealOrder fetchOrder
+    timeFor useFor useKey ahead seen notAhead notSeen useTime stealOrder fetchOrder
 orders-hold = refl
 
 -- ---- what Arrive, Lost, Detach and Steal leave
@@ -248,7 +255,7 @@ orders-hold = refl
 -- two files of six pages; the readers in slots 0 and 3 wait for page 1 of file 0, slot 1 for page 2 of it, slot 2 for page 1 of file 1
 abbrev held-up : State
 held-up =
-    stateWith 16 0 40 0 (6 ∷ 6 ∷ []) (reader Waiting 0 10 0 ∷ reader Waiting 0 10 1 ∷ reader Waiting 1 10 0 ∷ reader Waiting 0 10 0 ∷ []) []
+    stateWith 16 0 40 0 (6 ∷ 6 ∷ []) (reader Waiting 0 10 0 6 ∷ reader Waiting 0 10 1 6 ∷ reader Waiting 1 10 0 6 ∷ reader Waiting 0 10 0 6 ∷ []) []
     (keyOf 0 1 ∷ keyOf 0 2 ∷ keyOf 1 1 ∷ [])
 
 -- what stands in the answer, then the conditions of the first four slots, the pages in fetch, and those cached
@@ -259,11 +266,11 @@ leaves r =
 
 -- all frames taken, a page in fetch that is further off than the one that is cached
 abbrev crowded : State
-crowded = stateWith 1 0 10 0 (6 ∷ []) (at 0 10 ∷ []) (f0 (1 ∷ [])) (f0 (6 ∷ []))
+crowded = stateWith 1 0 10 0 (6 ∷ []) (upTo 6 0 10 ∷ []) (f0 (1 ∷ [])) (f0 (6 ∷ []))
 
 -- slot 0 waits for page 1, which lowers the time of page 3 from 70 to 50 when it comes; slot 1 has page 5 at 60
 abbrev stale : State
-stale = stateWith 3 0 100 20 (6 ∷ []) (reader Waiting 0 10 0 ∷ at 4 60 ∷ []) (f0 (3 ∷ 5 ∷ 6 ∷ [])) (f0 (1 ∷ []))
+stale = stateWith 3 0 100 20 (6 ∷ []) (reader Waiting 0 10 0 6 ∷ upTo 6 4 60 ∷ []) (f0 (3 ∷ 5 ∷ 6 ∷ [])) (f0 (1 ∷ []))
 
 -- the page that the call dropped, and the page that Steal then drops
 unfoldable pub thenStolen : Reply → List ℕ
@@ -285,7 +292,7 @@ effects =
 
 pub effects-hold : Hold effects
 unfolding effects leaves thenStolen bit putBit range each only put sorted least some-of pages cachedPages fetchingPages before
-    present missing pruned sees timeFor useFor useKey ahead seen behindLast notSeen useTime stealOrder victim full dropped woken landed
+    present missing pruned sees timeFor useFor useKey ahead seen notAhead notSeen useTime stealOrder victim full dropped woken landed
     forFetch arriveOf lostOf detachOf stealOf
 effects-hold = refl
 
@@ -301,14 +308,16 @@ texts =
     row (length (long (bytes "10")) ∷ num (wellFormed (long (bytes "10"))) ∷ []) (200 ∷ 1 ∷ [])
     ∷ row (length (long (bytes "100")) ∷ num (wellFormed (long (bytes "100"))) ∷ []) (201 ∷ 0 ∷ [])
     -- "A last line may lack its line end"; an empty line is a line
-    ∷ row (programOf (bytes "A,0,0,10\nR,0")) (bytes "E,3\nE,6\n")
+    ∷ row (programOf (bytes "A,0,0,10,0,6\nR,0")) (bytes "E,3\nE,6\n")
+    -- A.1: the A line has five fields
+    ∷ row (programOf (bytes "A,0,0,10\n")) (bytes "E,14\n")
     ∷ row (programOf (bytes "R,0\n\n")) (bytes "E,6\nE,14\n")
     ∷ row (programOf []) []
     ∷ []
 
 pub texts-hold : Hold texts
 unfolding texts bytes bit putBit range each only every put sorted least some-of pages cachedPages fetchingPages held ends clusters
-    before present missing pruned sees timeFor useFor useKey ahead seen behindLast notSeen useTime stealOrder fetchOrder victim attachOf
+    before present missing pruned sees timeFor useFor useKey ahead seen notAhead notSeen useTime stealOrder fetchOrder victim attachOf
     readRunning readOf stealOf full dropped woken landed forFetch arriveOf detachOf lostOf prefetchOf fetchOpen readTurn turnOf turnsOf
     runOf split isDecimal decimalValue isField wellFormed digitsOf lineOf obeyed respondOf linesOf answers programOf
 texts-hold = refl

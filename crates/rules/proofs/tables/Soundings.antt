@@ -8,7 +8,7 @@ use Rattle.rules.specs.Lists.{range, each, only, put, sorted, least, som
 use Rattle.rules.specs.Pages.{keyOf, pages, held, ends, clusters}
 use Rattle.rules.specs.Readers.{noReader}
 use Rattle.rules.specs.UseTimes.{before, present, missing, pruned, sees, timeFor, useFor, useKey, ahead, seen}
-use Rattle.rules.specs.Orders.{behindLast, notSeen, useTime, stealOrder, fetchOrder}
+use Rattle.rules.specs.Orders.{notAhead, notSeen, useTime, stealOrder, fetchOrder}
 use Rattle.rules.specs.declared.State.{State}
 use Rattle.rules.specs.declared.Reader.{Reader}
 use Rattle.rules.specs.declared.Condition.{Condition}
@@ -61,12 +61,16 @@ asked times s = map (λ k. useKey s k / 16) (fetchOrder s)
 asked runs s = clusters s 0
 
 -- a reader's record
-abbrev pub reader : Condition → ℕ → ℕ → ℕ → Reader
-reader condition file pace position = record { condition = condition; file = file; pace = pace; position = position }
+abbrev pub reader : Condition → ℕ → ℕ → ℕ → ℕ → Reader
+reader condition file pace position last = record { condition = condition; file = file; pace = pace; position = position; last = last }
 
--- a running reader of file 0
+-- a running reader of file 0 with its last page
+abbrev pub upTo : ℕ → ℕ → ℕ → Reader
+upTo last c w = reader Running 0 w c last
+
+-- one that reads all of 16 pages
 abbrev pub at : ℕ → ℕ → Reader
-at c w = reader Running 0 w c
+at = upTo 16
 
 abbrev pub f0 : List ℕ → List ℕ
 f0 ps = map (keyOf 0) ps
@@ -101,8 +105,24 @@ table =
     ∷ row 12 0 0 (16 ∷ []) (at 3 10 ∷ []) [] runs []
     ∷ []
 
+-- A.1, worked out by hand: the reader's last page is 6, and so page 7 is ahead of nobody
+unfoldable pub shortened : List Row
+shortened =
+    row 1 0 0 (16 ∷ []) (upTo 6 3 10 ∷ []) (f0 (1 ∷ 2 ∷ 3 ∷ 5 ∷ 7 ∷ [])) steal (f0 (7 ∷ 3 ∷ 2 ∷ 1 ∷ 5 ∷ []))
+    ∷ row 1 0 0 (16 ∷ []) (upTo 6 3 10 ∷ []) (f0 (1 ∷ 2 ∷ 3 ∷ 5 ∷ 7 ∷ [])) fetch (f0 (4 ∷ 6 ∷ []))
+    ∷ []
+
+-- the answers of some rows, by the rules and as they stand
+abbrev Told : List Row → Type 0
+Told rows = map (λ r. asked (r .question) (stateOf r)) rows ≡ map (λ r. r .answer) rows
+
 -- every row holds, computed from the rules
-pub soundings : map (λ r. asked (r .question) (stateOf r)) table ≡ map (λ r. r .answer) table
+pub soundings : Told table
 unfolding table putBit range each only put sorted least some-of bit pages before present missing pruned sees timeFor useFor useKey
-    ahead seen behindLast notSeen useTime stealOrder fetchOrder held ends clusters
+    ahead seen notAhead notSeen useTime stealOrder fetchOrder held ends clusters
 soundings = refl
+
+pub shortened-hold : Told shortened
+unfolding shortened putBit range each only put sorted least some-of bit pages before present missing pruned sees timeFor useFor useKey
+    ahead seen notAhead notSeen useTime stealOrder fetchOrder held ends clusters
+shortened-hold = refl

@@ -5,7 +5,7 @@ use mathlib.Core.Bool.{false, true}
 use mathlib.Core.List.{List, [], _∷_}
 use lib.ListN.{length}
 use lib.Dec.{T}
-use Rattle.rules.specs.Pages.{size, cached, fetchingPages}
+use Rattle.rules.specs.Pages.{cached, fetchingPages}
 use Rattle.rules.specs.Readers.{readerAt, byCondition, attached}
 use Rattle.rules.specs.Valid.{Valid}
 use Rattle.rules.specs.Run.{fetchOpen, runOf}
@@ -27,7 +27,7 @@ module _ (s : State) (v : Valid s) (w : ℕ) where
   holds-one slot a e = subst (λ c. T (byCondition c false true true)) e a
 
   pub third-in-full : ((slot : ℕ) → Attached slot → readerAt s slot .pace ≡ w) → s .«fetch_time» ≡ 0
-      → ((slot : ℕ) → Attached slot → w * size s (readerAt s slot .file) ≤ s .«look_ahead») → length (fetchingPages s) ≡ 0
+      → ((slot : ℕ) → Attached slot → w * readerAt s slot .last ≤ s .«look_ahead») → length (fetchingPages s) ≡ 0
       → (n : ℕ) → n ≤ 16384
       → (fetches : ℕ) × (reads : ℕ) × (runOf s n .answer ≡ Ran fetches reads)
       × (hitPages n s ≡ laid n s) × (reads ≡ length (laid n s))

@@ -11,7 +11,7 @@ use lib.Seq.{getD-set-same, getD-set-other}
 use lib.Dec.{T, ltb, eqb}
 use Rattle.rules.specs.Lists.{only}
 use Rattle.rules.specs.Pages.{inFetch, pages, fetchingPages}
-use Rattle.rules.specs.Readers.{noReader, readerAt, attached, lastPage, nextKey, onward}
+use Rattle.rules.specs.Readers.{noReader, readerAt, attached, nextKey, onward}
 use Rattle.rules.specs.Valid.{Valid}
 use Rattle.rules.specs.Calls.{withReaders, withCached, withFetching}
 use Rattle.rules.specs.Run.{fetchOpen, nextTurn}
@@ -30,70 +30,70 @@ nowAt s = readerAt s (s .turn)
 
 -- whether it has a page to read, and that page
 abbrev pub goesNow : State → Bool
-goesNow s = goes (s .sizes) (readerAt s (s .turn))
+goesNow s = goes (readerAt s (s .turn))
 
 abbrev pub keyNow : State → ℕ
 keyNow s = nextKey (readerAt s (s .turn))
 
 -- the state after a turn that leaves these maps: the turn's reader has moved on, if it goes
 abbrev pub left : State → List ℕ → List ℕ → State
-left s held fetching = withFetching (withCached (withReaders (nextTurn s) (movedOn (s .sizes) (s .readers) (s .turn))) held) fetching
+left s held fetching = withFetching (withCached (withReaders (nextTurn s) (movedOn (s .readers) (s .turn))) held) fetching
 
 -- a reader that is in its file goes on where it is not yet at the last page
-goes-below : (sizes : List ℕ) (r : Reader) → (T (attached r) → r .position ≤ lastPage sizes r)
-    → goes sizes r ≡ (attached r && ltb (r .position) (lastPage sizes r))
+goes-below : (r : Reader) → (T (attached r) → r .position ≤ r .last)
+    → goes r ≡ (attached r && ltb (r .position) (r .last))
 unfolding goes
-goes-below sizes r = go (attached r)
+goes-below r = go (attached r)
   where
-    go : (t : Bool) → (T t → r .position ≤ lastPage sizes r) → (t && not (eqb (r .position) (lastPage sizes r))) ≡ (t && ltb (r .position) (lastPage sizes r))
+    go : (t : Bool) → (T t → r .position ≤ r .last) → (t && not (eqb (r .position) (r .last))) ≡ (t && ltb (r .position) (r .last))
     go false l = refl
-    go true l = key (r .position) (lastPage sizes r) (λ b. not b ≡ ltb (r .position) (lastPage sizes r))
-        (λ e. less (r .position) (lastPage sizes r) (λ b. false ≡ b) (λ h. absurd (omega arith)) (λ _. refl))
-        (λ ne. less (r .position) (lastPage sizes r) (λ b. true ≡ b) (λ _. refl) (λ h. absurd (omega (arith, l tt))))
+    go true l = key (r .position) (r .last) (λ b. not b ≡ ltb (r .position) (r .last))
+        (λ e. less (r .position) (r .last) (λ b. false ≡ b) (λ h. absurd (omega arith)) (λ _. refl))
+        (λ ne. less (r .position) (r .last) (λ b. true ≡ b) (λ _. refl) (λ h. absurd (omega (arith, l tt))))
 
 -- such a reader's slot after its turn
-slot-on : (sizes : List ℕ) (r : Reader) → (T (attached r) → r .position ≤ lastPage sizes r)
-    → scanned sizes (cond (goes sizes r) (onward r) r) ≡ advance (scanned sizes r)
+slot-on : (r : Reader) → (T (attached r) → r .position ≤ r .last)
+    → scanned (cond (goes r) (onward r) r) ≡ advance (scanned r)
 unfolding scanned advance
-slot-on sizes r l = rw (goes-below sizes r l) (go (attached r) (ltb (r .position) (lastPage sizes r)) refl refl)
+slot-on r l = rw (goes-below r l) (go (attached r) (ltb (r .position) (r .last)) refl refl)
   where
-    go : (a b : Bool) → attached r ≡ a → ltb (r .position) (lastPage sizes r) ≡ b
-        → scanned sizes (cond (a && b) (onward r) r) ≡ advance (cond a (reader (r .file) (r .position) (lastPage sizes r)) vacant)
+    go : (a b : Bool) → attached r ≡ a → ltb (r .position) (r .last) ≡ b
+        → scanned (cond (a && b) (onward r) r) ≡ advance (cond a (reader (r .file) (r .position) (r .last)) vacant)
     go true true e e′ = rw (e, e′)
     go true false e e′ = rw (e, e′)
     go false b e e′ = rw e
 
 -- what such a reader reads at its turn
-pub page-now : (sizes : List ℕ) (r : Reader) → (T (attached r) → r .position ≤ lastPage sizes r)
-    → pageAt (scanned sizes r) 0 ≡ cond (goes sizes r) (some (nextKey r)) none
+pub page-now : (r : Reader) → (T (attached r) → r .position ≤ r .last)
+    → pageAt (scanned r) 0 ≡ cond (goes r) (some (nextKey r)) none
 unfolding scanned pageAt
-page-now sizes r l = rw (goes-below sizes r l) (go (attached r))
+page-now r l = rw (goes-below r l) (go (attached r))
   where
     go : (a : Bool)
-        → pageAt (cond a (reader (r .file) (r .position) (lastPage sizes r)) vacant) 0
-        ≡ cond (a && ltb (r .position) (lastPage sizes r)) (some (nextKey r)) none
+        → pageAt (cond a (reader (r .file) (r .position) (r .last)) vacant) 0
+        ≡ cond (a && ltb (r .position) (r .last)) (some (nextKey r)) none
     go true =
         let here : r .position + 0 ≡ r .position = omega arith in
         let k : code (r .file) (r .position + 0) ≡ nextKey r = omega arith in
-        ap₂ (λ c k. cond (ltb c (lastPage sizes r)) (some k) none) here k
+        ap₂ (λ c k. cond (ltb c (r .last)) (some k) none) here k
     go false = refl
 
 module _ (s : State) (v : Valid s) where
   -- the position is in the file
-  pub position-in : (j : ℕ) → T (attached (readerAt s j)) → readerAt s j .position ≤ lastPage (s .sizes) (readerAt s j)
+  pub position-in : (j : ℕ) → T (attached (readerAt s j)) → readerAt s j .position ≤ readerAt s j .last
   position-in j a = placed-at s v j a .position-in
 
   -- slot j's record after the turn
   moved-at : (j : ℕ)
-      → getD (movedOn (s .sizes) (s .readers) (s .turn)) j noReader
-      ≡ cond (eqb (s .turn) j) (cond (goes (s .sizes) (readerAt s j)) (onward (readerAt s j)) (readerAt s j)) (readerAt s j)
+      → getD (movedOn (s .readers) (s .turn)) j noReader
+      ≡ cond (eqb (s .turn) j) (cond (goes (readerAt s j)) (onward (readerAt s j)) (readerAt s j)) (readerAt s j)
   moved-at j =
       key (s .turn) j
-      (λ b. getD (movedOn (s .sizes) (s .readers) (s .turn)) j noReader
-      ≡ cond b (cond (goes (s .sizes) (readerAt s j)) (onward (readerAt s j)) (readerAt s j)) (readerAt s j))
+      (λ b. getD (movedOn (s .readers) (s .turn)) j noReader
+      ≡ cond b (cond (goes (readerAt s j)) (onward (readerAt s j)) (readerAt s j)) (readerAt s j))
       (λ e. subst
-      (λ i. getD (movedOn (s .sizes) (s .readers) (s .turn)) i noReader
-      ≡ cond (goes (s .sizes) (readerAt s i)) (onward (readerAt s i)) (readerAt s i))
+      (λ i. getD (movedOn (s .readers) (s .turn)) i noReader
+      ≡ cond (goes (readerAt s i)) (onward (readerAt s i)) (readerAt s i))
       e (own (goesNow s)))
       (λ ne. other ne (goesNow s))
     where
@@ -106,8 +106,8 @@ module _ (s : State) (v : Valid s) where
       other ne false = refl
 
   -- what holds of a record, moved on or not, holds of it after the turn
-  moved-all : (P : Reader → Type 0) (j : ℕ) → P (readerAt s j) → P (onward (readerAt s j)) → P (getD (movedOn (s .sizes) (s .readers) (s .turn)) j noReader)
-  moved-all P j y n = rw (moved-at j) (go (eqb (s .turn) j) (goes (s .sizes) (readerAt s j)))
+  moved-all : (P : Reader → Type 0) (j : ℕ) → P (readerAt s j) → P (onward (readerAt s j)) → P (getD (movedOn (s .readers) (s .turn)) j noReader)
+  moved-all P j y n = rw (moved-at j) (go (eqb (s .turn) j) (goes (readerAt s j)))
     where
       go : (a b : Bool) → P (cond a (cond b (onward (readerAt s j)) (readerAt s j)) (readerAt s j))
       go true true = n
@@ -117,16 +117,16 @@ module _ (s : State) (v : Valid s) where
   -- the slots after the turn
   pub slots-left : (held fetching : List ℕ) → slots (left s held fetching) ≡ after (slots s) (s .turn)
   unfolding slots
-  slots-left held fetching = fun-ext (λ j. ap (scanned (s .sizes)) (moved-at j) ∙ go j)
+  slots-left held fetching = fun-ext (λ j. ap scanned (moved-at j) ∙ go j)
     where
-      go : (j : ℕ) → scanned (s .sizes) (cond (eqb (s .turn) j) (cond (goes (s .sizes) (readerAt s j)) (onward (readerAt s j)) (readerAt s j)) (readerAt s j))
-          ≡ cond (eqb (s .turn) j) (advance (scanned (s .sizes) (readerAt s j))) (scanned (s .sizes) (readerAt s j))
+      go : (j : ℕ) → scanned (cond (eqb (s .turn) j) (cond (goes (readerAt s j)) (onward (readerAt s j)) (readerAt s j)) (readerAt s j))
+          ≡ cond (eqb (s .turn) j) (advance (scanned (readerAt s j))) (scanned (readerAt s j))
       go j =
           key (s .turn) j
           (λ b.
-          scanned (s .sizes) (cond b (cond (goes (s .sizes) (readerAt s j)) (onward (readerAt s j)) (readerAt s j)) (readerAt s j))
-          ≡ cond b (advance (scanned (s .sizes) (readerAt s j))) (scanned (s .sizes) (readerAt s j)))
-          (λ _. slot-on (s .sizes) (readerAt s j) (position-in j)) (λ _. refl)
+          scanned (cond b (cond (goes (readerAt s j)) (onward (readerAt s j)) (readerAt s j)) (readerAt s j))
+          ≡ cond b (advance (scanned (readerAt s j))) (scanned (readerAt s j)))
+          (λ _. slot-on (readerAt s j) (position-in j)) (λ _. refl)
 
   -- the premises are kept where no other page is in fetch
   pub premises-left : (w : ℕ) → Premises s w → (held fetching : List ℕ) → on fetching ≡ inFetch s → Premises (left s held fetching) w

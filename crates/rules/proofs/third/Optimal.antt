@@ -90,7 +90,7 @@ set-as {rs} {F} {d} e = subst (λ S. Furthest 8192 F rs S d) e
 -- a turn's request
 asked : (s : State) → Valid s → pageAt (slots s (s .turn)) 0 ≡ cond (goesNow s) (some (keyNow s)) none
 unfolding slots
-asked s v = page-now (s .sizes) (nowAt s) (position-in s v (s .turn))
+asked s v = page-now (nowAt s) (position-in s v (s .turn))
 
 reads-one : (t : Bool) (k : ℕ) (rs : Requests) → cond t (k ∷ []) [] ++ readsIn rs ≡ readsIn (cond t (some k) none ∷ rs)
 unfolding readsIn

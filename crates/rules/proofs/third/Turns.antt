@@ -13,7 +13,7 @@ use lib.Dec.{T, leb, ltb, eqb, eqb→eq, eqb-refl, not-T}
 use Rattle.bits.specs.Map.{putBit, on}
 use Rattle.rules.specs.Lists.{only, head, onOption}
 use Rattle.rules.specs.Pages.{size, cached, inFetch, Page, pages, cachedPages, fetchingPages}
-use Rattle.rules.specs.Readers.{noReader, readerAt, attached, byCondition, lastPage, nextKey, awaits, inCondition, onward}
+use Rattle.rules.specs.Readers.{noReader, readerAt, attached, byCondition, nextKey, awaits, inCondition, onward}
 use Rattle.rules.specs.Valid.{Valid, Placed, ReaderIn, PageMap}
 use Rattle.rules.specs.Orders.{victim}
 use Rattle.rules.specs.Calls.{
@@ -93,7 +93,7 @@ awake-in : (c : Condition) (s : State) (r : Reader) → ReaderIn c s r → ((k :
 unfolding awaits
 awake-in Empty s r h o a = absurd a
 awake-in Running s r h o a = refl
-awake-in Waiting s r h o a = absurd (o (nextKey r) (and-second (ltb (r .position) (lastPage (s .sizes) r)) _ (h .1)))
+awake-in Waiting s r h o a = absurd (o (nextKey r) (and-second (ltb (r .position) (r .last)) _ (h .1)))
 
 -- a woken reader that did not wait is as it was
 woken-still : (c : Condition) (r q : Reader) → (T (byCondition c false true true) → c ≡ Running) → byCondition c r r q ≡ r
@@ -104,17 +104,17 @@ woken-still Waiting r q h = let e = h tt in cc
 -- ---- Read, by cases
 
 -- the reader is at its last page
-abbrev atEnd : List ℕ → Reader → Bool
-atEnd sizes r = eqb (r .position) (lastPage sizes r)
+abbrev atEnd : Reader → Bool
+atEnd r = eqb (r .position) (r .last)
 
 low-slot : (u : ℕ) → u < 16 → ltb 15 u ≡ false
 low-slot u h = less 15 u (λ b. b ≡ false) (λ l. absurd (omega arith)) (λ _. refl)
 
-read-end : (s : State) (u : ℕ) → u < 16 → readerAt s u .condition ≡ Running → atEnd (s .sizes) (readerAt s u) ≡ true → readOf s u ≡ reply s End
+read-end : (s : State) (u : ℕ) → u < 16 → readerAt s u .condition ≡ Running → atEnd (readerAt s u) ≡ true → readOf s u ≡ reply s End
 unfolding readOf readRunning
 read-end s u l e q = rw (low-slot u l, e, q)
 
-read-hit : (s : State) (u : ℕ) → u < 16 → readerAt s u .condition ≡ Running → atEnd (s .sizes) (readerAt s u) ≡ false → cached s (nextKey (readerAt s u)) ≡ true
+read-hit : (s : State) (u : ℕ) → u < 16 → readerAt s u .condition ≡ Running → atEnd (readerAt s u) ≡ false → cached s (nextKey (readerAt s u)) ≡ true
     → readOf s u ≡ reply (withReader s u (onward (readerAt s u))) (Hit (readerAt s u .file) (readerAt s u .position + 1))
 unfolding readOf readRunning
 read-hit s u l e q c = rw (low-slot u l, e, q, c)
@@ -123,7 +123,7 @@ read-hit s u l e q c = rw (low-slot u l, e, q, c)
 abbrev awaiting : State → ℕ → State
 awaiting s u = withFetch (withReader s u (inCondition Waiting (readerAt s u))) (nextKey (readerAt s u))
 
-read-fetch : (s : State) (u : ℕ) → u < 16 → readerAt s u .condition ≡ Running → atEnd (s .sizes) (readerAt s u) ≡ false
+read-fetch : (s : State) (u : ℕ) → u < 16 → readerAt s u .condition ≡ Running → atEnd (readerAt s u) ≡ false
     → cached s (nextKey (readerAt s u)) ≡ false
     → inFetch s (nextKey (readerAt s u)) ≡ false → readOf s u ≡ reply (awaiting s u) (Fetch (readerAt s u .file) (readerAt s u .position + 1))
 unfolding readOf readRunning
@@ -138,17 +138,17 @@ turn-by s q a e = ap (λ b. cond b (readTurn s) (record { after = nextTurn s; fe
 
 -- ---- whether the turn's reader goes on
 
-goes-here : (sizes : List ℕ) (r : Reader) → T (goes sizes r) → T (attached r)
+goes-here : (r : Reader) → T (goes r) → T (attached r)
 unfolding goes
-goes-here sizes r h = and-first (attached r) _ h
+goes-here r h = and-first (attached r) _ h
 
-goes-short : (sizes : List ℕ) (r : Reader) → T (goes sizes r) → atEnd sizes r ≡ false
+goes-short : (r : Reader) → T (goes r) → atEnd r ≡ false
 unfolding goes
-goes-short sizes r h = is-false (atEnd sizes r) (and-second (attached r) _ h)
+goes-short r h = is-false (atEnd r) (and-second (attached r) _ h)
 
-goes-not : (sizes : List ℕ) (r : Reader) → T (attached r) → T (not (goes sizes r)) → atEnd sizes r ≡ true
+goes-not : (r : Reader) → T (attached r) → T (not (goes r)) → atEnd r ≡ true
 unfolding goes
-goes-not sizes r a h = go (attached r) (atEnd sizes r) a h
+goes-not r a h = go (attached r) (atEnd r) a h
   where
     go : (a b : Bool) → T a → T (not (a && not b)) → b ≡ true
     go true true a h = refl
@@ -171,7 +171,7 @@ module _ (s : State) (v : Valid s) (closed : (k : ℕ) → T (inFetch s k) → �
   idle-turn off = by (side (attached (nowAt s)))
     where
       by : T (attached (nowAt s)) ⊎ T (not (attached (nowAt s))) → turnOf s ≡ turned s (s .readers) (s .cached) (s .fetching) 0 []
-      by (inl a) = turn-by s (reply s End) a (read-end s (s .turn) (v .turn-high) (awake (s .turn) a) (goes-not (s .sizes) (nowAt s) a off))
+      by (inl a) = turn-by s (reply s End) a (read-end s (s .turn) (v .turn-high) (awake (s .turn) a) (goes-not (nowAt s) a off))
       by (inr a) = rw (is-false (attached (nowAt s)) a)
 
   idle-case : T (not (goesNow s)) → TurnCase s (turnOf s)
@@ -181,16 +181,16 @@ module _ (s : State) (v : Valid s) (closed : (k : ℕ) → T (inFetch s k) → �
   -- a turn whose reader goes on
   module _ (on-goes : T (goesNow s)) where
     here : T (attached (nowAt s))
-    here = goes-here (s .sizes) (nowAt s) on-goes
+    here = goes-here (nowAt s) on-goes
 
-    short : atEnd (s .sizes) (nowAt s) ≡ false
-    short = goes-short (s .sizes) (nowAt s) on-goes
+    short : atEnd (nowAt s) ≡ false
+    short = goes-short (nowAt s) on-goes
 
     placed : Placed s (nowAt s)
     placed = placed-at s v (s .turn) here
 
-    inside : nowAt s .position < lastPage (s .sizes) (nowAt s)
-    inside = let ne = eqb-false (nowAt s .position) (lastPage (s .sizes) (nowAt s)) short in omega (arith, placed .position-in)
+    inside : nowAt s .position < nowAt s .last
+    inside = let ne = eqb-false (nowAt s .position) (nowAt s .last) short in omega (arith, placed .position-in)
 
     low : keyNow s < 8192
     low = next-page s v (nowAt s) placed inside .low
@@ -255,7 +255,7 @@ module _ (s : State) (v : Valid s) (closed : (k : ℕ) → T (inFetch s k) → �
           key (size s (nowAt s .file)) 0 (λ b. b ≡ false) (λ e. absurd (omega (arith, placed .file-there))) (λ _. refl) in
           let c : leb 1 (nowAt s .position + 1) ≡ true = leq 1 (nowAt s .position + 1) (λ b. b ≡ true) (λ _. refl) (λ l. absurd (omega arith)) in
           let d : leb (nowAt s .position + 1) (size s (nowAt s .file)) ≡ true =
-          leq (nowAt s .position + 1) (size s (nowAt s .file)) (λ b. b ≡ true) (λ _. refl) (λ l. absurd (omega (arith, inside))) in
+          leq (nowAt s .position + 1) (size s (nowAt s .file)) (λ b. b ≡ true) (λ _. refl) (λ l. absurd (omega (arith, inside, placed .last-high))) in
           rw (a, b, c, d, is-true (on (putBit (s .fetching) (keyNow s) 1) (keyNow s)) (put-on (s .fetching) (v .fetching-map) (keyNow s) low))
 
       -- the second Read finds the page

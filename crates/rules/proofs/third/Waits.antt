@@ -26,7 +26,7 @@ module _ (s : State) (v : Valid s) (u : ℕ) (l : u < 16) (here : T (attached (r
   paused-alike j = key u j (λ _. AlikeReader (getD (paused s u) j noReader) (readerAt s j))
       (λ e.
       rw (← e, getD-set-same (s .readers) u _ noReader (omega arith))
-      (record { attached-same = sym (is-true _ here); file-same = refl; pace-same = refl; position-same = refl }))
+      (record { attached-same = sym (is-true _ here); file-same = refl; pace-same = refl; position-same = refl; last-same = refl }))
       (λ ne. alike-same (getD-set-other (s .readers) u j _ noReader (λ e. ne (sym e))))
 
   -- the steal order once reader u waits, whatever is in fetch and whatever T: q does not look at the fetch map (present-same, in Local.antt). Where it does,

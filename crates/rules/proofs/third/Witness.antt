@@ -11,12 +11,12 @@ use Rattle.rules.specs.Pages.{pages, cached, cachedPages, fetchingPages}
 use Rattle.rules.specs.Readers.{noReader, readerAt, attached}
 use Rattle.rules.specs.Valid.{Valid, Placed, ReaderIn}
 use Rattle.rules.specs.UseTimes.{before, present, missing, pruned, sees, timeFor, useFor, useKey, ahead, seen}
-use Rattle.rules.specs.Orders.{behindLast, notSeen, useTime, stealOrder, victim}
+use Rattle.rules.specs.Orders.{notAhead, notSeen, useTime, stealOrder, victim}
 use Rattle.rules.specs.Calls.{withReader, fresh, settingsIn, setupOf, readRunning, readOf, full, dropped, woken, landed, forFetch, arriveOf}
 use Rattle.rules.specs.Run.{fetchOpen, readTurn, turnOf, turnsOf, runOf}
 use Rattle.rules.specs.Schedules.{Set, Serves, fetchesIn}
 use Rattle.rules.specs.Third.{Covers, Premises, goes, laidDown, laid, hitSets, Best}
-use Rattle.rules.proofs.tables.Soundings.{at}
+use Rattle.rules.proofs.tables.Soundings.{upTo}
 use Rattle.rules.proofs.calls.Changes.{readers-changed}
 use Rattle.rules.proofs.calls.Kept.{same-at, setup-valid}
 use Rattle.rules.proofs.third.Optimal.{third}
@@ -24,27 +24,35 @@ use Rattle.rules.specs.declared.State.{State}
 use Rattle.rules.specs.declared.Reader.{Reader}
 use Rattle.rules.specs.declared.Answer.the-variants.{Ran}
 
--- two frames, nothing cached, a file of six pages, and a look-ahead of 60 ticks: at pace 10 it covers the file, and one tick less would not
+-- two frames, nothing cached, a file of eight pages, and a look-ahead of 60 ticks
 abbrev start : State
-start = fresh 2 60 0 (6 ∷ replicate 7 0)
+start = fresh 2 60 0 (8 ∷ replicate 7 0)
 
--- two readers of it, the second three pages ahead of the first
+-- two readers of it up to page 6, the second three pages ahead of the first: at pace 10 the look-ahead covers their last page, and one tick less would not
 abbrev pub lead : State
-lead = withReader (withReader start 0 (at 0 10)) 1 (at 3 10)
+lead = withReader (withReader start 0 (upTo 6 0 10)) 1 (upTo 6 3 10)
 
 -- what holds of the two readers and of no reader holds of every record
-each-reader : (P : Reader → Type 0) → P (at 0 10) → P (at 3 10) → P noReader → (j : ℕ) → P (readerAt lead j)
+each-reader : (P : Reader → Type 0) → P (upTo 6 0 10) → P (upTo 6 3 10) → P noReader → (j : ℕ) → P (readerAt lead j)
 each-reader P a b c zero = a
 each-reader P a b c (suc zero) = b
 each-reader P a b c (suc (suc j)) = rw (same-at 14 j noReader) c
 
-placed : (c : ℕ) → c ≤ 6 → Placed start (at c 10)
-placed c h = record { file-high = omega arith; file-there = omega arith; pace-low = omega arith; pace-high = omega arith; position-in = h }
+placed : (c : ℕ) → c ≤ 6 → Placed start (upTo 6 c 10)
+placed c h = record {
+  file-high = omega arith;
+  file-there = omega arith;
+  pace-low = omega arith;
+  pace-high = omega arith;
+  last-low = omega arith;
+  last-high = omega arith;
+  position-in = h;
+}
 
 -- it is valid
 pub lead-valid : Valid lead
 unfolding setupOf settingsIn every
-lead-valid = readers-changed start (setup-valid 2 60 0 (6 ∷ replicate 7 0) refl) (lead .readers) refl
+lead-valid = readers-changed start (setup-valid 2 60 0 (8 ∷ replicate 7 0) refl) (lead .readers) refl
     (each-reader (λ r. ReaderIn (r .condition) start r) (placed 0 (omega arith)) (placed 3 (omega arith)) refl)
 
 -- it meets the premises
@@ -62,7 +70,7 @@ lead-premises = record {
 -- 16,384 turns, the most that are permitted, fetch seven times for two frames and six pages: pages are given up, and one is fetched twice
 pub lead-answer : runOf lead 16384 .answer ≡ Ran 7 9
 unfolding bit putBit range each only put sorted least some-of pages cachedPages fetchingPages before present missing pruned sees
-    timeFor useFor useKey ahead seen behindLast notSeen useTime stealOrder victim readRunning readOf full dropped woken landed forFetch
+    timeFor useFor useKey ahead seen notAhead notSeen useTime stealOrder victim readRunning readOf full dropped woken landed forFetch
     arriveOf fetchOpen readTurn turnOf turnsOf runOf
 lead-answer = refl
 

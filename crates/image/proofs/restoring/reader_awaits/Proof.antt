@@ -1,6 +1,5 @@
 -- A reader at its last page awaits none; any other awaits the page after its position.
 use mathlib.Core.Path.{_∙_, ap}
-use native.Mathlib.Omega.{arith}
 use borrow.Author.Tests.{lt-ltb, le-ltb}
 use lib.Dec.{eqb}
 use Rattle.bits.specs.Map.{bit}
@@ -10,35 +9,24 @@ use borrow.Author.Needs.{needs}
 use Rattle.image.proofs.restoring.reader_awaits.Statement.{statement}
 use Rattle.image.proofs.restoring.reader_awaits.Tie as tie
 
-last-page-requires : tie.Need-last-page-requires
-last-page-requires c κs = search needs
-
 returns : tie.Need-returns
 unfolding awaits
-returns c =
-    let after-last-page = c .before .before in
-    and-stop _ _ (le-ltb _ _ (rw (after-last-page .last-page .ensures) at (c .if1 .taken)))
+returns c = and-stop _ _ (le-ltb _ _ (c .if1 .taken))
 
 next-key-requires : tie.Need-next-key-requires
 next-key-requires c κs = search needs
 
 has-bit-requires : tie.Need-has-bit-requires
-has-bit-requires c κs =
-    let else-1 = c .before in
-    let after-last-page = else-1 .before .before in
-    let at-start = after-last-page .before .before in
-    omega (arith, c .next-key .ensures, after-last-page .last-page .ensures, else-1 .if1 .left, at-start .pre .1 (at-start .args .r .file))
+has-bit-requires c κs = search needs
 
 returns-2 : tie.Need-returns-2
 unfolding awaits
 returns-2 c =
     let after-next-key = c .before in
     let else-1 = after-next-key .before in
-    let after-last-page = else-1 .before .before in
-    let at-start = after-last-page .before .before in
-    and-pass _ _ _ (lt-ltb _ _ (rw (after-last-page .last-page .ensures) at (else-1 .if1 .left)))
+    let at-start = else-1 .before .before in
+    and-pass _ _ _ (lt-ltb _ _ (else-1 .if1 .left))
     (c .has-bit .ensures ∙ ap (λ k. eqb (bit (at-start .args .fetching .now) k) 1) (after-next-key .next-key .ensures))
 
 pub reader-awaits-spec : {M : Type 1} → statement M
-reader-awaits-spec =
-    tie.close (tie.spec last-page-requires returns next-key-requires has-bit-requires returns-2)
+reader-awaits-spec = tie.close (tie.spec returns next-key-requires has-bit-requires returns-2)

@@ -1,6 +1,6 @@
 -- A record is tested as its condition asks.
 use borrow.Author.Needs.{needs}
-use Rattle.image.proofs.Slots.{holds-empty, holds-running, holds-stop, holds-waiting, placed-file}
+use Rattle.image.proofs.Slots.{holds-empty, holds-running, holds-stop, holds-waiting, placed-file, placed-last}
 use Rattle.image.proofs.restoring.reader_holds.Statement.{statement}
 use Rattle.image.proofs.restoring.reader_holds.Tie as tie
 
@@ -26,7 +26,7 @@ returns : tie.Need-returns
 returns c = search (holds-stop, needs)
 
 reader-awaits-requires : tie.Need-reader-awaits-requires
-reader-awaits-requires c κs = (search (placed-file, needs), search needs)
+reader-awaits-requires c κs = (search (placed-file, needs), search (placed-last, needs))
 
 returns-2 : tie.Need-returns-2
 returns-2 c = search (holds-empty, needs)

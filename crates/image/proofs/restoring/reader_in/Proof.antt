@@ -34,6 +34,9 @@ add-get-u16-2 c = search needs
 get-u16-requires-2 : tie.Need-get-u16-requires-2
 get-u16-requires-2 c κs = search needs
 
+last-in-requires : tie.Need-last-in-requires
+last-in-requires c κs = search needs
+
 reader-of-requires : tie.Need-reader-of-requires
 reader-of-requires c κs = search needs
 
@@ -54,5 +57,6 @@ reader-in-spec =
     get-u16-requires
     add-get-u16-2
     get-u16-requires-2
+    last-in-requires
     reader-of-requires
     returns)

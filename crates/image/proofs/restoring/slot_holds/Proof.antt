@@ -1,6 +1,6 @@
--- A slot is tested in three parts, up to the first that fails.
+-- A slot is tested in two parts, up to the first that fails.
 use borrow.Author.Needs.{needs}
-use Rattle.image.proofs.Slots.{slot-stop, slot-out, slot-last}
+use Rattle.image.proofs.Slots.{slot-stop, slot-last}
 use Rattle.image.proofs.restoring.slot_holds.Statement.{statement}
 use Rattle.image.proofs.restoring.slot_holds.Tie as tie
 
@@ -29,16 +29,7 @@ reader-holds-requires : tie.Need-reader-holds-requires
 reader-holds-requires c κs = search needs
 
 returns-2 : tie.Need-returns-2
-returns-2 c = search (slot-out, needs)
-
-add-get-u16 : tie.Need-add-get-u16
-add-get-u16 c = search needs
-
-get-u16-requires : tie.Need-get-u16-requires
-get-u16-requires c κs = search needs
-
-returns-3 : tie.Need-returns-3
-returns-3 c = search (slot-last, needs)
+returns-2 c = search (slot-last, needs)
 
 pub slot-holds-spec : {M : Type 1} → statement M
 slot-holds-spec =
@@ -52,7 +43,4 @@ slot-holds-spec =
     returns
     reader-in-requires
     reader-holds-requires
-    returns-2
-    add-get-u16
-    get-u16-requires
-    returns-3)
+    returns-2)

@@ -52,7 +52,7 @@ returns c =
     let after-condition-number = after-put-u8 .before in
     let at-start = after-condition-number .before .before .before in
     let a = at-start .args in
-    written-five (field 1 (conditionNumber (a .r .condition))) (field 1 (a .r .file)) (field 2 (a .r .pace)) (field 2 (a .r .position)) (field 2 0)
+    written-five (field 1 (conditionNumber (a .r .condition))) (field 1 (a .r .file)) (field 2 (a .r .pace)) (field 2 (a .r .position)) (field 2 (a .r .last))
     (a .buffer .now) _ _ _ _ _ (a .at)
     (after-put-u8 .put-u8 .ensures ∙ ap (λ n. written (a .buffer .now) (a .at) (bytesOf 1 n)) (after-condition-number .condition-number .ensures))
     (after-put-u8-2 .put-u82 .ensures) (after-put-u16 .put-u16 .ensures) (after-put-u16-2 .put-u162 .ensures)

@@ -2,7 +2,7 @@
 use mathlib.Core.Path.{_≡_}
 use borrow.Author.Needs.{needs}
 use lib.ListN.{length}
-use Rattle.lines.proofs.Letters.{other-count, field-first, fields-two, fields-three, fields-all}
+use Rattle.lines.proofs.Letters.{other-count, field-first, fields-two, fields-five, fields-all}
 use Rattle.lines.proofs.dispatch.obey.Statement.{statement}
 use Rattle.lines.proofs.dispatch.obey.Tie as tie
 
@@ -28,17 +28,23 @@ array-read-obey-two-2 c = search needs
 obey-two-requires : tie.Need-obey-two-requires
 obey-two-requires c κs = search needs
 
-array-read-obey-three : tie.Need-array-read-obey-three
-array-read-obey-three c = search needs
+array-read-obey-five : tie.Need-array-read-obey-five
+array-read-obey-five c = search needs
 
-array-read-obey-three-2 : tie.Need-array-read-obey-three-2
-array-read-obey-three-2 c = search needs
+array-read-obey-five-2 : tie.Need-array-read-obey-five-2
+array-read-obey-five-2 c = search needs
 
-array-read-obey-three-3 : tie.Need-array-read-obey-three-3
-array-read-obey-three-3 c = search needs
+array-read-obey-five-3 : tie.Need-array-read-obey-five-3
+array-read-obey-five-3 c = search needs
 
-obey-three-requires : tie.Need-obey-three-requires
-obey-three-requires c κs = search needs
+array-read-obey-five-4 : tie.Need-array-read-obey-five-4
+array-read-obey-five-4 c = search needs
+
+array-read-obey-five-5 : tie.Need-array-read-obey-five-5
+array-read-obey-five-5 c = search needs
+
+obey-five-requires : tie.Need-obey-five-requires
+obey-five-requires c κs = search needs
 
 obey-eleven-requires : tie.Need-obey-eleven-requires
 obey-eleven-requires c κs = search needs
@@ -82,11 +88,11 @@ same-length-4 c = search needs
 
 returns-4 : tie.Need-returns-4
 returns-4 c =
-    let after-obey-three = c .before .before in
-    let at-match-keys-4 = after-obey-three .before .before in
+    let after-obey-five = c .before .before in
+    let at-match-keys-4 = after-obey-five .before .before in
     let at-start = at-match-keys-4 .before .before .before in
     let x = at-start .args .c .fields in
-    rw (at-match-keys-4 .match .keys4, ← fields-three x (eleven at-start)) (after-obey-three .obey-three .ensures _ _)
+    rw (at-match-keys-4 .match .keys4, ← fields-five x (eleven at-start)) (after-obey-five .obey-five .ensures _ _)
 
 same-length-5 : tie.Need-same-length-5
 same-length-5 c = search needs
@@ -122,10 +128,12 @@ obey-spec =
     array-read-obey-two
     array-read-obey-two-2
     obey-two-requires
-    array-read-obey-three
-    array-read-obey-three-2
-    array-read-obey-three-3
-    obey-three-requires
+    array-read-obey-five
+    array-read-obey-five-2
+    array-read-obey-five-3
+    array-read-obey-five-4
+    array-read-obey-five-5
+    obey-five-requires
     obey-eleven-requires
     refuse-requires
     same-length

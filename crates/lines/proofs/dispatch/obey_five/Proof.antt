@@ -1,10 +1,10 @@
--- The letter A, or none that takes three fields.
+-- The letter A, or none that takes five fields.
 use borrow.Author.Needs.{needs}
 use Rattle.rules.specs.Lines.{obeyed}
-use Rattle.lines.proofs.Letters.{other-three}
+use Rattle.lines.proofs.Letters.{other-five}
 use Rattle.lines.proofs.Replies.{gives-told}
-use Rattle.lines.proofs.dispatch.obey_three.Statement.{statement}
-use Rattle.lines.proofs.dispatch.obey_three.Tie as tie
+use Rattle.lines.proofs.dispatch.obey_five.Statement.{statement}
+use Rattle.lines.proofs.dispatch.obey_five.Tie as tie
 
 attach-requires : tie.Need-attach-requires
 attach-requires c κs = search needs
@@ -33,10 +33,10 @@ returns-2 : tie.Need-returns-2
 returns-2 c =
     let after-refuse = c .before .before in
     let else-1 = after-refuse .before .before in
-    λ a b. rw (other-three _ _ _ _ _ (else-1 .if1 .left)) (after-refuse .refuse .ensures a b)
+    λ a b. rw (other-five _ _ _ _ _ _ _ (else-1 .if1 .left)) (after-refuse .refuse .ensures a b)
 
-pub obey-three-spec : {M : Type 1} → statement M
-obey-three-spec =
+pub obey-five-spec : {M : Type 1} → statement M
+obey-five-spec =
     tie.close
     (tie.spec
     attach-requires
