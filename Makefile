@@ -10,7 +10,7 @@ ROOT = $(DESTDIR)$(PREFIX)
 MAN = share/man/man1
 INSTALLED = bin/quay bin/quay-explain lib/libquay.a lib/pkgconfig/quay.pc include/quay.h $(MAN)/quay.1 $(MAN)/quay-explain.1
 
-.PHONY: run test program lib explain bench install uninstall
+.PHONY: run test program lib probe explain bench install uninstall
 
 run: program
 	@cat $(INPUT) | $(QUAY)
@@ -30,6 +30,10 @@ lib:
 	@cp include/quay.h $(LIB)/quay.h
 	@echo '$(LIB) has libquay.a and quay.h'
 
+# the archive of the calls to which no door leads, for the tests from outside alone, in target/staticlib
+probe:
+	@rt staticlib probe
+
 # the program that shows why a page stands where it stands, in target/bin; without cargo it is left out
 explain:
 	@mkdir -p target/bin
@@ -42,9 +46,9 @@ explain:
 	fi
 
 # the C entries and the program beside the checker's own, in one run
-bench: lib program
+bench: lib probe program
 	@cd checker && cargo build --offline --quiet --release --bin lines
-	@cd checker && QUAY_LIB=../$(LIB) QUAY_PROGRAM=../$(QUAY) cargo run --offline --quiet --release --features box --bin bench | tee ../docs/PERFORMANCE.md
+	@cd checker && QUAY_LIB=../$(LIB) QUAY_PROBE=../target/staticlib QUAY_PROGRAM=../$(QUAY) cargo run --offline --quiet --release --features box --bin bench | tee ../docs/PERFORMANCE.md
 
 install: explain lib program
 	install -d $(ROOT)/bin $(ROOT)/lib/pkgconfig $(ROOT)/include $(ROOT)/$(MAN)

@@ -1,25 +1,44 @@
 //! With the feature `box`: links the box's library, `libquay.a`, and `src/ffi.c`,
-//! compiled with its header, `quay.h`. Both lie in the folder that the
-//! environment variable `QUAY_LIB` names.
+//! compiled with its header, `quay.h`, both in the folder that the environment
+//! variable `QUAY_LIB` names; and Restore and Save by themselves, `libprobe.a`, in
+//! the folder that `QUAY_PROBE` names.
 
 use std::env;
+use std::path::Path;
 use std::process::Command;
 
 fn main() {
     println!("cargo:rerun-if-changed=build.rs");
     println!("cargo:rerun-if-env-changed=QUAY_LIB");
+    println!("cargo:rerun-if-env-changed=QUAY_PROBE");
     if env::var_os("CARGO_FEATURE_BOX").is_none() {
         return;
     }
-    let folder =
-        env::var("QUAY_LIB").expect("QUAY_LIB must name the folder of libquay.a and quay.h");
-    println!("cargo:rerun-if-changed={folder}/libquay.a");
-    println!("cargo:rustc-link-search=native={folder}");
-    println!("cargo:rustc-link-lib=static=quay");
-    link_inline(&folder);
+    let library = folder("QUAY_LIB", &["libquay.a", "quay.h"]);
+    let probe = folder("QUAY_PROBE", &["libprobe.a"]);
+    link(&library, "quay");
+    link_inline(&library);
+    link(&probe, "probe");
 }
 
-/// Makes an archive of `src/ffi.c`, in which the header's inline function is.
+/// The folder that a variable names, in which these files must be.
+fn folder(variable: &str, files: &[&str]) -> String {
+    let wanted = format!("{variable} must name the folder of {}", files.join(" and "));
+    let folder = env::var(variable).unwrap_or_else(|_| panic!("{wanted}"));
+    for file in files {
+        let path = Path::new(&folder).join(file);
+        assert!(path.is_file(), "{wanted}; {} is no file", path.display());
+    }
+    folder
+}
+
+fn link(folder: &str, name: &str) {
+    println!("cargo:rerun-if-changed={folder}/lib{name}.a");
+    println!("cargo:rustc-link-search=native={folder}");
+    println!("cargo:rustc-link-lib=static={name}");
+}
+
+/// Makes an archive of `src/ffi.c`, in which the header's inline functions are.
 fn link_inline(folder: &str) {
     println!("cargo:rerun-if-changed={folder}/quay.h");
     println!("cargo:rerun-if-changed=src/ffi.c");

@@ -29,8 +29,8 @@ extern "C" {
  * MAJOR grows when a server has to change or its images do: a call takes other numbers, an answer or a refusal means something
  * else, or the image is longer. MINOR grows when something is added, a call for instance, and all that was stays. PATCH grows
  * when this header says the same as before. */
-#define QUAY_VERSION "2.0.0"
-#define QUAY_VERSION_MAJOR 2
+#define QUAY_VERSION "3.0.0"
+#define QUAY_VERSION_MAJOR 3
 #define QUAY_VERSION_MINOR 0
 #define QUAY_VERSION_PATCH 0
 
@@ -50,15 +50,19 @@ extern "C" {
  *      156      4  0
  *      160   1024  cached pages, 128 bytes a file, page 1 in the lowest bit of the first
  *     1184   1024  pages in fetch, likewise
+ *     2208   16x2  marks of the readers: the position from which the next quay_measure counts pages
  *
- * A reader's file is 0 to 7 and of a size above 0, its pace 1 to 1,000, its last page 1 to the size, its position 0 to its last page;
- * an empty slot is all 0. A waiting reader is not at its last page, and its next page is in fetch. No page is above its file's size or
- * in both maps, and no more pages are cached than there are frames. Any other image is refused: 13.
+ * A reader's file is 0 to 7 and of a size above 0, its pace 1 to 1,000, its last page 1 to the size, its position 0 to its last page,
+ * its mark 0 to the position; an empty slot is all 0. A waiting reader is not at its last page, and its next page is in fetch. No page
+ * is above its file's size or in both maps, and no more pages are cached than there are frames. Any other image is refused: 13.
  *
- * In an image of version 1 every last page is 0, and it is taken up too: 0 there, in a taken slot, means the size of the reader's file.
- * This goes slot by slot, so one image may have both. A call that is not refused writes the last page of every reader in; a refusal
- * leaves the 0. */
-#define QUAY_IMAGE_SIZE 2208
+ * Older images. From version to version the image grows at its end: it has no version in it, only a length. Versions 1 and 2 have
+ * QUAY_IMAGE_SIZE_V1 bytes, version 3 has QUAY_IMAGE_SIZE. A call takes the newest length alone and refuses any other, 13;
+ * quay_upgrade_image writes the newest image from an older one, which gets what it lacks: a last page of 0 in a taken slot, as every
+ * reader of version 1 has it, becomes the size of the reader's file, and the mark of each reader its position, so that the first
+ * measure counts the pages read after the upgrade. In an image of the newest length a last page of 0 in a taken slot is refused. */
+#define QUAY_IMAGE_SIZE 2240
+#define QUAY_IMAGE_SIZE_V1 2208
 #define QUAY_AT_FRAMES 0
 #define QUAY_AT_TURN 2
 #define QUAY_AT_LOOK_AHEAD 4
@@ -67,6 +71,7 @@ extern "C" {
 #define QUAY_AT_READERS 28
 #define QUAY_AT_CACHED 160
 #define QUAY_AT_FETCHING 1184
+#define QUAY_AT_MARKS 2208
 
 /* ---- refusals -----------------------------------------------------------------------------------------------------------
  * Where several apply, the one that stands first at the call below is given. */
@@ -83,11 +88,12 @@ extern "C" {
 #define QUAY_TOO_MANY_TURNS 11  /* turns above 16,384 */
 #define QUAY_BAD_IMAGE 13       /* another length than QUAY_IMAGE_SIZE, or no image of the box; tested first by every call */
 #define QUAY_BAD_RANGE 15       /* last page 0 or above the file's size, or start above the last page */
+#define QUAY_BAD_INTERVAL 16    /* interval not 1 to 1,000,000, or more ticks blocked than it has */
 
 /* ---- answers ------------------------------------------------------------------------------------------------------------
  * A refusal's number is below 65,536. Any other answer has a letter, and some name a page. Run's answer has no letter but two
  * counts. */
-#define QUAY_DONE 'O'     /* first image, attach, detach, lost: done */
+#define QUAY_DONE 'O'     /* first image, upgrade, attach, detach, lost, measure: done */
 #define QUAY_HIT 'H'      /* read: the page was cached, and is read */
 #define QUAY_WAIT 'W'     /* read: the page is in fetch; the reader waits for it */
 #define QUAY_FETCH 'F'    /* read, prefetch: fetch this page now; a reader that asked waits for it */
@@ -140,6 +146,32 @@ static inline uint64_t quay_first_image(uint8_t *image, size_t length, uint64_t 
     return (uint64_t)QUAY_DONE << 16;
 }
 
+/* ---- an older image ----------------------------------------------------------------------------------------------------- */
+
+/* Writes the newest image from one of QUAY_IMAGE_SIZE_V1 or QUAY_IMAGE_SIZE bytes; the latter is copied as it is. It judges nothing
+ * but the lengths: whether the bytes are an image the next call tells, 13. `old` may be `image` itself, so that an old image can be
+ * read from its file into a buffer of the newest length and be upgraded there.
+ * QUAY_DONE. Refusal: 13 for a length that is not QUAY_IMAGE_SIZE, or an old length that is neither; the buffer is left. It is plain
+ * C outside the proofs; tests hold it to the rule of Restore. */
+static inline uint64_t quay_upgrade_image(uint8_t *image, size_t length, const uint8_t *old, size_t old_length)
+{
+    if (length != QUAY_IMAGE_SIZE || (old_length != QUAY_IMAGE_SIZE && old_length != QUAY_IMAGE_SIZE_V1))
+        return QUAY_BAD_IMAGE;
+    if (image != old)
+        for (size_t i = 0; i < old_length; i++)
+            image[i] = old[i];
+    for (size_t slot = 0; slot < 16 && old_length == QUAY_IMAGE_SIZE_V1; slot++) {
+        uint8_t *reader = image + QUAY_AT_READERS + 8 * slot, *mark = image + QUAY_AT_MARKS + 2 * slot;
+        int whole = reader[0] != 0 && reader[1] < 8 && reader[6] == 0 && reader[7] == 0; /* a taken slot without a last page */
+        for (size_t i = 0; i < 2; i++) {
+            if (whole)
+                reader[6 + i] = image[QUAY_AT_SIZES + 2 * reader[1] + i];
+            mark[i] = reader[4 + i];
+        }
+    }
+    return (uint64_t)QUAY_DONE << 16;
+}
+
 /* ---- the calls ----------------------------------------------------------------------------------------------------------
  * Each takes the image and its length, which must be QUAY_IMAGE_SIZE. */
 
@@ -177,6 +209,15 @@ uint64_t quay_steal(uint8_t *image, size_t length);
  * within the turn.
  * 4,294,967,296 + fetches x 65,536 + reads: take it apart by quay_fetches and quay_reads. Refusals: 13, 11, 10. */
 uint64_t quay_run(uint8_t *image, size_t length, uint64_t turns);
+
+/* What the tablet in the slot really takes for a page becomes its pace. The interval, 1 to 1,000,000, is how many ticks have passed
+ * since its last measure, or since it docked; blocked is for how many of them it could not go on, because it waited for a page. With n
+ * the pages that it has read since then,
+ *     pace = (interval - blocked) / n, rounded down, at least 1 and at most 1,000;
+ * where n is 0 the pace stays. The box has no clock: both numbers are the server's. What it counts is the pages, from the mark, which
+ * is then set to the position. A waiting tablet may be measured too.
+ * QUAY_DONE. Refusals: 13, 2, 6, 16. */
+uint64_t quay_measure(uint8_t *image, size_t length, uint64_t slot, uint64_t interval, uint64_t blocked);
 
 #ifdef __cplusplus
 }

@@ -121,7 +121,12 @@ static void refusals(void)
     SAYS(quay_read(BOX, 0), QUAY_FETCH, 0, 1);
     IS(quay_read(BOX, 0), QUAY_READER_WAITS);
     IS(quay_run(BOX, 1), QUAY_FETCH_OPEN);
-    for (length = QUAY_IMAGE_SIZE - 1; length <= QUAY_IMAGE_SIZE + 1; length += 2) {
+    IS(quay_measure(BOX, 0, 0, 0), QUAY_BAD_INTERVAL);
+    IS(quay_measure(BOX, 0, 1000001, 0), QUAY_BAD_INTERVAL);
+    IS(quay_measure(BOX, 0, 1000000, 1000001), QUAY_BAD_INTERVAL);
+    const size_t lengths[] = {0, QUAY_IMAGE_SIZE_V1, QUAY_IMAGE_SIZE - 1, QUAY_IMAGE_SIZE + 1};
+    for (size_t i = 0; i < sizeof lengths / sizeof *lengths; i++) {
+        length = lengths[i];
         IS(quay_attach(BOX, 1, 0, 10, 0, 5), QUAY_BAD_IMAGE);
         IS(quay_detach(BOX, 0), QUAY_BAD_IMAGE);
         IS(quay_read(BOX, 0), QUAY_BAD_IMAGE);
@@ -130,10 +135,11 @@ static void refusals(void)
         IS(quay_prefetch(BOX), QUAY_BAD_IMAGE);
         IS(quay_steal(BOX), QUAY_BAD_IMAGE);
         IS(quay_run(BOX, 0), QUAY_BAD_IMAGE);
+        IS(quay_measure(BOX, 0, 1, 0), QUAY_BAD_IMAGE);
     }
 }
 
-/* Attach's refusals, each where all that come after it apply too. */
+/* Attach's refusals and Measure's, each where all that come after it apply too. */
 static void refusals_in_order(void)
 {
     start();
@@ -144,6 +150,10 @@ static void refusals_in_order(void)
     IS(quay_attach(BOX, 0, 0, 0, 1, 0), QUAY_BAD_PACE);
     IS(quay_attach(BOX, 0, 0, 10, 1, 0), QUAY_BAD_RANGE);
     IS(quay_attach(BOX, 0, 0, 10, 1, 1), QUAY_SLOT_TAKEN);
+    IS(quay_measure(image, QUAY_IMAGE_SIZE - 1, 16, 0, 1), QUAY_BAD_IMAGE);
+    IS(quay_measure(BOX, 16, 0, 1), QUAY_NO_SLOT);
+    IS(quay_measure(BOX, 1, 0, 1), QUAY_SLOT_EMPTY);
+    IS(quay_measure(BOX, 0, 0, 1), QUAY_BAD_INTERVAL);
 }
 
 /* Numbers are 64 bits wide: none of these is cut to one that fits. */
@@ -164,6 +174,10 @@ static void wide_numbers(void)
     IS(quay_lost(BOX, wide, 1), QUAY_NO_FILE);
     IS(quay_lost(BOX, 0, wide + 1), QUAY_NO_PAGE);
     IS(quay_run(BOX, wide), QUAY_TOO_MANY_TURNS);
+    IS(quay_measure(BOX, wide, 1, 0), QUAY_NO_SLOT);
+    SAYS(quay_attach(BOX, 0, 0, 10, 0, 5), QUAY_DONE, 0, 0);
+    IS(quay_measure(BOX, 0, wide + 1, 0), QUAY_BAD_INTERVAL);
+    IS(quay_measure(BOX, 0, 1, wide), QUAY_BAD_INTERVAL);
     IS(quay_refused(quay_run(BOX, 0)), 0);
 }
 
@@ -228,40 +242,99 @@ static void last_pages(void)
     SAYS(quay_read(BOX, 15), QUAY_END, 0, 0);
 }
 
-/* An image of version 1, a reader with a last page of its own in it: which answers write the last pages in, and that nothing else
- * changes. */
+static unsigned number_at(size_t at) { return image[at] + 256u * image[at + 1]; }
+
+/* A reader of file 7 in slot 3 that has read so many pages since its mark at page 9, and its pace after this measure. */
+static unsigned paced(unsigned pages, uint64_t interval, uint64_t blocked)
+{
+    start();
+    SAYS(quay_attach(BOX, 3, 7, 44, 9, 1024), QUAY_DONE, 0, 0);
+    IS(number_at(QUAY_AT_MARKS + 2 * 3), 9);
+    put(QUAY_AT_READERS + 8 * 3 + 4, 2, 9 + pages);
+    SAYS(quay_measure(BOX, 3, interval, blocked), QUAY_DONE, 0, 0);
+    IS(number_at(QUAY_AT_MARKS + 2 * 3), 9 + pages);
+    IS(number_at(QUAY_AT_READERS + 8 * 3 + 4), 9 + pages);
+    unsigned pace = number_at(QUAY_AT_READERS + 8 * 3 + 2);
+    SAYS(quay_detach(BOX, 3), QUAY_DONE, 0, 0);
+    IS(number_at(QUAY_AT_MARKS + 2 * 3), 0);
+    return pace;
+}
+
+/* A measured pace: the ticks that were not blocked, by the pages since the mark. */
+static void paces(void)
+{
+    IS(paced(20, 1000, 400), 30);
+    IS(paced(7, 1000, 400), 85);
+    IS(paced(0, 1000, 400), 44);
+    IS(paced(3, 1000, 1000), 1);
+    IS(paced(3, 1000000, 0), 1000);
+    IS(paced(1000, 1, 0), 1);
+}
+
+/* A waiting reader is measured too, and goes on waiting. */
+static void paced_while_waiting(void)
+{
+    start();
+    SAYS(quay_attach(BOX, 0, 0, 10, 0, 5), QUAY_DONE, 0, 0);
+    SAYS(quay_read(BOX, 0), QUAY_FETCH, 0, 1);
+    put(QUAY_AT_READERS + 4, 2, 3);
+    image[QUAY_AT_FETCHING] = 8;
+    SAYS(quay_measure(BOX, 0, 100, 40), QUAY_DONE, 0, 0);
+    IS(number_at(QUAY_AT_READERS + 2), 20);
+    IS(quay_read(BOX, 0), QUAY_READER_WAITS);
+}
+
+/* An image of version 1, a reader with a last page of its own in it: what it is upgraded to, in another buffer and in its own. */
 static void older_images(void)
 {
-    static uint8_t older[sizeof image], newer[sizeof image];
+    static uint8_t older[QUAY_IMAGE_SIZE_V1], newer[sizeof image];
     start();
     seat(0, 1, 5, 0);
     seat(3, 1, 2, 4);
     seat(15, 1, 0, 0);
-    memcpy(older, image, sizeof image);
+    memcpy(older, image, sizeof older);
     seat(0, 1, 5, 5);
     seat(15, 1, 0, 5);
+    put(QUAY_AT_MARKS, 2, 5);
+    put(QUAY_AT_MARKS + 2 * 3, 2, 2);
+    image[QUAY_IMAGE_SIZE] = 0xa5;
     memcpy(newer, image, sizeof image);
 
-    memcpy(image, older, sizeof image);
-    IS(quay_attach(BOX, 0, 0, 10, 0, 5), QUAY_SLOT_TAKEN);
-    IS(quay_read(BOX, 1), QUAY_SLOT_EMPTY);
-    IS(quay_run(BOX, 16385), QUAY_TOO_MANY_TURNS);
-    IS(memcmp(image, older, sizeof image), 0);
+    IS(quay_steal(older, sizeof older), QUAY_BAD_IMAGE);
+    memset(image, 0xa5, sizeof image);
+    SAYS(quay_upgrade_image(BOX, older, sizeof older), QUAY_DONE, 0, 0);
+    IS(memcmp(image, newer, sizeof image), 0);
+    memset(image, 0xa5, sizeof image);
+    memcpy(image, older, sizeof older);
+    SAYS(quay_upgrade_image(BOX, image, sizeof older), QUAY_DONE, 0, 0);
+    IS(memcmp(image, newer, sizeof image), 0);
+    SAYS(quay_upgrade_image(BOX, image, length), QUAY_DONE, 0, 0);
+    IS(memcmp(image, newer, sizeof image), 0);
     SAYS(quay_read(BOX, 0), QUAY_END, 0, 0);
     IS(memcmp(image, newer, sizeof image), 0);
-    SAYS(quay_steal(BOX), QUAY_NOTHING, 0, 0);
-    IS(memcmp(image, newer, sizeof image), 0);
+}
 
-    memcpy(image, older, sizeof image);
-    SAYS(quay_steal(BOX), QUAY_NOTHING, 0, 0);
-    IS(memcmp(image, newer, sizeof image), 0);
-    memcpy(image, older, sizeof image);
-    IS(quay_refused(quay_run(BOX, 0)), 0);
-    IS(memcmp(image, newer, sizeof image), 0);
-    memcpy(image, older, sizeof image);
-    SAYS(quay_detach(BOX, 15), QUAY_DONE, 0, 0);
-    memset(newer + QUAY_AT_READERS + 8 * 15, 0, 8);
-    IS(memcmp(image, newer, sizeof image), 0);
+/* Lengths that are no image's, and bytes that are none: the buffer stays, or the next call refuses it. */
+static void refused_upgrades(void)
+{
+    static uint8_t older[sizeof image], before[sizeof image];
+    start();
+    memset(image, 0xa5, sizeof image);
+    memcpy(before, image, sizeof image);
+    IS(quay_upgrade_image(BOX, older, 0), QUAY_BAD_IMAGE);
+    IS(quay_upgrade_image(BOX, older, QUAY_IMAGE_SIZE_V1 - 1), QUAY_BAD_IMAGE);
+    IS(quay_upgrade_image(BOX, older, QUAY_IMAGE_SIZE_V1 + 1), QUAY_BAD_IMAGE);
+    IS(quay_upgrade_image(BOX, older, QUAY_IMAGE_SIZE - 1), QUAY_BAD_IMAGE);
+    IS(quay_upgrade_image(BOX, older, QUAY_IMAGE_SIZE + 1), QUAY_BAD_IMAGE);
+    IS(quay_upgrade_image(image, QUAY_IMAGE_SIZE - 1, older, QUAY_IMAGE_SIZE_V1), QUAY_BAD_IMAGE);
+    IS(quay_upgrade_image(image, QUAY_IMAGE_SIZE + 1, older, QUAY_IMAGE_SIZE), QUAY_BAD_IMAGE);
+    IS(memcmp(image, before, sizeof image), 0);
+    SAYS(quay_upgrade_image(BOX, older, QUAY_IMAGE_SIZE_V1), QUAY_DONE, 0, 0); /* no frames */
+    IS(quay_steal(BOX), QUAY_BAD_IMAGE);
+    older[QUAY_AT_READERS] = 1;
+    older[QUAY_AT_READERS + 1] = 8; /* no such file, so its last page stays 0 */
+    SAYS(quay_upgrade_image(BOX, older, QUAY_IMAGE_SIZE_V1), QUAY_DONE, 0, 0);
+    IS(number_at(QUAY_AT_READERS + 6), 0);
 }
 
 /* Whether the box takes an image with this value at this place. */
@@ -289,15 +362,35 @@ static void reader_ranges(void)
     IS(seats(1, 5, 6), 0);
     IS(seats(1, 3, 3), 1);
     IS(seats(1, 4, 3), 0);
-    IS(seats(1, 5, 0), 1);
-    IS(seats(1, 6, 0), 0);
+    IS(seats(1, 5, 0), 0);
+    IS(seats(1, 0, 0), 0);
     IS(seats(2, 2, 3), 1);
     IS(seats(2, 3, 3), 0);
     IS(seats(2, 4, 3), 0);
-    IS(seats(2, 4, 0), 1);
-    IS(seats(2, 5, 0), 0);
+    IS(seats(2, 4, 0), 0);
     IS(seats(0, 0, 0), 1);
     IS(seats(0, 0, 5), 0);
+}
+
+/* Whether the box takes an image with this mark of slot 15, where a reader has read three pages, if any is there. */
+static int marks(uint8_t condition, uint32_t mark)
+{
+    start();
+    seat(15, condition, condition ? 3 : 0, condition ? 5 : 0);
+    put(QUAY_AT_MARKS + 2 * 15, 2, mark);
+    return quay_steal(BOX) != QUAY_BAD_IMAGE;
+}
+
+/* The range of a mark. */
+static void mark_ranges(void)
+{
+    IS(marks(1, 0), 1);
+    IS(marks(1, 3), 1);
+    IS(marks(1, 4), 0);
+    IS(marks(1, 256), 0);
+    IS(marks(0, 0), 1);
+    IS(marks(0, 1), 0);
+    IS(marks(0, 256), 0);
 }
 
 /* The ranges of 01, at the places where the values lie. */
@@ -361,9 +454,13 @@ int main(void)
     wide_numbers();
     answers();
     last_pages();
+    paces();
+    paced_while_waiting();
     older_images();
+    refused_upgrades();
     ranges();
     reader_ranges();
+    mark_ranges();
     limits();
     if (failed > 0)
         printf("quay.h is not the archive's: %u faults\n", failed);

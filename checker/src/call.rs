@@ -1,10 +1,12 @@
-//! The eight calls of the C boundary, and the settings of a first image.
+//! The nine calls of the C boundary, the settings of a first image, and what
+//! takes up an older one.
 
 use crate::limits::FILES;
 
 /// "The server is in C and calls the box on numbers and an image buffer:
-/// Attach, Detach, Read, Arrive, Lost, Prefetch, Steal, Run". The numbers are
-/// as they come, in range or not.
+/// Attach, Detach, Read, Arrive, Lost, Prefetch, Steal, Run"; and Measure, "in a
+/// C entry too but on no program line". The numbers are as they come, in range or
+/// not.
 #[derive(Clone, Copy, Debug, PartialEq, Eq)]
 #[allow(missing_docs)] // the fields are the paper's own words
 pub enum Call {
@@ -34,6 +36,11 @@ pub enum Call {
     Run {
         turns: u64,
     },
+    Measure {
+        slot: u64,
+        interval: u64,
+        blocked: u64,
+    },
 }
 
 /// Something that takes calls on an image buffer: the box, or what stands for
@@ -54,6 +61,25 @@ pub struct Settings {
 /// what stands for it. It changes the buffer and returns the number.
 pub type First = fn(&mut [u8], &Settings) -> u64;
 
+/// Where the image lies that is to be made one of 2,240 bytes.
+#[derive(Clone, Copy, Debug, PartialEq, Eq)]
+pub enum Older<'a> {
+    /// In bytes of its own.
+    Apart(&'a [u8]),
+    /// In the first so many bytes of the buffer itself.
+    InPlace(usize),
+}
+
+/// Something that writes into a buffer the image of 2,240 bytes that an older one
+/// stands for: the header's function, or what stands for it. It changes the buffer
+/// and returns the number.
+pub type Upgrade = fn(&mut [u8], Older) -> u64;
+
+/// Something that restores an image of any length and saves the state into a
+/// buffer of any length: Restore and Save themselves, or what stands for them. It
+/// returns Restore's number + 4,294,967,296 × Save's.
+pub type Probe = fn(&[u8], &mut [u8]) -> u64;
+
 impl Call {
     /// The call's name in the paper.
     pub fn name(self) -> &'static str {
@@ -66,13 +92,15 @@ impl Call {
             Call::Prefetch => "Prefetch",
             Call::Steal => "Steal",
             Call::Run { .. } => "Run",
+            Call::Measure { .. } => "Measure",
         }
     }
 
-    /// The call as a line of the program. One whose numbers are above
-    /// 4,294,967,295 is a line too, but not one of the paper's.
-    pub fn line(self) -> String {
-        match self {
+    /// The call as a line of the program; nothing for Measure, which has none. One
+    /// whose numbers are above 4,294,967,295 is a line too, but not one of the
+    /// paper's.
+    pub fn line(self) -> Option<String> {
+        Some(match self {
             Call::Attach {
                 slot,
                 file,
@@ -87,7 +115,8 @@ impl Call {
             Call::Prefetch => "P".to_string(),
             Call::Steal => "T".to_string(),
             Call::Run { turns } => format!("N,{turns}"),
-        }
+            Call::Measure { .. } => return None,
+        })
     }
 
     /// The call that such a line makes; S, L, Q and C make none.

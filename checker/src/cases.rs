@@ -1,7 +1,8 @@
 //! What a call meets that its answer alone does not tell: where a reader starts
-//! and ends.
+//! and ends, and what its pace is measured by.
 
 use crate::call::Call;
+use crate::limits::{INTERVAL, PACE};
 use crate::model::{Page, Reader, State};
 
 const ATTACHED: &str = "attached";
@@ -19,6 +20,28 @@ pub const CASES: &[(&str, &[&str])] = &[
     (ENDED, &["at the size", "below the size"]),
     (DROPPED, &["past a last page"]),
     (NOTHING, &["a look-ahead cut at a last page"]),
+];
+
+const MEASURED: &str = "measured";
+const MARKED: &str = "with a mark";
+const NOT_MEASURED: &str = "16 for";
+const NO_SLOT: &str = "Measure, E,2";
+const NO_READER: &str = "Measure, E,6";
+
+/// All that a Measure can meet, which has no line: the pages since the mark and the
+/// pace that they make, before it is held; the ticks; the reader; and what is
+/// refused.
+#[rustfmt::skip]
+pub const MEASURE_CASES: &[(&str, &[&str])] = &[
+    (MEASURED, &["no page", "below 1", "at 1", "between", "at 1,000", "above 1,000"]),
+    (MEASURED, &["an even pace", "a pace rounded down"]),
+    (MEASURED, &["nothing blocked", "all blocked", "no page and all blocked"]),
+    (MEASURED, &["interval 1", "interval 1,000,000", "running", "waiting"]),
+    (MARKED, &["at 0", "in the middle", "at the position"]),
+    (NOT_MEASURED, &["interval 0", "interval 1,000,001", "interval far above"]),
+    (NOT_MEASURED, &["blocked above by 1", "blocked far above"]),
+    (NO_SLOT, &["alone", "before 16"]),
+    (NO_READER, &["alone", "before 16"]),
 ];
 
 /// Whether a call with this answer may have met something.
@@ -122,4 +145,90 @@ fn nothing_to_fetch(after: &State) -> Vec<(&'static str, &'static str)> {
         true => vec![(NOTHING, "a look-ahead cut at a last page")],
         false => Vec::new(),
     }
+}
+
+/// What a Measure on this state has met, by its answer.
+pub fn measured(before: &State, call: Call, answer: &str) -> Vec<(&'static str, &'static str)> {
+    let Call::Measure {
+        slot,
+        interval,
+        blocked,
+    } = call
+    else {
+        return Vec::new();
+    };
+    let beside = match !INTERVAL.contains(&interval) || blocked > interval {
+        true => "before 16",
+        false => "alone",
+    };
+    match answer {
+        "O" => [
+            by_ticks(interval, blocked),
+            by_pages(&before.readers[&slot], interval - blocked),
+        ]
+        .concat(),
+        "E,16" => reason_for_16(interval, blocked),
+        "E,2" => vec![(NO_SLOT, beside)],
+        "E,6" => vec![(NO_READER, beside)],
+        _ => Vec::new(),
+    }
+}
+
+fn by_ticks(interval: u64, blocked: u64) -> Vec<(&'static str, &'static str)> {
+    let applying = [
+        (interval == 1, "interval 1"),
+        (interval == *INTERVAL.end(), "interval 1,000,000"),
+        (blocked == 0, "nothing blocked"),
+    ];
+    let applying = applying.into_iter().filter(|(applies, _)| *applies);
+    applying.map(|(_, case)| (MEASURED, case)).collect()
+}
+
+fn by_pages(reader: &Reader, left: u64) -> Vec<(&'static str, &'static str)> {
+    let pages = reader.since_mark();
+    let condition = if reader.waiting { "waiting" } else { "running" };
+    let marked = match reader.mark {
+        mark if mark == reader.position => "at the position",
+        0 => "at 0",
+        _ => "in the middle",
+    };
+    let mut met = vec![(MEASURED, condition), (MARKED, marked)];
+    if pages == 0 {
+        met.push((MEASURED, "no page"));
+        if left == 0 {
+            met.push((MEASURED, "no page and all blocked"));
+        }
+        return met;
+    }
+    let (low, high) = (*PACE.start(), *PACE.end());
+    let pace = match left / pages {
+        pace if pace < low => "below 1",
+        pace if pace == low => "at 1",
+        pace if pace < high => "between",
+        pace if pace == high => "at 1,000",
+        _ => "above 1,000",
+    };
+    let even = match left % pages {
+        0 => "an even pace",
+        _ => "a pace rounded down",
+    };
+    met.extend([(MEASURED, pace), (MEASURED, even)]);
+    if left == 0 {
+        met.push((MEASURED, "all blocked"));
+    }
+    met
+}
+
+/// The reason, if there is one only.
+fn reason_for_16(interval: u64, blocked: u64) -> Vec<(&'static str, &'static str)> {
+    let far = |number: u64| number > u64::from(u32::MAX);
+    let reason = match (INTERVAL.contains(&interval), blocked > interval) {
+        (false, false) if interval == 0 => "interval 0",
+        (false, false) if interval == *INTERVAL.end() + 1 => "interval 1,000,001",
+        (false, false) if far(interval) => "interval far above",
+        (true, true) if blocked == interval + 1 => "blocked above by 1",
+        (true, true) if far(blocked) => "blocked far above",
+        _ => return Vec::new(),
+    };
+    vec![(NOT_MEASURED, reason)]
 }

@@ -12,6 +12,7 @@ mod text;
 pub use picture::{Mark, PageRow, ReaderMark, Shown, Sign, Strip};
 pub use tables::{Row, Stretch, Use};
 
+use crate::limits::OLDER_IMAGE_BYTES;
 use crate::model::{follow, Page, State};
 
 /// What both forms say.
@@ -49,8 +50,12 @@ pub struct Explained {
 }
 
 impl Explained {
-    /// Explains a state.
+    /// Explains a state. Marks are left out: no line measures.
     pub fn of(state: &State) -> Explained {
+        Explained::shown(state, false)
+    }
+
+    fn shown(state: &State, with_marks: bool) -> Explained {
         let mut sentences = vec![format!(
             "Frames {}, {} taken. Look-ahead L {}, fetch time T {}. In fetch {}. Turn {}.",
             state.frames,
@@ -64,7 +69,7 @@ impl Explained {
             state
                 .readers
                 .keys()
-                .map(|&slot| reader_sentence(state, slot)),
+                .map(|&slot| reader_sentence(state, slot, with_marks)),
         );
         Explained {
             sentences,
@@ -83,11 +88,18 @@ impl Explained {
         explained
     }
 
-    /// Explains the state of a saved image, or says why Restore refuses it.
+    /// Explains the state of a saved image with its marks, or says why Restore
+    /// refuses it.
     pub fn of_image(image: &[u8]) -> Result<Explained, String> {
         let state = State::of_image(image)?;
-        let mut explained = Explained::of(&state);
-        let sentence = "The state of a saved image.".to_string();
+        let mut explained = Explained::shown(&state, true);
+        let sentence = match image.len() {
+            OLDER_IMAGE_BYTES => format!(
+                "The state of an older image, of {OLDER_IMAGE_BYTES} bytes: \
+                 each mark is where its reader is."
+            ),
+            _ => "The state of a saved image.".to_string(),
+        };
         explained.sentences.insert(0, sentence);
         Ok(explained)
     }
@@ -153,7 +165,8 @@ fn stream_sentence(answers: &[String]) -> String {
     }
 }
 
-fn reader_sentence(state: &State, slot: u64) -> String {
+/// What a reader does; with its mark, how many pages the next Measure counts.
+fn reader_sentence(state: &State, slot: u64, with_mark: bool) -> String {
     let reader = &state.readers[&slot];
     let size = state.size(reader.file);
     let waits = if reader.waiting {
@@ -161,8 +174,12 @@ fn reader_sentence(state: &State, slot: u64) -> String {
     } else {
         String::new()
     };
+    let since = match with_mark {
+        true => format!(", {} since its mark", reader.since_mark()),
+        false => String::new(),
+    };
     format!(
-        "Slot {slot} reads file {}, pace {}: page {} of {size} read, last page {}{waits}.",
+        "Slot {slot} reads file {}, pace {}: page {} of {size} read{since}, last page {}{waits}.",
         reader.file, reader.pace, reader.position, reader.last
     )
 }

@@ -1,9 +1,10 @@
 //! The box itself, through its C entries: "calls the box on numbers and an
-//! image buffer"; and the header's first image, through `ffi.c`.
+//! image buffer"; the header's first image and its upgrade of an older one, through
+//! `ffi.c`; and Restore and Save by themselves.
 
 #![allow(unsafe_code)]
 
-use crate::call::{Call, Settings};
+use crate::call::{Call, Older, Settings};
 
 extern "C" {
     fn quay_attach(
@@ -22,6 +23,7 @@ extern "C" {
     fn quay_prefetch(image: *mut u8, len: usize) -> u64;
     fn quay_steal(image: *mut u8, len: usize) -> u64;
     fn quay_run(image: *mut u8, len: usize, turns: u64) -> u64;
+    fn quay_measure(image: *mut u8, len: usize, slot: u64, interval: u64, blocked: u64) -> u64;
     fn header_first_image(
         image: *mut u8,
         len: usize,
@@ -30,6 +32,9 @@ extern "C" {
         fetch_time: u64,
         sizes: *const u64,
     ) -> u64;
+    fn header_upgrade_image(image: *mut u8, len: usize, old: *const u8, old_len: usize) -> u64;
+    fn probe_restore(image: *const u8, image_len: usize, buffer: *mut u8, buffer_len: usize)
+        -> u64;
 }
 
 /// One call through the box's C entry of that name.
@@ -53,6 +58,11 @@ pub fn entry(image: &mut [u8], call: Call) -> u64 {
             Call::Prefetch => quay_prefetch(at, len),
             Call::Steal => quay_steal(at, len),
             Call::Run { turns } => quay_run(at, len, turns),
+            Call::Measure {
+                slot,
+                interval,
+                blocked,
+            } => quay_measure(at, len, slot, interval, blocked),
         }
     }
 }
@@ -68,4 +78,24 @@ pub fn first_image(image: &mut [u8], settings: &Settings) -> u64 {
     let (at, len) = (image.as_mut_ptr(), image.len());
     // SAFETY: as for an entry; and it may read the eight sizes.
     unsafe { header_first_image(at, len, frames, look_ahead, fetch_time, sizes.as_ptr()) }
+}
+
+/// An older image made one of 2,240 bytes by the inline function of `quay.h`.
+pub fn upgrade_image(image: &mut [u8], older: Older) -> u64 {
+    let (at, len) = (image.as_mut_ptr(), image.len());
+    let (old, old_len) = match older {
+        Older::Apart(bytes) => (bytes.as_ptr(), bytes.len()),
+        Older::InPlace(length) => (at.cast_const(), length.min(len)),
+    };
+    // SAFETY: as for an entry; and it may read `old_len` bytes from `old`, which lie
+    // apart from the image or at its start.
+    unsafe { header_upgrade_image(at, len, old, old_len) }
+}
+
+/// Restore of an image and Save into a buffer, by the box.
+pub fn probe(image: &[u8], buffer: &mut [u8]) -> u64 {
+    let (at, len) = (buffer.as_mut_ptr(), buffer.len());
+    // SAFETY: it may read the image, and read and write the buffer, which is lent to
+    // it alone.
+    unsafe { probe_restore(image.as_ptr(), image.len(), at, len) }
 }

@@ -3,7 +3,8 @@
 //! Quick and the trials go by this table. The model does not: it writes and
 //! reads an image piece by piece, so that each tries the other.
 
-use crate::limits::IMAGE_BYTES;
+use crate::limits::{IMAGE_BYTES, OLDER_IMAGE_BYTES};
+use std::ops::Range;
 
 /// "frames (2)".
 pub const FRAMES: usize = 0;
@@ -29,7 +30,10 @@ pub const READERS: usize = 28;
 /// The bytes of one reader.
 pub const READER_BYTES: usize = 8;
 
-/// Within these, "the last page".
+/// Within these, "pace 2".
+pub const PACE: usize = 2;
+
+/// "the last page".
 pub const LAST: usize = 6;
 
 /// "4 bytes of 0".
@@ -41,5 +45,32 @@ pub const CACHED: usize = 160;
 /// "fetch map 1,024".
 pub const IN_FETCH: usize = 1_184;
 
+/// "sixteen 2-byte marks at its end". An older image ends here.
+pub const MARKS: usize = OLDER_IMAGE_BYTES;
+
 /// Behind the last piece.
 pub const END: usize = IMAGE_BYTES;
+
+/// The bytes of a file's size.
+pub fn size(file: usize) -> Range<usize> {
+    two(SIZES + 2 * file)
+}
+
+/// The bytes of a slot's pace.
+pub fn pace(slot: usize) -> Range<usize> {
+    two(READERS + READER_BYTES * slot + PACE)
+}
+
+/// The bytes of a slot's last page.
+pub fn last_page(slot: usize) -> Range<usize> {
+    two(READERS + READER_BYTES * slot + LAST)
+}
+
+/// The bytes of a slot's mark.
+pub fn mark(slot: usize) -> Range<usize> {
+    two(MARKS + 2 * slot)
+}
+
+fn two(at: usize) -> Range<usize> {
+    at..at + 2
+}

@@ -8,7 +8,8 @@
 //! * [`model`]: the paper's rules in sets of pages and sorted lists. Clarity
 //!   first; this is what everything else is held to.
 //! * [`quick`]: the same rules on flat arrays, the yardstick of the benchmarks.
-//! * `ffi` (feature `box`): the box itself, through its C entries and its header.
+//! * `ffi` (feature `box`): the box itself, through its C entries, its header, and
+//!   Restore and Save by themselves.
 //! * [`process`]: the program `quay` itself, as a process that gets a [`feed`].
 //! * [`scene`]: random valid states, random calls and random streams of lines,
 //!   from [`random`] dice.

@@ -30,8 +30,15 @@ pub const PACE: RangeInclusive<u64> = 1..=1_000;
 /// Run: "11: above 16,384."
 pub const MOST_TURNS: u64 = 16_384;
 
-/// "Save writes 2,208 bytes".
-pub const IMAGE_BYTES: usize = 2_208;
+/// Measure: "interval (1 to 1,000,000 ticks)".
+pub const INTERVAL: RangeInclusive<u64> = 1..=1_000_000;
+
+/// "The image grows to 2,240 bytes", and "Saving and the C buffer use the new
+/// length".
+pub const IMAGE_BYTES: usize = 2_240;
+
+/// "2,208 bytes are still read".
+pub const OLDER_IMAGE_BYTES: usize = 2_208;
 
 /// The program's lines: "at most 200 bytes, the line end not counted".
 pub const LINE_BYTES: usize = 200;

@@ -9,12 +9,14 @@ mod calls;
 mod entry;
 mod image;
 mod lists;
+mod older;
 mod orders;
 mod program;
 mod state;
 
 pub use answer::{Answer, Refusal};
 pub use entry::{entry, first_image};
+pub use older::{probe, upgrade_image};
 pub use orders::UseKey;
 pub use program::{follow, respond, run_program};
 pub use state::{Page, Reader, State};

@@ -33,6 +33,7 @@ struct Reader {
     pace: u32,
     position: u32,
     last: u32,
+    mark: u32,
 }
 
 impl Reader {

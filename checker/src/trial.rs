@@ -5,10 +5,11 @@
 pub mod calls;
 pub mod damage;
 pub mod fewest;
+pub mod fields;
 pub mod first;
 mod hold;
-pub mod last;
 pub mod named;
+pub mod older;
 mod options;
 mod report;
 pub mod rules;
@@ -19,7 +20,16 @@ pub use hold::{hold, CALL_OUTCOMES};
 pub use options::seed_and_rounds;
 pub use report::{Outcomes, Report};
 
-use crate::limits::IMAGE_BYTES;
+use crate::limits::{IMAGE_BYTES, OLDER_IMAGE_BYTES};
 
-/// "The buffer must be exactly 2,208 bytes, else 13".
-const WRONG_LENGTHS: [usize; 5] = [0, 1, IMAGE_BYTES - 1, IMAGE_BYTES + 1, 4_096];
+/// "The buffer must be exactly" 2,240 bytes, "else 13", and so for 2,208 too.
+const WRONG_LENGTHS: [usize; 8] = [
+    0,
+    1,
+    OLDER_IMAGE_BYTES - 1,
+    OLDER_IMAGE_BYTES,
+    OLDER_IMAGE_BYTES + 1,
+    IMAGE_BYTES - 1,
+    IMAGE_BYTES + 1,
+    4_096,
+];

@@ -2,6 +2,7 @@
 //! model's.
 
 use checker::explain::Explained;
+use checker::limits::OLDER_IMAGE_BYTES;
 use checker::model::{Page, Reader, State};
 use checker::random::Dice;
 use checker::scene::any_state;
@@ -517,6 +518,55 @@ fn the_program_takes_an_image() {
     assert_eq!(file.text(), explained.svg());
 }
 
+/// An older image, without marks and with 0 for the last pages of slots 0 and 15.
+#[test]
+fn the_program_takes_an_older_image() {
+    let mut bytes = long_file().image();
+    bytes.truncate(OLDER_IMAGE_BYTES);
+    for slot in [0, 15] {
+        bytes[28 + 8 * slot + 6..][..2].fill(0);
+    }
+    let image = Kept::new("older-image", &bytes);
+    let text = Explained::of_image(&bytes).unwrap().text();
+    assert!(text.contains(
+        "\nThe state of an older image, of 2208 bytes: each mark is where its reader is.\n"
+    ));
+    let read = "Slot 0 reads file 0, pace 1: page 64 of 500 read, 0 since its mark, last page 500.";
+    assert!(text.contains(read), "{text}");
+    let printed = explain(&["--image", image.name()]);
+    assert!(printed.status.success() && printed.stdout == text.as_bytes());
+}
+
+/// Readers of an image show how many pages the next Measure counts, those of lines
+/// do not: no line measures. All else is the same.
+#[test]
+fn an_image_shows_the_pages_since_the_marks() {
+    let mut state = long_file();
+    for (slot, mark) in [(0, 40), (2, 64), (15, 0)] {
+        state.readers.get_mut(&slot).unwrap().mark = mark;
+    }
+    let of_image = Explained::of_image(&state.image()).unwrap();
+    for (form, text) in [("text", of_image.text()), ("SVG", of_image.svg())] {
+        for words in [
+            "Slot 0 reads file 0, pace 1: page 64 of 500 read, 24 since its mark, last page 140.",
+            "Slot 2 reads file 0, pace 1: page 65 of 500 read, 1 since its mark, last page 140.",
+            "page 66 of 500 read, 66 since its mark, last page 140, waits for page 67.",
+        ] {
+            assert!(text.contains(words), "{form}: {text}");
+        }
+        assert_eq!(text.matches(" since its mark").count(), 7, "{form}: {text}");
+    }
+    let text = Explained::of(&state).text();
+    assert!(!text.contains("mark,"));
+    let marks = [24, 0, 1, 0, 0, 0, 66].map(|pages| format!(", {pages} since its mark"));
+    let mut without = of_image.text();
+    for words in marks {
+        without = without.replacen(&words, "", 1);
+    }
+    let without = without.replace("The state of a saved image.\n", "");
+    assert_eq!(text, without);
+}
+
 #[test]
 fn an_image_that_is_none_gets_a_message_and_the_status_1() {
     let mut bytes = full_state(&mut Dice::new(18)).image();
@@ -527,6 +577,13 @@ fn an_image_that_is_none_gets_a_message_and_the_status_1() {
     assert!(refused.stdout.is_empty());
     let said = String::from_utf8(refused.stderr).unwrap();
     let words = "no image of the box (13): the number of frames is 1279, not 1 to 1024\n";
+    assert_eq!(said, format!("quay-explain: {}: {words}", image.name()));
+
+    bytes.pop();
+    let image = Kept::new("short-image", &bytes);
+    let refused = explain(&["--image", image.name()]);
+    let said = String::from_utf8(refused.stderr).unwrap();
+    let words = "no image of the box (13): 2239 bytes, not 2240, or 2208 in an older image\n";
     assert_eq!(said, format!("quay-explain: {}: {words}", image.name()));
 
     let missing = explain(&["--image", "/no/such/folder/image"]);

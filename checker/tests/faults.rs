@@ -1,16 +1,25 @@
 //! The trials find faults: each of these stand-ins is wrong in one way only.
 
+#[path = "faults/measure.rs"]
+mod measure;
+#[path = "faults/older.rs"]
+mod older;
+
 use checker::call::{Call, Entry, First, Settings};
-use checker::cases::CASES;
+use checker::cases::{CASES, MEASURE_CASES};
 use checker::feed::{Feed, Program};
-use checker::limits::{IMAGE_BYTES, LINE_BYTES, MOST_TURNS, PACE};
+use checker::layout;
+use checker::limits::{IMAGE_BYTES, INTERVAL, LINE_BYTES, MOST_TURNS, PACE, SLOTS};
 use checker::model::{first_image, respond, run_program, Answer, Page, State};
 use checker::quick;
 use checker::random::Dice;
+use checker::trial::fields::{self, FIELD_OUTCOMES};
 use checker::trial::first::first_images;
-use checker::trial::last::{self, LAST_OUTCOMES};
 use checker::trial::named::{self, Named};
+use checker::trial::older::{probed, upgraded, OLDER_OUTCOMES};
 use checker::trial::{calls, damage, fewest, rules, soundings, Report, CALL_OUTCOMES};
+use measure::{marks_lost_by, older_taken, MEASURES};
+use older::{PROBES, UPGRADES};
 use std::collections::BTreeSet;
 use std::ops::Range;
 
@@ -18,6 +27,15 @@ fn failed(trial: impl FnOnce(&mut Report, &mut Dice)) -> u64 {
     let mut report = Report::default();
     trial(&mut report, &mut Dice::new(8));
     report.failed()
+}
+
+/// Whether a trial fails, made again and again with the same dice.
+fn found(mut trial: impl FnMut(&mut Report, &mut Dice)) -> bool {
+    let (mut report, mut dice) = (Report::default(), Dice::new(8));
+    (0..100).any(|_| {
+        trial(&mut report, &mut dice);
+        report.failed() > 0
+    })
 }
 
 #[test]
@@ -40,12 +58,16 @@ fn a_refusal_that_writes_is_found() {
 }
 
 #[test]
-fn a_longer_buffer_taken_is_found() {
-    let entry: Entry = |image, call| {
+fn a_buffer_of_another_length_taken_is_found() {
+    let longer_taken: Entry = |image, call| {
         let length = image.len().min(IMAGE_BYTES);
         quick::entry(&mut image[..length], call)
     };
-    assert!(failed(|report, dice| damage::lengths(report, entry, dice)) > 0);
+    let trial = trial("16 has two reasons");
+    for entry in [longer_taken, older_taken] {
+        assert!(failed(|report, dice| damage::lengths(report, entry, dice)) > 0);
+        assert!(failed(|report, _| trial.by_entry(report, entry)) > 0);
+    }
 }
 
 #[test]
@@ -82,18 +104,19 @@ fn a_prefetch_that_finds_nothing_is_found() {
 }
 
 #[test]
-fn a_wrong_last_page_is_found() {
-    let entries: [(&str, Entry); 6] = [
+fn a_wrong_last_page_or_mark_is_found() {
+    let entries: [(&str, Entry); 7] = [
         ("0 kept", zero_kept),
-        ("0 not filled in", zero_not_filled_in),
-        ("zeros filled in by a refusal", refused_and_saved),
+        ("0 taken for the size", zero_taken),
         ("above the size", taken_cut_to_size),
         ("below the position", taken_below_position),
         ("waiting at it", taken_waiting_at_last),
+        ("a mark above the position", mark_taken),
+        ("an empty slot's mark", empty_mark_taken),
     ];
     for (name, entry) in entries {
         let trial = |report: &mut Report, dice: &mut Dice| {
-            last::changed(report, entry, dice, 1_000);
+            fields::changed(report, entry, dice, 2_000);
         };
         assert!(failed(trial) > 0, "{name}");
         assert!(
@@ -102,6 +125,39 @@ fn a_wrong_last_page_is_found() {
         );
     }
     assert!(failed(|report, _| soundings::by_entry(report, ahead_to_the_size)) > 0);
+}
+
+/// Random calls find it too, and do not need the trials by name.
+#[test]
+fn a_wrong_measure_is_found() {
+    for (name, entry) in MEASURES {
+        let found = found(|report, dice| calls::random_calls(report, entry, dice, 5));
+        assert!(found, "{name}, {entry:?}");
+    }
+}
+
+#[test]
+fn a_wrong_restore_or_save_is_found() {
+    for (name, by_rule, probe) in PROBES {
+        let by_chance = found(|report, dice| probed(report, probe, dice, 20));
+        assert!(by_chance, "{name}");
+        let found = failed(|report, _| rules::by_probe(report, probe)) > 0;
+        assert_eq!(found, by_rule, "{name}");
+    }
+}
+
+#[test]
+fn a_wrong_upgrade_is_found() {
+    for (name, by_rule, upgrade) in UPGRADES {
+        let by_chance = found(|report, dice| {
+            upgraded(report, upgrade, quick::entry, dice, 20);
+        });
+        assert!(by_chance, "{name}");
+        let trial = |report: &mut Report, _: &mut Dice| {
+            rules::by_upgrade(report, upgrade, quick::entry);
+        };
+        assert_eq!(failed(trial) > 0, by_rule, "{name}");
+    }
 }
 
 #[test]
@@ -121,7 +177,13 @@ fn a_run_past_the_last_pages_is_found() {
 
 #[test]
 fn an_answer_never_met_is_found() {
-    for outcomes in [CALL_OUTCOMES, CASES, LAST_OUTCOMES] {
+    for outcomes in [
+        CALL_OUTCOMES,
+        CASES,
+        MEASURE_CASES,
+        FIELD_OUTCOMES,
+        OLDER_OUTCOMES,
+    ] {
         let unmet = failed(|report, dice| {
             calls::random_calls(report, quick::entry, dice, 1);
             report.check_every_outcome_met(outcomes);
@@ -142,7 +204,7 @@ fn a_length_tested_late_is_found() {
 
 #[test]
 fn a_wrong_first_image_is_found() {
-    let firsts: [(&str, First); 11] = [
+    let firsts: [(&str, First); 13] = [
         ("one byte of L", one_byte_of_l),
         ("two bytes of T", two_bytes_of_t),
         ("frames and sizes cut to 16 bits", cut_to::<16>),
@@ -151,6 +213,8 @@ fn a_wrong_first_image_is_found() {
         ("the last size not tested", last_size_untested),
         ("1,024 pages refused", full_file_refused),
         ("the maps left as they were", maps_left),
+        ("the marks left as they were", marks_left),
+        ("2,208 bytes written", older_written),
         ("the buffer cleared before a refusal", cleared_first),
         ("1 before 13", length_last),
         ("a longer buffer taken", longer_taken),
@@ -176,7 +240,7 @@ fn a_first_image_that_no_call_takes_is_found() {
 }
 
 /// Stand-ins for the C entries, each with the trial that finds it.
-const ENTRIES: [(&str, Entry); 58] = [
+const ENTRIES: [(&str, Entry); 61] = [
     ("each refusal has its number", another_number::<2>),
     ("each refusal has its number", another_number::<3>),
     ("each refusal has its number", another_number::<4>),
@@ -229,19 +293,23 @@ const ENTRIES: [(&str, Entry); 58] = [
         last_page_not_stored,
     ),
     ("the look-ahead ends at the last page", seen_to_the_size),
-    ("a last page of 0 is the size", zero_kept),
-    ("a last page of 0 is the size", zero_not_filled_in),
-    ("a last page of 0 is the size", zeros_all_or_none),
-    ("Z and U fill the zeros in", saved_unless::<'Z'>),
-    ("Z and U fill the zeros in", saved_unless::<'U'>),
-    ("a refusal leaves the zeros", refused_and_saved),
+    ("a last page of 0 is refused", zero_kept),
+    ("a last page of 0 is refused", zero_taken),
+    ("Z and U leave the image", marks_lost_by::<'Z'>),
+    ("Z and U leave the image", marks_lost_by::<'U'>),
+    ("no mark is above the position", mark_taken),
+    ("an empty slot has no mark", empty_mark_taken),
+    ("Measure gives 2 before 16", last_listed),
+    ("Measure gives 6 before 16", last_listed),
+    ("16 has two reasons", another_number::<16>),
     ("no last page is above the size", taken_cut_to_size),
     ("no last page is below the position", taken_below_position),
     ("no reader waits at its last page", taken_waiting_at_last),
 ];
 
 /// Stand-ins for the program.
-const PROGRAMS: [(&str, Program); 6] = [
+const PROGRAMS: [(&str, Program); 7] = [
+    ("no line measures", &m_lines_read),
     ("14 comes before all else", &zeros_read),
     ("an A line has five fields", &a_of_three_read),
     ("a line of 201 bytes is one line", &cut_at_200),
@@ -253,7 +321,7 @@ const PROGRAMS: [(&str, Program); 6] = [
 #[test]
 fn each_trial_by_name_finds_its_faults() {
     let mut faultless: BTreeSet<&str> = named::all().iter().map(|trial| trial.name).collect();
-    for (name, entry) in ENTRIES {
+    for (name, entry) in ENTRIES.into_iter().chain(MEASURES) {
         faultless.remove(name);
         let trial = trial(name);
         assert!(
@@ -280,10 +348,10 @@ fn trial(name: &str) -> Named {
     trials.find(|trial| trial.name == name).expect(name)
 }
 
-/// The state of an image that Restore accepts.
+/// The state of an image that an entry takes.
 fn restored(image: &[u8]) -> Option<State> {
-    let (state, restored) = State::restore(image);
-    restored.ok().map(|()| state)
+    let state = State::of_image(image).ok();
+    state.filter(|_| image.len() == IMAGE_BYTES)
 }
 
 /// A first image by the model.
@@ -314,7 +382,22 @@ fn two_bytes_of_t(buffer: &mut [u8], settings: &Settings) -> u64 {
 }
 
 fn maps_left(buffer: &mut [u8], settings: &Settings) -> u64 {
-    without(buffer, settings, 160..IMAGE_BYTES, true)
+    without(buffer, settings, layout::CACHED..layout::MARKS, true)
+}
+
+fn marks_left(buffer: &mut [u8], settings: &Settings) -> u64 {
+    without(buffer, settings, layout::MARKS..IMAGE_BYTES, true)
+}
+
+fn older_written(buffer: &mut [u8], settings: &Settings) -> u64 {
+    if buffer.len() != layout::MARKS {
+        return right_first(buffer, settings);
+    }
+    let (number, image) = first_image(&[0; IMAGE_BYTES], settings);
+    if number >= 65_536 {
+        buffer.copy_from_slice(&image[..layout::MARKS]);
+    }
+    number
 }
 
 fn cut_to<const BITS: u32>(buffer: &mut [u8], settings: &Settings) -> u64 {
@@ -396,6 +479,15 @@ fn last_listed(image: &mut [u8], call: Call) -> u64 {
             (9, !state.in_fetch.contains(&Page { file, number })),
         ],
         Call::Run { turns } => vec![(11, turns > MOST_TURNS), (10, !state.in_fetch.is_empty())],
+        Call::Measure {
+            slot,
+            interval,
+            blocked,
+        } => vec![
+            (2, slot > 15),
+            (6, slot <= 15 && !state.readers.contains_key(&slot)),
+            (16, !INTERVAL.contains(&interval) || blocked > interval),
+        ],
         _ => vec![(number, true)],
     };
     let mut applying = listed.iter().filter(|(_, applies)| *applies);
@@ -662,27 +754,97 @@ fn ahead_to_the_size(image: &mut [u8], call: Call) -> u64 {
     Answer::Stolen(head).number()
 }
 
-/// Where a slot's last page stands in an image.
-fn last_at(slot: u64) -> Range<usize> {
-    let at = 28 + 8 * slot as usize + 6;
-    at..at + 2
+/// A number of two bytes in an image.
+fn two_at(image: &[u8], at: usize) -> u16 {
+    u16::from_le_bytes([image[at], image[at + 1]])
 }
 
-/// The taken slots that have 0 for their last page.
-fn zeros_of(image: &[u8], state: &State) -> Vec<u64> {
-    let slots = state.readers.keys().copied();
+/// Condition, size of the file and position, for each slot of an image.
+fn slots_of(image: &[u8]) -> Vec<(usize, u8, u16, u16)> {
+    let slots = 0..SLOTS as usize;
     slots
-        .filter(|&slot| image[last_at(slot)] == [0, 0])
+        .map(|slot| {
+            let record = layout::READERS + layout::READER_BYTES * slot;
+            let file = usize::from(image[record + 1] % 8);
+            let size = two_at(image, layout::SIZES + 2 * file);
+            (slot, image[record], size, two_at(image, record + 4))
+        })
         .collect()
+}
+
+/// Writes the sizes for last pages of 0 in taken slots.
+fn mend_zeros(image: &mut [u8]) {
+    for (slot, condition, size, _) in slots_of(image) {
+        let at = layout::last_page(slot);
+        if condition != 0 && image[at.clone()] == [0, 0] {
+            image[at].copy_from_slice(&size.to_le_bytes());
+        }
+    }
+}
+
+/// Writes the positions for marks above them in taken slots.
+fn mend_marks(image: &mut [u8]) {
+    for (slot, condition, _, position) in slots_of(image) {
+        let at = layout::mark(slot);
+        if condition != 0 && two_at(image, at.start) > position {
+            image[at].copy_from_slice(&position.to_le_bytes());
+        }
+    }
+}
+
+/// Writes 0 for the marks of empty slots.
+fn mend_empty_marks(image: &mut [u8]) {
+    for (slot, condition, ..) in slots_of(image) {
+        if condition == 0 {
+            image[layout::mark(slot)].fill(0);
+        }
+    }
+}
+
+/// Restore that would answer 13, but takes the image mended.
+fn mended(image: &mut [u8], call: Call, mend: fn(&mut [u8])) -> u64 {
+    if image.len() != IMAGE_BYTES || restored(image).is_some() {
+        return quick::entry(image, call);
+    }
+    let mut other = image.to_vec();
+    mend(&mut other);
+    let number = quick::entry(&mut other, call);
+    if number >= 65_536 {
+        image.copy_from_slice(&other);
+    }
+    number
+}
+
+fn zero_taken(image: &mut [u8], call: Call) -> u64 {
+    mended(image, call, mend_zeros)
+}
+
+fn mark_taken(image: &mut [u8], call: Call) -> u64 {
+    mended(image, call, mend_marks)
+}
+
+fn empty_mark_taken(image: &mut [u8], call: Call) -> u64 {
+    mended(image, call, mend_empty_marks)
 }
 
 /// A last page of 0 restored as page 0.
 fn zero_kept(image: &mut [u8], call: Call) -> u64 {
-    let Some(mut state) = restored(image) else {
+    let mut other = image.to_vec();
+    if image.len() == IMAGE_BYTES {
+        mend_zeros(&mut other);
+    }
+    let (None, Some(mut state)) = (restored(image), restored(&other)) else {
         return quick::entry(image, call);
     };
-    for slot in zeros_of(image, &state) {
-        state.readers.get_mut(&slot).unwrap().last = 0;
+    for (slot, reader) in &mut state.readers {
+        reader.last = two_at(image, layout::last_page(*slot as usize).start).into();
+    }
+    if state
+        .readers
+        .values()
+        .any(|reader| reader.position > reader.last)
+    {
+        return 13;
     }
     match state.call(call) {
         Ok(answer) => {
@@ -693,47 +855,6 @@ fn zero_kept(image: &mut [u8], call: Call) -> u64 {
     }
 }
 
-/// A last page of 0 restored as the size, and saved as 0 again.
-fn zero_not_filled_in(image: &mut [u8], call: Call) -> u64 {
-    let zeros = restored(image).map(|state| zeros_of(image, &state));
-    let number = quick::entry(image, call);
-    for slot in zeros.unwrap_or_default() {
-        image[last_at(slot)].fill(0);
-    }
-    number
-}
-
-/// An image taken for an old one only if every taken slot has a 0.
-fn zeros_all_or_none(image: &mut [u8], call: Call) -> u64 {
-    let mixed = restored(image).is_some_and(|state| {
-        let zeros = zeros_of(image, &state).len();
-        zeros > 0 && zeros < state.readers.len()
-    });
-    match mixed {
-        true => 13,
-        false => quick::entry(image, call),
-    }
-}
-
-/// A call that saves nothing where its answer has this letter.
-fn saved_unless<const LETTER: char>(image: &mut [u8], call: Call) -> u64 {
-    let before = image.to_vec();
-    let number = quick::entry(image, call);
-    if number >> 16 == u64::from(LETTER) {
-        image.copy_from_slice(&before);
-    }
-    number
-}
-
-/// A refused call that saves what it has restored.
-fn refused_and_saved(image: &mut [u8], call: Call) -> u64 {
-    let number = quick::entry(image, call);
-    if let Some(state) = restored(image) {
-        image.copy_from_slice(&state.image());
-    }
-    number
-}
-
 /// Restore that would answer 13, but takes the image with another last page in
 /// some slot, by the position and the size there.
 fn taken_with(image: &mut [u8], call: Call, last: fn(u16, u16) -> u16) -> u64 {
@@ -741,14 +862,13 @@ fn taken_with(image: &mut [u8], call: Call, last: fn(u16, u16) -> u16) -> u64 {
     if number != 13 || image.len() != IMAGE_BYTES {
         return number;
     }
-    let two_at = |at: usize| u16::from_le_bytes([image[at], image[at + 1]]);
-    let taken = (0..16).filter(|slot| two_at(28 + 8 * slot) != 0);
-    let mut numbers = taken.map(|slot| {
-        let file = usize::from(image[29 + 8 * slot] % 8);
-        let (position, size) = (two_at(32 + 8 * slot), two_at(12 + 2 * file));
+    let taken = slots_of(image)
+        .into_iter()
+        .filter(|(_, condition, ..)| *condition != 0);
+    let mut numbers = taken.map(|(slot, _, size, position)| {
         let mut other = image.to_vec();
         let bytes = last(position, size).to_le_bytes();
-        other[last_at(slot as u64)].copy_from_slice(&bytes);
+        other[layout::last_page(slot)].copy_from_slice(&bytes);
         quick::entry(&mut other, call)
     });
     numbers.find(|&number| number != 13).unwrap_or(13)
@@ -766,6 +886,18 @@ fn taken_waiting_at_last(image: &mut [u8], call: Call) -> u64 {
     taken_with(image, call, |position, _| position.saturating_add(1))
 }
 
+/// Lines for Measure.
+fn m_lines_read(feed: &Feed) -> Result<Vec<u8>, String> {
+    answered(feed, |state, line| {
+        let fields: Vec<u64> = line.split(',').filter_map(|f| f.parse().ok()).collect();
+        let (true, &[slot, interval, blocked]) = (line.starts_with('M'), &fields[..]) else {
+            return None;
+        };
+        let answer = state.measure(slot, interval, blocked);
+        Some(answer.map_or_else(|refusal| refusal.to_string(), |answer| answer.to_string()))
+    })
+}
+
 /// An A line without start and last page taken for one of the whole file.
 fn a_of_three_read(feed: &Feed) -> Result<Vec<u8>, String> {
     answered(feed, |state, line| {
@@ -780,7 +912,10 @@ fn a_of_three_read(feed: &Feed) -> Result<Vec<u8>, String> {
 
 fn zeros_read(feed: &Feed) -> Result<Vec<u8>, String> {
     let input = String::from_utf8_lossy(&feed.pieces.concat()).into_owned();
-    let read = |line: &str| Call::of_line(line).map_or(line.to_string(), Call::line);
+    let read = |line: &str| {
+        let read = Call::of_line(line).and_then(Call::line);
+        read.unwrap_or(line.to_string())
+    };
     let lines: Vec<String> = input.lines().map(read).collect();
     Ok(run_program(lines.join("\n").as_bytes()))
 }

@@ -5,7 +5,6 @@ use checker::model::{Page, Refusal, State};
 use checker::quick;
 use checker::random::Dice;
 use checker::scene::any_state;
-use checker::trial::last::old_image;
 use checker::trial::{rules, Report};
 
 #[test]
@@ -25,6 +24,7 @@ fn images_lie_as_the_paper_says() {
     state.turn = 9;
     state.attach(3, 7, 999, 257, 258).unwrap();
     state.read(3).unwrap(); // page 258 of file 7: in fetch, waited for
+    state.attach(15, 0, 1, 1_000, 1_024).unwrap();
     state.cached.insert(Page {
         file: 0,
         number: 1_024,
@@ -38,34 +38,36 @@ fn images_lie_as_the_paper_says() {
     expected[12..14].copy_from_slice(&[0x00, 0x04]);
     expected[26..28].copy_from_slice(&[0x02, 0x01]);
     expected[52..60].copy_from_slice(&[2, 7, 0xE7, 0x03, 0x01, 0x01, 0x02, 0x01]);
+    expected[148..156].copy_from_slice(&[1, 0, 1, 0, 0xE8, 0x03, 0x00, 0x04]);
     expected[160 + 127] = 0x80;
     expected[1_184 + 7 * 128 + 32] = 0x02;
+    expected[2_208 + 6..2_208 + 8].copy_from_slice(&[0x01, 0x01]);
+    expected[2_238..].copy_from_slice(&[0xE8, 0x03]);
+    assert_eq!(expected.len(), 2_240);
     assert_eq!(image, expected);
 }
 
-/// An old image has 0 for last pages: they come back as the files' sizes, slot by
-/// slot, and nothing else does.
+/// "an accepted image comes back unchanged", whatever was damaged.
 #[test]
-fn old_images_come_back_filled_in() {
+fn an_accepted_image_comes_back_unchanged() {
     let mut dice = Dice::new(19);
-    let (mut filled_in, mut kept) = (0, 0);
-    for _ in 0..1_000 {
-        let mut state = any_state(&mut dice);
-        let image = old_image(&mut dice, &state);
-        for (&slot, reader) in &mut state.readers {
-            let at = 28 + 8 * slot as usize + 6;
-            if image[at..at + 2] == [0, 0] {
-                reader.last = state.sizes[reader.file as usize];
-                filled_in += 1;
-            } else {
-                kept += 1;
-            }
+    let mut accepted = 0;
+    for _ in 0..5_000 {
+        let mut image = any_state(&mut dice).image();
+        for _ in 0..dice.between(1, 3) {
+            let at = match dice.below(2) {
+                0 => dice.between(2_208, 2_239),
+                _ => dice.below(160),
+            };
+            let any = dice.bits() as u8;
+            image[at as usize] = dice.pick(&[0, 1, any]);
         }
-        let (restored, accepted) = State::restore(&image);
-        assert_eq!((&restored, accepted), (&state, Ok(())));
-        assert_eq!(restored.image(), state.image());
+        if let Ok(state) = State::of_image(&image) {
+            assert_eq!(state.image(), image);
+            accepted += 1;
+        }
     }
-    assert!(filled_in > 100 && kept > 100);
+    assert!(accepted > 200);
 }
 
 #[test]
@@ -100,7 +102,7 @@ fn setup_takes_exactly_its_ranges() {
 
 /// Bytes written over an image, each piece with its place, and the rule that they
 /// break.
-const BROKEN: [(usize, &[u8], &str); 19] = [
+const BROKEN: [(usize, &[u8], &str); 23] = [
     (0, &[0, 0], "the number of frames is 0, not 1 to 1024"),
     (2, &[16], "the turn is 16, not 0 to 15"),
     (3, &[1], "a byte behind the turn is not 0"),
@@ -132,6 +134,10 @@ const BROKEN: [(usize, &[u8], &str); 19] = [
         "page 1 of file 1 is in a map, but the file has 0",
     ),
     (160, &[3], "page 2 of file 0 is in both maps"),
+    (34, &[0], "the last page of slot 0 is 0"),
+    (2_208, &[2], "the mark of slot 0 is 2, above its page 1"),
+    (2_209, &[1], "the mark of slot 0 is 256, above its page 1"),
+    (2_239, &[1], "the mark of the empty slot 15 is 256, not 0"),
 ];
 
 /// Two frames, three pages in file 0; page 1 is cached, page 2 in fetch, and slot
@@ -157,7 +163,8 @@ fn a_refused_image_says_why() {
         Err("more cached pages (2) than frames (1)".to_string())
     );
     let said = State::of_image(&[0; 5]);
-    assert_eq!(said, Err("5 bytes, not 2208".to_string()));
+    let words = "5 bytes, not 2240, or 2208 in an older image";
+    assert_eq!(said, Err(words.to_string()));
 }
 
 #[test]

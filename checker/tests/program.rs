@@ -8,7 +8,7 @@ fn answers(input: &str) -> String {
 }
 
 /// Lines that are none of the papers'.
-const OTHERS: [&[u8]; 31] = [
+const OTHERS: [&[u8]; 32] = [
     b"",
     b" ",
     b"B",
@@ -39,6 +39,7 @@ const OTHERS: [&[u8]; 31] = [
     b"A,0,0,10,0,6,0",
     b"S,3,100,0,6,0,0,0,0,0,0",
     b"S,3,100,0,6,0,0,0,0,0,0,0,0",
+    b"M,0,1000,400",
     b"\xFF\xFE",
 ];
 

@@ -1,9 +1,9 @@
 //! Quick against the model: equal numbers, equal images.
 
-use checker::cases::CASES;
+use checker::cases::{CASES, MEASURE_CASES};
 use checker::quick::entry;
 use checker::random::Dice;
-use checker::trial::last::{self, LAST_OUTCOMES};
+use checker::trial::fields::{self, FIELD_OUTCOMES};
 use checker::trial::{calls, damage, Report, CALL_OUTCOMES};
 
 #[test]
@@ -15,8 +15,8 @@ fn random_calls_at_bounds_and_beyond() {
     damage::every_byte(&mut report, entry, &mut dice);
     damage::noise(&mut report, entry, &mut dice, 300);
     damage::lengths(&mut report, entry, &mut dice);
-    last::changed(&mut report, entry, &mut dice, 2_000);
-    let outcomes = [CALL_OUTCOMES, CASES, LAST_OUTCOMES].concat();
+    fields::changed(&mut report, entry, &mut dice, 4_000);
+    let outcomes = [CALL_OUTCOMES, CASES, MEASURE_CASES, FIELD_OUTCOMES].concat();
     report.check_every_outcome_met(&outcomes);
     println!("{}", report.outcomes(&outcomes));
     assert_eq!(report.failed(), 0);

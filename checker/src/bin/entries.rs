@@ -1,18 +1,20 @@
-//! Holds the box's C entries, and the header's first image, to the model and to
-//! the paper.
+//! Holds the box's C entries, the header's first image and upgrade, and Restore and
+//! Save by themselves to the model and to the papers.
 //!
-//!     QUAY_LIB=folder cargo run --release --features box --bin entries
+//!     QUAY_LIB=folder QUAY_PROBE=folder \
+//!         cargo run --release --features box --bin entries
 //!     ... -- --seed 7 --rounds 20
 //!
 //! One round is the default run; more rounds go on with the same dice. The last
 //! line is `entries: N passed, 0 failed`, or the exit status is not 0.
 
-use checker::cases::CASES;
-use checker::ffi::{entry, first_image};
+use checker::cases::{CASES, MEASURE_CASES};
+use checker::ffi::{entry, first_image, probe, upgrade_image};
 use checker::model::run_program;
 use checker::random::Dice;
+use checker::trial::fields::{self, FIELD_OUTCOMES};
 use checker::trial::first::{first_images, FIRST_OUTCOMES};
-use checker::trial::last::{self, LAST_OUTCOMES};
+use checker::trial::older::{self, OLDER_OUTCOMES};
 use checker::trial::{calls, damage, fewest, named, rules, seed_and_rounds, soundings};
 use checker::trial::{Report, CALL_OUTCOMES};
 use std::process::ExitCode;
@@ -31,8 +33,9 @@ fn main() -> ExitCode {
     for _ in 0..rounds {
         round(&mut report, &mut dice);
     }
-    let outcomes = [CALL_OUTCOMES, CASES, LAST_OUTCOMES, FIRST_OUTCOMES].concat();
-    report.close("entries", "calls", &outcomes)
+    let calls = [CALL_OUTCOMES, CASES, MEASURE_CASES].concat();
+    let images = [FIELD_OUTCOMES, OLDER_OUTCOMES, FIRST_OUTCOMES].concat();
+    report.close("entries", "calls", &[calls, images].concat())
 }
 
 /// What is the same for every seed.
@@ -49,6 +52,8 @@ fn fixed(report: &mut Report) {
     });
     report.part("each rule of Restore", |report| {
         rules::rules(report, entry);
+        rules::by_probe(report, probe);
+        rules::by_upgrade(report, upgrade_image, entry);
     });
 }
 
@@ -70,8 +75,15 @@ fn round(report: &mut Report, dice: &mut Dice) {
         damage::noise(report, entry, dice, 3_000);
         damage::lengths(report, entry, dice);
     });
-    report.part("last pages in images", |report| {
-        last::changed(report, entry, dice, 6_000);
+    report.part("last pages and marks in images", |report| {
+        fields::changed(report, entry, dice, 12_000);
+    });
+    report.part("Restore and Save, images of both lengths", |report| {
+        older::every_byte(report, probe, dice);
+        older::probed(report, probe, dice, 15_000);
+    });
+    report.part("older images upgraded", |report| {
+        older::upgraded(report, upgrade_image, entry, dice, 10_000);
     });
     report.part("first images", |report| {
         first_images(report, first_image, entry, dice, 10_000);

@@ -23,7 +23,8 @@ each page with its stretch, its use time and the slot that reads it. The state i
 the one behind the last of the lines on standard input, which are lines of the
 program quay, or that of a saved image.
 
-  --image FILE  take the state from FILE, an image of the box; read no lines
+  --image FILE  take the state from FILE, an image of the box or an older one;
+                read no lines
   --svg FILE    write picture and tables to FILE as SVG; print nothing
   --all         show every row: of an order, not its first 40, and of a file's
                 pages, also those that are alike

@@ -6,7 +6,7 @@ use std::fmt;
 /// The answer of a call that was not refused.
 #[derive(Clone, Copy, Debug, PartialEq, Eq)]
 pub enum Answer {
-    /// O: Setup, Attach, Detach and Lost are done.
+    /// O: Setup, Attach, Detach, Lost and Measure are done.
     Done,
     /// H: the page was cached and has been read.
     Hit(Page),
@@ -111,6 +111,8 @@ pub enum Refusal {
     Line = 14,
     /// "last page 0 or above the size, or start above the last".
     LastPage = 15,
+    /// Measure: "interval out of range or blocked above it".
+    Interval = 16,
 }
 
 impl Refusal {

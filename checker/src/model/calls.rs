@@ -4,7 +4,7 @@
 
 use super::answer::{Answer, Refusal};
 use super::state::{Page, Reader, State};
-use crate::limits::{setup_fits, FILES, MOST_TURNS, PACE, SLOTS};
+use crate::limits::{setup_fits, FILES, INTERVAL, MOST_TURNS, PACE, SLOTS};
 
 type Outcome = Result<Answer, Refusal>;
 
@@ -30,10 +30,10 @@ impl State {
         (state, Ok(Answer::Done))
     }
 
-    /// **Attach** "takes a start position and a last page": running. "2: slot
-    /// above 15. 3: file above 7 or of size 0. 4: pace out of range. 5: slot not
-    /// empty." "15, last page 0 or above the size, or start above the last,
-    /// after 4 and before 5."
+    /// **Attach** "takes a start position and a last page": running, the mark "the
+    /// position [...] at Attach". "2: slot above 15. 3: file above 7 or of size 0.
+    /// 4: pace out of range. 5: slot not empty." "15, last page 0 or above the
+    /// size, or start above the last, after 4 and before 5."
     pub fn attach(&mut self, slot: u64, file: u64, pace: u64, start: u64, last: u64) -> Outcome {
         check_slot(slot)?;
         self.check_file(file)?;
@@ -151,6 +151,23 @@ impl State {
             self.pass_turn();
         }
         Ok(Answer::Ran { fetches, reads })
+    }
+
+    /// **Measure**: "With n pages read since the mark, the pace becomes (interval −
+    /// blocked) divided by n, rounded down, held to 1 through 1,000; with n = 0 it
+    /// stays." The mark becomes the position. "16, interval out of range or
+    /// blocked above it, after 2 and 6."
+    pub fn measure(&mut self, slot: u64, interval: u64, blocked: u64) -> Outcome {
+        let mut reader = self.reader_in(slot)?;
+        if !INTERVAL.contains(&interval) || blocked > interval {
+            return Err(Refusal::Interval);
+        }
+        if let Some(pace) = (interval - blocked).checked_div(reader.since_mark()) {
+            reader.pace = pace.clamp(*PACE.start(), *PACE.end());
+        }
+        reader.mark = reader.position;
+        self.readers.insert(slot, reader);
+        Ok(Answer::Done)
     }
 
     /// The reader in a slot, or "2: slot above 15", "6: slot empty".

@@ -5,10 +5,13 @@ use super::state::State;
 use crate::call::{Call, Settings};
 use crate::limits::IMAGE_BYTES;
 
-/// "each as Restore, call, Save. The buffer must be exactly 2,208 bytes, else
+/// "each as Restore, call, Save. The buffer must be exactly" 2,240 bytes, "else
 /// 13, tested first; a refusal leaves it. The number returned is the refusal's,
 /// or the answer['s]". Gives the number and the buffer's bytes after the call.
 pub fn entry(image: &[u8], call: Call) -> (u64, Vec<u8>) {
+    if image.len() != IMAGE_BYTES {
+        return (Refusal::Image.number(), image.to_vec());
+    }
     let (mut state, restored) = State::restore(image);
     match restored.and_then(|()| state.call(call)) {
         Ok(answer) => (answer.number(), state.image()),
@@ -16,8 +19,8 @@ pub fn entry(image: &[u8], call: Call) -> (u64, Vec<u8>) {
     }
 }
 
-/// A first image: Setup, then Save, on a buffer as for any call: "exactly 2,208
-/// bytes, else 13, tested first; a refusal leaves it". Gives the number and the
+/// A first image: Setup, then Save, on a buffer as for any call: "exactly" 2,240
+/// bytes, "else 13, tested first; a refusal leaves it". Gives the number and the
 /// buffer's bytes after it.
 pub fn first_image(buffer: &[u8], settings: &Settings) -> (u64, Vec<u8>) {
     if buffer.len() != IMAGE_BYTES {
@@ -53,6 +56,11 @@ impl State {
             Call::Prefetch => Ok(self.prefetch()),
             Call::Steal => Ok(self.steal()),
             Call::Run { turns } => self.run(turns),
+            Call::Measure {
+                slot,
+                interval,
+                blocked,
+            } => self.measure(slot, interval, blocked),
         }
     }
 }

@@ -2,7 +2,8 @@
 
 use super::answer::Refusal;
 use super::state::{Page, Reader, State};
-use crate::limits::{FETCH_TIME, FILES, FRAMES, IMAGE_BYTES, LOOK_AHEAD, PACE, SIZE, SLOTS};
+use crate::limits::{FETCH_TIME, FILES, FRAMES, LOOK_AHEAD, PACE, SIZE, SLOTS};
+use crate::limits::{IMAGE_BYTES, OLDER_IMAGE_BYTES};
 use std::collections::{BTreeMap, BTreeSet};
 use std::ops::RangeInclusive;
 
@@ -16,14 +17,15 @@ const RUNNING: u64 = 1;
 const WAITING: u64 = 2;
 
 impl State {
-    /// **Save**: "12: buffer shorter; bytes after 2,208 keep."
+    /// **Save**: "12: buffer shorter; bytes after" 2,240 "keep."
     pub fn save(&self, buffer: &mut [u8]) -> Result<(), Refusal> {
         let room = buffer.get_mut(..IMAGE_BYTES).ok_or(Refusal::TooShort)?;
         room.copy_from_slice(&self.image());
         Ok(())
     }
 
-    /// The bytes of Save, piece by piece as the paper lists them.
+    /// The bytes of Save, piece by piece as the paper lists them; "sixteen 2-byte
+    /// marks at its end, 0 for an empty slot".
     pub fn image(&self) -> Vec<u8> {
         let mut image = Vec::with_capacity(IMAGE_BYTES);
         put(&mut image, 2, self.frames);
@@ -50,6 +52,10 @@ impl State {
         put(&mut image, 4, 0);
         image.extend(map_of(&self.cached));
         image.extend(map_of(&self.in_fetch));
+        for slot in 0..SLOTS {
+            let mark = self.readers.get(&slot).map_or(0, |reader| reader.mark);
+            put(&mut image, 2, mark);
+        }
         image
     }
 
@@ -66,7 +72,9 @@ impl State {
     pub fn of_image(image: &[u8]) -> Result<State, String> {
         let mut state = read_image(image)?;
         state.check_numbers()?;
-        state.fill_last_pages();
+        if image.len() == OLDER_IMAGE_BYTES {
+            state.fill_last_pages();
+        }
         for (&slot, reader) in &state.readers {
             state.check_reader(slot, reader)?;
         }
@@ -98,13 +106,16 @@ impl State {
     }
 
     /// Restore's rules about one reader: no "value out of range", no "file of
-    /// size 0", no "last page above the size or below the position, or a waiting
-    /// reader at it", and no "waiting reader whose next page is not in fetch".
+    /// size 0", no "last page of 0" (an older one's is filled in by now), no "last
+    /// page above the size or below the position, or a waiting reader at it", no
+    /// mark above the position, and no "waiting reader whose next page is not in
+    /// fetch".
     fn check_reader(&self, slot: u64, reader: &Reader) -> Result<(), String> {
         let &Reader {
             file,
             position,
             last,
+            mark,
             waiting,
             ..
         } = reader;
@@ -113,11 +124,15 @@ impl State {
         rule(size > 0, || {
             format!("slot {slot} reads file {file}, which has no pages")
         })?;
+        rule(last > 0, || format!("the last page of slot {slot} is 0"))?;
         rule(last <= size, || {
             format!("the last page of slot {slot} is {last}, but its file has {size}")
         })?;
         rule(position <= last, || {
             format!("slot {slot} is at page {position}, above its last page {last}")
+        })?;
+        rule(mark <= position, || {
+            format!("the mark of slot {slot} is {mark}, above its page {position}")
         })?;
         rule(!waiting || !reader.is_at_end(), || {
             format!("slot {slot} waits at its last page")
@@ -171,8 +186,9 @@ fn in_range(name: &str, value: u64, range: RangeInclusive<u64>) -> Result<(), St
 /// that is not 0".
 fn read_image(image: &[u8]) -> Result<State, String> {
     let length = image.len();
-    rule(length == IMAGE_BYTES, || {
-        format!("{length} bytes, not {IMAGE_BYTES}")
+    let older = length == OLDER_IMAGE_BYTES;
+    rule(older || length == IMAGE_BYTES, || {
+        format!("{length} bytes, not {IMAGE_BYTES}, or {OLDER_IMAGE_BYTES} in an older image")
     })?;
     let mut rest = image;
     let frames = take(&mut rest, 2);
@@ -188,7 +204,11 @@ fn read_image(image: &[u8]) -> Result<State, String> {
         }
     }
     take_zero(&mut rest, 4, "behind the readers")?;
-    let (cached, in_fetch) = rest.split_at(MAP_BYTES);
+    let (cached, rest) = rest.split_at(MAP_BYTES);
+    let (in_fetch, marks) = rest.split_at(MAP_BYTES);
+    if !older {
+        take_marks(marks, &mut readers)?;
+    }
     Ok(State {
         frames,
         look_ahead,
@@ -202,7 +222,8 @@ fn read_image(image: &[u8]) -> Result<State, String> {
 }
 
 /// One record of 8 bytes: "condition [...]; file; pace 2; position 2", and "The
-/// two 0 bytes of a reader in the image hold the last page".
+/// two 0 bytes of a reader in the image hold the last page". The mark is as in an
+/// older image, equal to the position.
 fn take_reader(rest: &mut &[u8], slot: u64) -> Result<Option<Reader>, String> {
     let waiting = match take(rest, 1) {
         EMPTY => {
@@ -213,22 +234,34 @@ fn take_reader(rest: &mut &[u8], slot: u64) -> Result<Option<Reader>, String> {
         WAITING => true,
         other => return Err(format!("slot {slot} has condition {other}, not 0 to 2")),
     };
+    let [file, pace, position, last] = [1, 2, 2, 2].map(|bytes| take(rest, bytes));
     Ok(Some(Reader {
-        file: take(rest, 1),
-        pace: take(rest, 2),
-        position: take(rest, 2),
-        last: take(rest, 2),
         waiting,
+        ..Reader::running(file, pace, position, last)
     }))
 }
 
+/// "sixteen 2-byte marks at its end, 0 for an empty slot [...] else 13".
+fn take_marks(mut marks: &[u8], readers: &mut BTreeMap<u64, Reader>) -> Result<(), String> {
+    for slot in 0..SLOTS {
+        let mark = take(&mut marks, 2);
+        match readers.get_mut(&slot) {
+            Some(reader) => reader.mark = mark,
+            None => rule(mark == 0, || {
+                format!("the mark of the empty slot {slot} is {mark}, not 0")
+            })?,
+        }
+    }
+    Ok(())
+}
+
 /// Puts a number in so many bytes, "little-endian".
-fn put(image: &mut Vec<u8>, bytes: usize, number: u64) {
+pub(super) fn put(image: &mut Vec<u8>, bytes: usize, number: u64) {
     image.extend(&number.to_le_bytes()[..bytes]);
 }
 
 /// Takes so many bytes off the front as a little-endian number.
-fn take(rest: &mut &[u8], bytes: usize) -> u64 {
+pub(super) fn take(rest: &mut &[u8], bytes: usize) -> u64 {
     let (field, behind) = rest.split_at(bytes);
     *rest = behind;
     let high_first = field.iter().rev();

@@ -28,8 +28,8 @@ impl Page {
 }
 
 /// "A reader has a file, a pace w (ticks per page, 1 to 1,000) and a position
-/// c, the last page read"; "Attach takes a start position and a last page". A
-/// slot without a reader is empty.
+/// c, the last page read"; "Attach takes a start position and a last page"; "Each
+/// reader gains a mark". A slot without a reader is empty.
 #[derive(Clone, Copy, Debug, PartialEq, Eq)]
 pub struct Reader {
     /// The file that it reads.
@@ -40,20 +40,29 @@ pub struct Reader {
     pub position: u64,
     /// Its last page: "The reader's Z comes at its last page."
     pub last: u64,
+    /// Its mark, "the position at its last such call or at Attach": such a call
+    /// is Measure.
+    pub mark: u64,
     /// Its condition: waiting, or else running.
     pub waiting: bool,
 }
 
 impl Reader {
-    /// A reader that is not waiting.
+    /// A reader that is not waiting, as Attach seats it: its mark is its position.
     pub fn running(file: u64, pace: u64, position: u64, last: u64) -> Reader {
         Reader {
             file,
             pace,
             position,
             last,
+            mark: position,
             waiting: false,
         }
+    }
+
+    /// n, the "pages read since the mark".
+    pub fn since_mark(&self) -> u64 {
+        self.position - self.mark
     }
 
     /// Page c + 1 of its file, whether or not the file is that long.

@@ -41,6 +41,11 @@ impl Flat {
             Call::Prefetch => Ok(self.prefetch()),
             Call::Steal => Ok(self.steal()),
             Call::Run { turns } => self.run(turns),
+            Call::Measure {
+                slot,
+                interval,
+                blocked,
+            } => self.measure(slot, interval, blocked),
         }
     }
 
@@ -67,6 +72,7 @@ impl Flat {
             pace: pace as u32,
             position: start as u32,
             last: last as u32,
+            mark: start as u32,
         };
         Ok(letter(b'O'))
     }
@@ -144,6 +150,20 @@ impl Flat {
             self.turn = (self.turn + 1) % 16;
         }
         Ok((1 << 32) + (fetches << 16) + reads)
+    }
+
+    fn measure(&mut self, slot: u64, interval: u64, blocked: u64) -> Outcome {
+        let slot = self.seated(slot)?;
+        if interval == 0 || interval > 1_000_000 || blocked > interval {
+            return Err(16);
+        }
+        let reader = &mut self.readers[slot];
+        let ticks = (interval - blocked) as u32;
+        if let Some(pace) = ticks.checked_div(reader.position - reader.mark) {
+            reader.pace = pace.clamp(1, 1_000);
+        }
+        reader.mark = reader.position;
+        Ok(letter(b'O'))
     }
 
     /// A running reader's read.

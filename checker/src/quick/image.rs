@@ -2,8 +2,8 @@
 
 use super::{Flat, Reader, EMPTY, FILES, SLOTS, WAITING, WORDS};
 use crate::layout::{
-    CACHED, END, FETCH_TIME, FOUR_ZEROS, FRAMES, IN_FETCH, LOOK_AHEAD, READERS, READER_BYTES,
-    SIZES, TURN, ZERO_BYTE,
+    CACHED, END, FETCH_TIME, FOUR_ZEROS, FRAMES, IN_FETCH, LOOK_AHEAD, MARKS, READERS,
+    READER_BYTES, SIZES, TURN, ZERO_BYTE,
 };
 
 fn u16_at(image: &[u8], at: usize) -> u32 {
@@ -35,7 +35,8 @@ fn above(size: u32, word: usize) -> u64 {
 }
 
 impl Flat {
-    /// Nothing for an image that Restore refuses.
+    /// Nothing for an image that Restore refuses, and for an older one: "the C
+    /// buffer use[s] the new length".
     pub(super) fn restore(image: &[u8]) -> Option<Flat> {
         if image.len() != END {
             return None;
@@ -48,7 +49,7 @@ impl Flat {
             sizes: [0; FILES],
             readers: [Reader::default(); SLOTS],
             cached: read_map(&image[CACHED..IN_FETCH]),
-            in_fetch: read_map(&image[IN_FETCH..END]),
+            in_fetch: read_map(&image[IN_FETCH..MARKS]),
             taken: 0,
         };
         let numbers_fit = (1..=1_024).contains(&flat.frames)
@@ -69,7 +70,8 @@ impl Flat {
         flat.count_maps()?;
         for slot in 0..SLOTS {
             let at = READERS + READER_BYTES * slot;
-            flat.readers[slot] = flat.reader_from(&image[at..at + READER_BYTES])?;
+            let mark = u16_at(image, MARKS + 2 * slot);
+            flat.readers[slot] = flat.reader_from(&image[at..at + READER_BYTES], mark)?;
         }
         Some(flat)
     }
@@ -87,10 +89,10 @@ impl Flat {
         (self.taken <= self.frames).then_some(())
     }
 
-    fn reader_from(&self, record: &[u8]) -> Option<Reader> {
+    fn reader_from(&self, record: &[u8], mark: u32) -> Option<Reader> {
         let condition = record[0];
         if condition == EMPTY {
-            return (record == [0; 8]).then(Reader::default);
+            return (record == [0; 8] && mark == 0).then(Reader::default);
         }
         let file = usize::from(record[1]);
         let size = *self.sizes.get(file)?;
@@ -99,16 +101,14 @@ impl Flat {
             file,
             pace: u16_at(record, 2),
             position: u16_at(record, 4),
-            last: match u16_at(record, 6) {
-                0 => size, // an old image
-                last => last,
-            },
+            last: u16_at(record, 6),
+            mark,
         };
         let sound = condition <= WAITING
             && (1..=1_000).contains(&reader.pace)
-            && size > 0
-            && reader.last <= size
+            && (1..=size).contains(&reader.last)
             && reader.position <= reader.last
+            && reader.mark <= reader.position
             && (condition != WAITING || self.may_wait(&reader));
         sound.then_some(reader)
     }
@@ -137,6 +137,9 @@ impl Flat {
         }
         image[FOUR_ZEROS..CACHED].fill(0);
         write_map(&mut image[CACHED..IN_FETCH], &self.cached);
-        write_map(&mut image[IN_FETCH..END], &self.in_fetch);
+        write_map(&mut image[IN_FETCH..MARKS], &self.in_fetch);
+        for (field, reader) in image[MARKS..END].chunks_exact_mut(2).zip(&self.readers) {
+            field.copy_from_slice(&(reader.mark as u16).to_le_bytes());
+        }
     }
 }

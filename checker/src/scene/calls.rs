@@ -1,17 +1,17 @@
 //! Random calls, and calls with every number at and past its bounds.
 
 use crate::call::Call;
-use crate::limits::{FILES, MOST_TURNS, PACE, SLOTS};
-use crate::model::{Page, State};
+use crate::limits::{FILES, INTERVAL, MOST_TURNS, PACE, SLOTS};
+use crate::model::{Page, Reader, State};
 use crate::random::Dice;
 
-/// Numbers at, beside and far past the bounds of slots, files, pages, paces and
-/// turns, and at the widths at which a careless cast would cut them.
+/// Numbers at, beside and far past the bounds of slots, files, pages, paces, turns
+/// and intervals, and at the widths at which a careless cast would cut them.
 #[rustfmt::skip]
-const EDGES: [u64; 38] = [
+const EDGES: [u64; 41] = [
     0, 1, 2, 6, 7, 8, 9, 14, 15, 16, 17, 63, 64, 65, 127, 128, 255, 256, 257,
     999, 1_000, 1_001, 1_023, 1_024, 1_025, 16_383, 16_384, 16_385,
-    65_535, 65_536, 65_537, u32::MAX as u64, 1 << 32, (1 << 32) + 1,
+    65_535, 65_536, 65_537, 999_999, 1_000_000, 1_000_001, u32::MAX as u64, 1 << 32, (1 << 32) + 1,
     1 << 63, (1 << 63) + 1, u64::MAX - 1, u64::MAX,
 ];
 
@@ -23,7 +23,7 @@ const PAST_A_CUT: [u64; 5] = [1 << 8, 1 << 16, 1 << 32, 1 << 48, 1 << 63];
 pub fn any_call(dice: &mut Dice, state: &State) -> Call {
     let slot = usual_slot(dice, state);
     let Page { file, number } = usual_page(dice, state);
-    match dice.below(24) {
+    match dice.below(27) {
         0..=1 => usual_attach(dice, state, file),
         2 => Call::Detach {
             slot: seldom_wild(dice, slot),
@@ -41,6 +41,7 @@ pub fn any_call(dice: &mut Dice, state: &State) -> Call {
         },
         16..=18 => Call::Prefetch,
         19..=20 => Call::Steal,
+        21..=23 => usual_measure(dice, state, slot),
         _ => Call::Run {
             turns: usual_turns(dice, state),
         },
@@ -60,8 +61,40 @@ pub fn calls_at_bounds(dice: &mut Dice, state: &State) -> Vec<Call> {
         calls.push(Call::Lost { file: edge, page });
         calls.push(Call::Lost { file, page: edge });
         calls.push(Call::Run { turns: edge });
+        calls.extend(measures_at(dice, state, edge));
     }
     calls
+}
+
+/// Measure of a slot, mostly one that is not refused.
+fn usual_measure(dice: &mut Dice, state: &State, slot: u64) -> Call {
+    let pages = state.readers.get(&slot).map_or(0, Reader::since_mark);
+    let (interval, blocked) = usual_interval(dice, pages);
+    Call::Measure {
+        slot: seldom_wild(dice, slot),
+        interval: seldom_wild(dice, interval),
+        blocked: seldom_wild(dice, blocked),
+    }
+}
+
+/// Measure with each of its numbers at this edge; with both numbers of ticks at
+/// it, and with one tick more blocked than there are.
+fn measures_at(dice: &mut Dice, state: &State, edge: u64) -> [Call; 5] {
+    let slot = usual_slot(dice, state);
+    let pages = state.readers.get(&slot).map_or(0, Reader::since_mark);
+    let (interval, blocked) = usual_interval(dice, pages);
+    let measures = [
+        [edge, interval, blocked],
+        [slot, edge, blocked],
+        [slot, interval, edge],
+        [slot, edge, edge],
+        [slot, edge, edge.saturating_add(1)],
+    ];
+    measures.map(|[slot, interval, blocked]| Call::Measure {
+        slot,
+        interval,
+        blocked,
+    })
 }
 
 /// Attach to a file, mostly one that is not refused.
@@ -153,6 +186,29 @@ fn usual_pace(dice: &mut Dice) -> u64 {
     }
 }
 
+/// An interval and the ticks blocked in it, mostly in range: what is left makes a
+/// pace at its bounds, beside or between them for so many pages; or interval and
+/// blocked ticks are at their own bounds.
+fn usual_interval(dice: &mut Dice, pages: u64) -> (u64, u64) {
+    let any = dice.between(*INTERVAL.start(), *INTERVAL.end());
+    match dice.below(10) {
+        0 => (dice.pick(&[0, 1, 1_000_000, 1_000_001]), 0),
+        1 => {
+            let ticks = dice.pick(&[0, 1, any, 1_000_000, 1_000_001]);
+            (ticks, ticks)
+        }
+        2 => (any, any + 1),
+        3 => (any, dice.between(0, any)),
+        _ => {
+            let usual = dice.between(0, 1_100);
+            let pace = dice.pick(&[0, 1, 999, 1_000, 1_001, usual, usual, usual]);
+            let left = pace * pages + dice.below(pages.max(1)) * dice.below(2);
+            let blocked = dice.pick(&[0, 1, 400, usual]);
+            (left + blocked, blocked)
+        }
+    }
+}
+
 /// A start and a last page for a file of this size, mostly in it: both at and
 /// past their bounds too.
 fn usual_start_and_last(dice: &mut Dice, size: u64) -> (u64, u64) {
@@ -181,14 +237,28 @@ pub(super) fn usual_turns(dice: &mut Dice, state: &State) -> u64 {
     cut_short(state, turns)
 }
 
-/// Any one of the calls at bounds, a Run cut short.
-pub(super) fn any_call_at_bounds(dice: &mut Dice, state: &State) -> Call {
+/// Any call that has a line, as this line.
+pub(super) fn any_line(dice: &mut Dice, state: &State) -> String {
+    line_of(|| any_call(dice, state))
+}
+
+/// Any one of the calls at bounds that has a line, a Run cut short.
+pub(super) fn any_line_at_bounds(dice: &mut Dice, state: &State) -> String {
     let calls = calls_at_bounds(dice, state);
-    match dice.pick(&calls) {
+    line_of(|| match dice.pick(&calls) {
         Call::Run { turns } => Call::Run {
             turns: cut_short(state, turns),
         },
         call => call,
+    })
+}
+
+/// The line of the first call that has one.
+fn line_of(mut any: impl FnMut() -> Call) -> String {
+    loop {
+        if let Some(line) = any().line() {
+            return line;
+        }
     }
 }
 

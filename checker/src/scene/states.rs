@@ -114,8 +114,19 @@ fn seat_readers(dice: &mut Dice, state: &mut State, one_pace: u64) {
             true => any_pace(dice),
             false => one_pace,
         };
-        let reader = Reader::running(file, pace, position, last);
+        let mut reader = Reader::running(file, pace, position, last);
+        reader.mark = any_mark(dice, position);
         state.readers.insert(dice.below(SLOTS), reader);
+    }
+}
+
+/// A mark: at the position, some pages before it, or anywhere from 0 on.
+fn any_mark(dice: &mut Dice, position: u64) -> u64 {
+    match dice.below(6) {
+        0..=1 => position,
+        2 => 0,
+        3 => position.saturating_sub(dice.between(1, 20)),
+        _ => dice.between(0, position),
     }
 }
 

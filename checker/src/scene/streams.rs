@@ -1,7 +1,7 @@
 //! Streams of the program's lines, with what the model answers to them.
 
 use super::broken::{any_bytes, broken_line, long_line};
-use super::calls::{any_call, any_call_at_bounds, usual_turns};
+use super::calls::{any_line, any_line_at_bounds, usual_turns};
 use super::states::any_state;
 use crate::call::Call;
 use crate::cases;
@@ -117,14 +117,8 @@ impl Stream {
         let from_0 = dice.once_in(2);
         for (&slot, reader) in &wanted.readers {
             let start = if from_0 { 0 } else { reader.position };
-            let attach = Call::Attach {
-                slot,
-                file: reader.file,
-                pace: reader.pace,
-                start,
-                last: reader.last,
-            };
-            self.say(attach.line());
+            let (file, pace, last) = (reader.file, reader.pace, reader.last);
+            self.say(format!("A,{slot},{file},{pace},{start},{last}"));
         }
     }
 
@@ -133,7 +127,7 @@ impl Stream {
         match dice.below(16) {
             0..=5 => {
                 for _ in 0..dice.between(1, 12) {
-                    self.say(any_call(dice, &self.state).line());
+                    self.say(any_line(dice, &self.state));
                 }
             }
             6..=7 => {
@@ -146,7 +140,7 @@ impl Stream {
             11..=12 => self.read_on(dice),
             13 => self.list(dice),
             14 => {
-                self.say(any_call_at_bounds(dice, &self.state).line());
+                self.say(any_line_at_bounds(dice, &self.state));
             }
             _ if dice.once_in(4) => self.set_up(dice),
             _ => {
@@ -205,7 +199,7 @@ impl Stream {
                 self.say(dice.pick(&["L", "Q", "C,0"]));
             }
             _ => {
-                self.say(any_call(dice, &self.state).line());
+                self.say(any_line(dice, &self.state));
             }
         }
     }
@@ -215,7 +209,7 @@ impl Stream {
         let line = match dice.below(5) {
             0 => setup_line(&setup_values(&self.state)),
             1 => dice.pick(&["L", "Q", "C,0", "P", "T"]).to_string(),
-            _ => any_call(dice, &self.state).line(),
+            _ => any_line(dice, &self.state),
         };
         let line = match dice.below(20) {
             0 => any_bytes(dice, 250),

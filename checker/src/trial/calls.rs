@@ -1,6 +1,5 @@
 //! Random calls on valid states, calls at every bound, and long runs.
 
-use super::last::old_image;
 use super::{hold, Report};
 use crate::call::{Call, Entry};
 use crate::limits::MOST_TURNS;
@@ -11,15 +10,10 @@ use crate::scene::{any_call, any_state, calls_at_bounds, long_run_state};
 /// Calls made one after the other from each random state.
 const CALLS_PER_STATE: u64 = 30;
 
-/// From each of so many random states, or an old image of it, a row of random
-/// calls.
+/// From each of so many random states a row of random calls.
 pub fn random_calls(report: &mut Report, entry: Entry, dice: &mut Dice, states: u64) {
     for _ in 0..states {
-        let state = any_state(dice);
-        let mut image = match dice.below(2) {
-            0 => old_image(dice, &state),
-            _ => state.image(),
-        };
+        let mut image = any_state(dice).image();
         for _ in 0..CALLS_PER_STATE {
             let (state, _) = State::restore(&image);
             (_, image) = hold(report, entry, &image, any_call(dice, &state));

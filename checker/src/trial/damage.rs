@@ -3,20 +3,21 @@
 
 use super::{hold, Report, WRONG_LENGTHS};
 use crate::call::Entry;
-use crate::layout::{CACHED, END, FOUR_ZEROS, IN_FETCH, READERS, SIZES};
+use crate::layout::{CACHED, END, FOUR_ZEROS, IN_FETCH, MARKS, READERS, SIZES};
 use crate::limits::IMAGE_BYTES;
 use crate::random::Dice;
 use crate::scene::{any_call, any_state};
 use std::ops::Range;
 
-/// The whole image; then numbers, sizes, readers, cached map, fetch map.
-const PIECES: [Range<usize>; 6] = [
+/// The whole image; then numbers, sizes, readers, cached map, fetch map, marks.
+pub(super) const PIECES: [Range<usize>; 7] = [
     0..END,
     0..SIZES,
     SIZES..READERS,
     READERS..FOUR_ZEROS,
     CACHED..IN_FETCH,
-    IN_FETCH..END,
+    IN_FETCH..MARKS,
+    MARKS..END,
 ];
 
 /// Every byte changed, each in some valid images: one bit of it, or several.
@@ -26,12 +27,25 @@ pub fn every_byte(report: &mut Report, entry: Entry, dice: &mut Dice) {
             let state = any_state(dice);
             let call = any_call(dice, &state);
             let mut image = state.image();
-            image[position] ^= match dice.below(2) {
-                0 => 1 << dice.below(8),
-                _ => dice.between(1, 255) as u8,
-            };
+            image[position] ^= any_change(dice);
             hold(report, entry, &image, call);
         }
+    }
+}
+
+/// The bits of a byte to change: one, or several.
+pub(super) fn any_change(dice: &mut Dice) -> u8 {
+    match dice.below(2) {
+        0 => 1 << dice.below(8),
+        _ => dice.between(1, 255) as u8,
+    }
+}
+
+/// Random bytes over the whole image or over a piece of it.
+pub(super) fn spoil(dice: &mut Dice, image: &mut [u8], piece: &Range<usize>) {
+    let end = piece.end.min(image.len());
+    for byte in &mut image[piece.start.min(end)..end] {
+        *byte = dice.bits() as u8;
     }
 }
 
@@ -41,9 +55,7 @@ pub fn noise(report: &mut Report, entry: Entry, dice: &mut Dice, images: u64) {
         let state = any_state(dice);
         let call = any_call(dice, &state);
         let mut image = state.image();
-        for byte in &mut image[piece.clone()] {
-            *byte = dice.bits() as u8;
-        }
+        spoil(dice, &mut image, piece);
         hold(report, entry, &image, call);
     }
 }

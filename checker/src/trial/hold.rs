@@ -1,6 +1,6 @@
 //! One call through an entry, held to the model.
 
-use super::{last, Outcomes, Report};
+use super::{Outcomes, Report};
 use crate::call::{Call, Entry};
 use crate::cases;
 use crate::model::{self, Page, State};
@@ -17,6 +17,7 @@ pub const CALL_OUTCOMES: &Outcomes = &[
     ("Prefetch", &["F", "U", "E,13"]),
     ("Steal", &["S", "U", "E,13"]),
     ("Run", &["N", "N fetching", "E,11", "E,10", "E,13"]),
+    ("Measure", &["O", "E,2", "E,6", "E,16", "E,13"]),
 ];
 
 /// Bytes around the buffer that no call may touch.
@@ -34,7 +35,11 @@ pub fn hold(report: &mut Report, entry: Entry, image: &[u8], call: Call) -> (u64
             report.note(name, case.to_string());
         }
     }
-    last::note(report, image, &answer);
+    if let (Call::Measure { .. }, Ok(before)) = (call, State::of_image(image)) {
+        for (name, case) in cases::measured(&before, call, &answer) {
+            report.note(name, case.to_string());
+        }
+    }
     report.note(call.name(), answer);
     let act = |buffer: &mut [u8]| entry(buffer, call);
     hold_buffer(report, image, &expected, act, || {
@@ -78,7 +83,7 @@ fn guards_stand(memory: &[u8], inside: &Range<usize>) -> bool {
 }
 
 /// The state in few words, to know it by.
-fn describe(image: &[u8]) -> String {
+pub(super) fn describe(image: &[u8]) -> String {
     let (state, restored) = State::restore(image);
     if restored.is_err() {
         return format!("image of {} bytes that Restore refuses", image.len());

@@ -1,17 +1,20 @@
 //! Trials by name: sentences of the papers that random calls may miss, each as a
 //! few lines with their answers. The program gets the lines, the C entries the
-//! calls among them. Some are of images, and so for the entries alone.
+//! calls among them. Some are of images or of Measure, and so for the entries alone.
 
-use super::last::{last_in, put_last};
+use super::fields::{put_two, two_in};
 use super::{hold, streams, Report};
 use crate::call::{Call, Entry};
 use crate::feed::{Cut, Feed, Program};
+use crate::layout;
+use crate::limits::OLDER_IMAGE_BYTES;
 use crate::model::{respond, State};
 use crate::scene::Stream;
 
 /// A trial: lines, each with the answer that the papers give it. Between them
-/// `LAST,slot,page: put` writes a reader's last page over the image, and `LAST,slot:
-/// page` says what stands there.
+/// `MEASURE,slot,interval,blocked` stands for the call that has no line. `LAST,slot,page:
+/// put` writes a reader's last page over the image, and `LAST,slot: page` says what
+/// stands there; so do MARK and PACE.
 pub struct Named {
     /// What it tries.
     pub name: &'static str,
@@ -25,10 +28,14 @@ const WAITING: &str = "S,2,10,0,5,0,0,0,0,0,0,0: O / A,0,0,1,0,5: O / R,0: F,0,1
 /// The same file without a reader.
 const FIVE: &str = "S,5,10,0,5,0,0,0,0,0,0,0: O";
 
-/// The trials: WAITING and FIVE stand for the lines above, LONG for a line of 200
-/// bytes.
+/// A file of 64 pages, and a reader of pace 500 docked in it: it goes on from page
+/// 10, and sees no page ahead.
+const DOCKED: &str = "S,64,1,0,64,0,0,0,0,0,0,0: O / A,0,0,500,10,60: O";
+
+/// The trials: WAITING, FIVE and DOCKED stand for the lines above, LONG for a line
+/// of 200 bytes, THREE for one with three fields for each letter.
 #[rustfmt::skip]
-const TABLE: [(&str, &str); 36] = [
+const TABLE: [(&str, &str); 54] = [
     ("each refusal has its number",
      "WAITING / S,0,10,0,5,0,0,0,0,0,0,0: E,1 / A,16,0,1,0,5: E,2 / A,1,8,1,0,5: E,3 / \
       A,1,0,1001,0,5: E,4 / A,1,0,1,0,6: E,15 / A,0,0,1,0,5: E,5 / D,16: E,2 / D,1: E,6 / \
@@ -129,19 +136,95 @@ const TABLE: [(&str, &str); 36] = [
     ("the look-ahead ends at the last page",
      "FIVE / A,0,0,1,1,3: O / Q: Q,2,0,2,0,3 / P: F,0,2 / P: F,0,3 / P: U / Q: Q,0"),
 
-    // "0 there, in an old image, means the file's size", beside a slot that has its own
-    ("a last page of 0 is the size",
-     "FIVE / A,0,0,1,0,1: O / A,1,0,1,2,3: O / LAST,0: 1 / LAST,0,0: put / P: F,0,1 / \
-      LAST,0: 5 / LAST,1: 3 / P: F,0,3 / P: F,0,2 / P: F,0,4 / P: F,0,5 / P: U"),
-    // Restore, call, Save
-    ("Z and U fill the zeros in",
-     "FIVE / A,0,0,1,5,5: O / A,1,0,1,5,5: O / LAST,0,0: put / LAST,1,0: put / R,0: Z / \
-      LAST,0: 5 / LAST,1: 5 / LAST,0,0: put / P: U / LAST,0: 5 / LAST,1,0: put / T: U / \
-      LAST,1: 5"),
-    // "a refusal leaves it"
-    ("a refusal leaves the zeros",
-     "WAITING / LAST,0,0: put / R,0: E,7 / A,0,0,1,0,5: E,5 / A,1,0,1,0,6: E,15 / D,1: E,6 / \
-      I,0,2: E,9 / X,0,6: E,8 / N,1: E,10 / LAST,0: 0 / X,0,1: O / LAST,0: 5"),
+    // "With n pages read since the mark, the pace becomes (interval − blocked) divided
+    // by n, rounded down"
+    ("a pace is measured since the mark",
+     "DOCKED / MARK,0: 10 / N,320: N,20,20 / MARK,0: 10 / MEASURE,0,1000,400: O / PACE,0: 30 / \
+      MARK,0: 30 / N,112: N,7,7 / MEASURE,0,1000,400: O / PACE,0: 85 / MARK,0: 37"),
+    ("a pace is rounded down",
+     "DOCKED / N,48: N,3,3 / MEASURE,0,8,0: O / PACE,0: 2 / N,32: N,2,2 / MEASURE,0,99,0: O / \
+      PACE,0: 49"),
+    // "with n = 0 it stays": for one that has just docked, and again after a measure
+    ("without a page the pace stays",
+     "DOCKED / MEASURE,0,1000,400: O / PACE,0: 500 / MEASURE,0,1000000,0: O / PACE,0: 500 / \
+      MEASURE,0,1,1: O / PACE,0: 500 / N,80: N,5,5 / MEASURE,0,100,0: O / PACE,0: 20 / \
+      MEASURE,0,100,0: O / PACE,0: 20 / MEASURE,0,7,7: O / PACE,0: 20 / MARK,0: 15"),
+    // "held to 1 through 1,000"
+    ("a pace is held to 1",
+     "DOCKED / N,48: N,3,3 / MEASURE,0,1000,1000: O / PACE,0: 1 / N,48: N,3,3 / \
+      MEASURE,0,2,0: O / PACE,0: 1 / N,48: N,3,3 / MEASURE,0,9,3: O / PACE,0: 2 / \
+      N,48: N,3,3 / MEASURE,0,5,2: O / PACE,0: 1"),
+    ("a pace is held to 1,000",
+     "DOCKED / N,48: N,3,3 / MEASURE,0,1000000,0: O / PACE,0: 1000 / N,48: N,3,3 / \
+      MEASURE,0,2999,0: O / PACE,0: 999 / N,48: N,3,3 / MEASURE,0,3003,0: O / PACE,0: 1000 / \
+      N,48: N,3,3 / MEASURE,0,3000,1: O / PACE,0: 999 / N,48: N,3,3 / MEASURE,0,3000,0: O / \
+      PACE,0: 1000"),
+    // "the position at its last such call"
+    ("each measure sets the mark",
+     "DOCKED / N,80: N,5,5 / MEASURE,0,100,0: O / PACE,0: 20 / N,32: N,2,2 / \
+      MEASURE,0,100,0: O / PACE,0: 50 / MARK,0: 17 / MEASURE,0,100,0: O / N,16: N,1,1 / \
+      MEASURE,0,100,0: O / PACE,0: 100 / MARK,0: 18"),
+    // "or at Attach"
+    ("Attach sets the mark",
+     "DOCKED / MARK,0: 10 / N,80: N,5,5 / MARK,0: 10 / MEASURE,0,100,0: O / PACE,0: 20 / D,0: O / \
+      A,0,0,7,20,60: O / MARK,0: 20 / A,15,0,7,60,60: O / MARK,15: 60"),
+    // "The slot's record becomes empty and all 0"; "0 for an empty slot"
+    ("Detach clears the mark",
+     "DOCKED / D,0: O / MARK,0: 0 / PACE,0: 0 / T: U / A,0,0,1,0,60: O / MARK,0: 0 / \
+      A,15,0,1,3,60: O / D,15: O / MARK,15: 0"),
+    ("no other call moves a mark",
+     "DOCKED / R,0: F,0,11 / MARK,0: 10 / I,0,11: I / MARK,0: 10 / R,0: H,0,11 / MARK,0: 10 / \
+      R,0: F,0,12 / X,0,12: O / P: U / T: S,0,11 / N,16: N,1,1 / A,1,0,1,2,60: O / \
+      MEASURE,1,1,0: O / D,1: O / MARK,0: 10 / PACE,0: 500"),
+    // A waiting reader is measured like a running one, and waits on.
+    ("a waiting reader is measured",
+     "DOCKED / N,32: N,2,2 / R,0: F,0,13 / MEASURE,0,100,0: O / PACE,0: 50 / MARK,0: 12 / \
+      R,0: E,7 / I,0,13: I / R,0: H,0,13 / R,0: F,0,14 / MEASURE,0,100,1: O / PACE,0: 99"),
+    // Only the slot's own reader: the one in slot 1 is at its last page
+    ("one reader is measured",
+     "DOCKED / A,1,0,7,1,3: O / A,15,0,9,0,60: O / N,64: N,8,10 / MEASURE,1,22,0: O / \
+      PACE,1: 11 / MARK,1: 3 / PACE,0: 500 / MARK,0: 10 / PACE,15: 9 / MARK,15: 0 / \
+      MEASURE,15,4,0: O / PACE,15: 1 / MARK,15: 4 / R,1: Z"),
+    // K is L divided by the pace that was measured.
+    ("a measured pace counts at once",
+     "S,9,100,0,9,0,0,0,0,0,0,0: O / A,0,0,100,0,9: O / N,16: N,1,1 / P: F,0,2 / P: U / \
+      MEASURE,0,50,0: O / P: F,0,3 / P: U / MARK,0,0: put / MEASURE,0,1000,0: O / X,0,2: O / \
+      P: U"),
+    // "Turned away: 16 [...] after 2 and 6."
+    ("Measure gives 2 before 16", "DOCKED / MEASURE,16,0,0: E,2 / MEASURE,16,1,2: E,2 / \
+      MEASURE,18446744073709551615,1000001,0: E,2 / MEASURE,16,1,0: E,2"),
+    ("Measure gives 6 before 16", "DOCKED / MEASURE,1,0,0: E,6 / MEASURE,15,1,2: E,6 / \
+      MEASURE,1,1000001,0: E,6 / MEASURE,1,1,0: E,6"),
+    // "interval out of range or blocked above it"
+    ("16 has two reasons",
+     "DOCKED / MEASURE,0,0,0: E,16 / MEASURE,0,1000001,0: E,16 / MEASURE,0,4294967296,0: E,16 / \
+      MEASURE,0,4294967297,0: E,16 / MEASURE,0,18446744073709551615,0: E,16 / \
+      MEASURE,0,1000,1001: E,16 / MEASURE,0,1,2: E,16 / MEASURE,0,1000000,1000001: E,16 / \
+      MEASURE,0,1000,4294967296: E,16 / MEASURE,0,1000,18446744073709551615: E,16 / \
+      MEASURE,0,0,1: E,16 / MEASURE,0,1,0: O / MEASURE,0,1,1: O / MEASURE,0,1000000,1000000: O"),
+    ("a refused measure changes nothing",
+     "DOCKED / N,32: N,2,2 / MEASURE,0,0,0: E,16 / MEASURE,0,9,10: E,16 / PACE,0: 500 / \
+      MARK,0: 10"),
+    // "on no program line": each letter with three fields is any other line
+    ("no line measures", "WAITING / THREE / R,0: E,7"),
+
+    // "each at most the position, else 13"
+    ("no mark is above the position",
+     "FIVE / A,0,0,1,3,5: O / MARK,0,4: put / T: E,13 / MEASURE,0,1,0: E,13 / MARK,0,259: put / \
+      R,0: E,13 / MARK,0,65535: put / D,0: E,13 / MARK,0,3: put / T: U / MARK,0,0: put / T: U / \
+      MARK,0: 0"),
+    // "0 for an empty slot"
+    ("an empty slot has no mark",
+     "FIVE / MARK,0,1: put / T: E,13 / MARK,0,256: put / A,0,0,1,0,5: E,13 / MARK,0,0: put / \
+      MARK,15,1: put / MEASURE,15,1,0: E,13 / MARK,15,0: put / MEASURE,15,1,0: E,6"),
+    // "in it, or a longer one, a taken slot's last page of 0 gets 13"
+    ("a last page of 0 is refused",
+     "FIVE / A,0,0,1,0,5: O / A,1,0,1,2,3: O / LAST,0,0: put / P: E,13 / R,0: E,13 / T: E,13 / \
+      MEASURE,0,1,0: E,13 / N,1: E,13 / LAST,0,5: put / P: F,0,1 / LAST,1,0: put / P: E,13"),
+    // "an accepted image comes back unchanged"
+    ("Z and U leave the image",
+     "DOCKED / N,32: N,2,2 / T: S,0,12 / T: S,0,11 / T: U / P: U / MARK,0: 10 / D,0: O / \
+      A,0,0,3,60,60: O / MARK,0,7: put / R,0: Z / MARK,0: 7 / LAST,0: 60"),
     // "A last page above the size or below the position, or a waiting reader at it,
     // gets 13", though its next page is in fetch
     ("no last page is above the size",
@@ -152,14 +235,18 @@ const TABLE: [(&str, &str); 36] = [
       LAST,0,3: put / R,0: Z"),
     ("no reader waits at its last page",
      "FIVE / A,0,0,1,2,5: O / R,0: F,0,3 / LAST,0,2: put / R,0: E,13 / I,0,3: E,13 / P: E,13 / \
-      LAST,0,3: put / R,0: E,7 / LAST,0,0: put / R,0: E,7"),
+      LAST,0,3: put / R,0: E,7"),
 ];
 
 /// Every trial.
 pub fn all() -> Vec<Named> {
     let long = format!("S{},11", ",1".repeat(98));
+    let letters = ('A'..='Z').chain('a'..='z');
+    let three = letters.map(|letter| format!("{letter},0,100,0: E,14"));
+    let three = three.collect::<Vec<_>>().join(" / ");
     let written_out = |steps: &str| {
         let steps = steps.replace("WAITING", WAITING).replace("FIVE", FIVE);
+        let steps = steps.replace("DOCKED", DOCKED).replace("THREE", &three);
         steps.replace("LONG", &long)
     };
     let trials = TABLE.iter().map(|(name, steps)| Named {
@@ -177,9 +264,9 @@ impl Named {
     }
 
     /// Feeds a program the lines: whole, without the last line end, and so again
-    /// byte by byte. It has no image.
+    /// byte by byte. It has no image, and no line for Measure.
     pub fn by_program(&self, report: &mut Report, program: Program) {
-        if self.steps.contains(LAST) {
+        if self.steps().any(|(line, _)| is_no_line(line)) {
             return;
         }
         let failed_before = report.failed();
@@ -208,8 +295,10 @@ impl Named {
         let failed_before = report.failed();
         let mut image = State::idle().image();
         for (line, answer) in self.steps() {
-            if let Some(place) = line.strip_prefix(LAST) {
-                last_page(report, &mut image, place, answer);
+            if let Some(measure) = measure_of(line) {
+                image = hold_call(report, entry, &image, measure, number_of(answer));
+            } else if is_no_line(line) {
+                field(report, &mut image, line, answer);
             } else if let Some(call) = Call::of_line(line).filter(|_| answer != "E,14") {
                 image = hold_call(report, entry, &image, call, number_of(answer));
             } else if line.starts_with('S') {
@@ -227,24 +316,50 @@ impl Named {
     }
 }
 
-/// What a step on an image starts with.
-const LAST: &str = "LAST,";
+/// Whether a step is for the entries alone: it starts with a word, not a letter.
+fn is_no_line(step: &str) -> bool {
+    step.find(',').is_some_and(|comma| comma > 1)
+}
 
-/// Writes a slot's last page over the image, or holds it to what is said.
-fn last_page(report: &mut Report, image: &mut [u8], place: &str, answer: &str) {
+/// The call of a step `MEASURE,slot,interval,blocked`.
+fn measure_of(step: &str) -> Option<Call> {
+    let fields = step.strip_prefix("MEASURE,")?.split(',');
+    let numbers: Vec<u64> = fields.filter_map(|field| field.parse().ok()).collect();
+    let &[slot, interval, blocked] = &numbers[..] else {
+        panic!("{step}: not three numbers");
+    };
+    Some(Call::Measure {
+        slot,
+        interval,
+        blocked,
+    })
+}
+
+/// Writes a slot's last page, mark or pace over the image, or holds it to what is
+/// said.
+fn field(report: &mut Report, image: &mut [u8], step: &str, answer: &str) {
+    let mut pieces = step.split(',');
+    let place = match pieces.next() {
+        Some("LAST") => layout::last_page,
+        Some("MARK") => layout::mark,
+        Some("PACE") => layout::pace,
+        _ => panic!("{step}: no such step"),
+    };
     let number = |field: &str| field.parse::<u16>().expect("a number");
-    if let Some((slot, page)) = place.split_once(',') {
-        put_last(image, number(slot).into(), number(page));
+    let slot = pieces.next().map(number).expect("a slot");
+    let at = place(slot.into());
+    if let Some(put) = pieces.next() {
+        put_two(image, at, number(put));
     } else {
-        let last = last_in(image, number(place).into());
-        report.check(last == number(answer), || {
-            format!("the last page of slot {place} is to be {answer}, not {last}")
+        let found = two_in(image, at);
+        report.check(found == number(answer), || {
+            format!("{step} is to be {answer}, not {found}")
         });
     }
 }
 
-/// One call on an image, and on buffers that are none: "The buffer must be exactly
-/// 2,208 bytes, else 13, tested first". Gives the image behind it.
+/// One call on an image, and on buffers that are none: "The buffer must be exactly"
+/// 2,240 bytes, "else 13, tested first". Gives the image behind it.
 fn hold_call(
     report: &mut Report,
     entry: Entry,
@@ -253,7 +368,13 @@ fn hold_call(
     expected: u64,
 ) -> Vec<u8> {
     let longer = [image, &[0]].concat();
-    let tries = [(image, expected), (&image[1..], 13), (&longer, 13)];
+    let older = &image[..OLDER_IMAGE_BYTES];
+    let tries = [
+        (image, expected),
+        (&image[1..], 13),
+        (&longer, 13),
+        (older, 13),
+    ];
     let [after, ..] = tries.map(|(buffer, expected)| {
         let (number, after) = hold(report, entry, buffer, call);
         report.check(number == expected, || {

@@ -2,27 +2,29 @@
 //!
 //! It changes images byte by byte, and so tries the model's reading of them too.
 
+use super::older::{hold_probe, hold_upgrade};
 use super::{hold, Report};
-use crate::call::{Call, Entry};
+use crate::call::{Call, Entry, Older, Probe, Upgrade};
 use crate::layout::{
-    CACHED, FETCH_TIME, FOUR_ZEROS, FRAMES, IN_FETCH, LAST, LOOK_AHEAD, READERS, READER_BYTES,
-    SIZES, TURN, ZERO_BYTE,
+    CACHED, FETCH_TIME, FOUR_ZEROS, FRAMES, IN_FETCH, LAST, LOOK_AHEAD, MARKS, READERS,
+    READER_BYTES, SIZES, TURN, ZERO_BYTE,
 };
+use crate::limits::{IMAGE_BYTES, OLDER_IMAGE_BYTES};
 use crate::model::{Page, Reader, State};
 
 /// Each rule broken alone: every call answers 13. The bounds met exactly: none
 /// does. (Every entry restores for itself, so every call is tried.)
 pub fn rules(report: &mut Report, entry: Entry) {
-    for (rule, changes) in broken() {
+    for (rule, changes) in all_broken() {
         let image = changed(&changes);
         for call in EVERY_CALL {
             let (number, _) = hold(report, entry, &image, call);
             report.check(number == 13, || {
-                format!("{rule}, {call:?}: {number}, not 13")
+                format!("{rule} {changes:?}, {call:?}: {number}, not 13")
             });
         }
     }
-    for (rule, changes) in unbroken() {
+    for (rule, changes) in all_unbroken() {
         let image = changed(&changes);
         for call in EVERY_CALL {
             let (number, _) = hold(report, entry, &image, call);
@@ -31,8 +33,46 @@ pub fn rules(report: &mut Report, entry: Entry) {
     }
 }
 
+/// The same by Restore itself, in either length. In 2,208 bytes there are no marks,
+/// and a last page of 0 is the size.
+pub fn by_probe(report: &mut Report, probe: Probe) {
+    for (length, broken, unbroken) in [
+        (IMAGE_BYTES, all_broken(), all_unbroken()),
+        (OLDER_IMAGE_BYTES, broken(), older_unbroken()),
+    ] {
+        for (rules, refused) in [(broken, true), (unbroken, false)] {
+            for (rule, changes) in rules {
+                let image = &changed(&changes)[..length];
+                let number = hold_probe(report, probe, image, &[7; IMAGE_BYTES + 1]);
+                report.check((number == 13) == refused, || {
+                    format!("{rule} {changes:?}, {length} bytes: {number}")
+                });
+            }
+        }
+    }
+}
+
+/// The same by the header's upgrade of 2,208 bytes and a call on what comes of it.
+pub fn by_upgrade(report: &mut Report, upgrade: Upgrade, entry: Entry) {
+    for (rules, refused) in [(broken(), true), (older_unbroken(), false)] {
+        for (rule, changes) in rules {
+            let buffer = changed(&changes);
+            let older = Older::Apart(&buffer[..OLDER_IMAGE_BYTES]);
+            hold_upgrade(report, upgrade, &[7; IMAGE_BYTES], older);
+            let older = Older::InPlace(OLDER_IMAGE_BYTES);
+            let Some(image) = hold_upgrade(report, upgrade, &buffer, older) else {
+                continue;
+            };
+            let (number, _) = hold(report, entry, &image, Call::Steal);
+            report.check((number == 13) == refused, || {
+                format!("{rule} {changes:?}, upgraded: {number}")
+            });
+        }
+    }
+}
+
 /// One of each. Some would be refused for their own numbers too; 13 comes first.
-const EVERY_CALL: [Call; 8] = [
+const EVERY_CALL: [Call; 9] = [
     Call::Attach {
         slot: 16,
         file: 0,
@@ -47,10 +87,18 @@ const EVERY_CALL: [Call; 8] = [
     Call::Prefetch,
     Call::Steal,
     Call::Run { turns: 16_385 },
+    Call::Measure {
+        slot: 3,
+        interval: 0,
+        blocked: 1,
+    },
 ];
 
 /// Bytes to write over an image, each piece with its place.
 type Changes = Vec<(usize, Vec<u8>)>;
+
+/// Changes, each with what they try.
+type Rules = Vec<(&'static str, Changes)>;
 
 /// The image of the sound state with these changes.
 fn changed(changes: &Changes) -> Vec<u8> {
@@ -61,18 +109,25 @@ fn changed(changes: &Changes) -> Vec<u8> {
     image
 }
 
+/// The files of the sound state.
+const FILE_SIZES: [u64; 8] = [20, 1_024, 1_024, 1_024, 64, 1, 0, 0];
+
 /// Two frames, both taken. File 0 has 20 pages, 1 to 3 have 1,024, 4 has 64,
 /// 5 has 1, 6 and 7 none. Slot 0 runs in file 0, slot 1 waits for page 5 of
 /// file 1, slot 2 runs in file 2; slot 3 is empty. Slot 0 reads up to page 12, the
-/// others up to their files' ends.
+/// others up to their files' ends. Slot 0 was measured at page 1 and slot 1 where it
+/// is; slot 2 has docked at page 0.
 fn sound_state() -> State {
     let mut state = State::idle();
     state.frames = 2;
     state.look_ahead = 100;
     state.fetch_time = 20;
-    state.sizes = [20, 1_024, 1_024, 1_024, 64, 1, 0, 0];
-    for (slot, file, position, last) in [(0, 0, 3, 12), (1, 1, 4, 1_024), (2, 2, 9, 1_024)] {
+    state.sizes = FILE_SIZES;
+    for (slot, file, mark, position, last) in
+        [(0, 0, 1, 3, 12), (1, 1, 4, 4, 1_024), (2, 2, 0, 9, 1_024)]
+    {
         let mut reader = Reader::running(file, 10, position, last);
+        reader.mark = mark;
         reader.waiting = slot == 1;
         state.readers.insert(slot, reader);
     }
@@ -91,13 +146,14 @@ fn bit(map: usize, page: Page) -> (usize, Vec<u8>) {
     (map + key / 8, vec![1 << (key % 8)])
 }
 
-/// A reader's record: slot, condition, file, pace, position; its last page is 0,
-/// which is the size.
+/// A reader's record: slot, condition, file, pace, position; its last page is the
+/// size, or 1 where there is no such file.
 fn record(slot: usize, condition: u8, file: u8, pace: u16, position: u16) -> (usize, Vec<u8>) {
     let mut bytes = vec![condition, file];
     bytes.extend(pace.to_le_bytes());
     bytes.extend(position.to_le_bytes());
-    bytes.extend([0, 0]);
+    let size = FILE_SIZES.get(usize::from(file)).copied().unwrap_or(0);
+    bytes.extend((size.max(1) as u16).to_le_bytes());
     (READERS + READER_BYTES * slot, bytes)
 }
 
@@ -106,6 +162,11 @@ fn reader(condition: u8, file: u8, position: u16, last: u16) -> (usize, Vec<u8>)
     let (at, mut bytes) = record(2, condition, file, 10, position);
     bytes[LAST..].copy_from_slice(&last.to_le_bytes());
     (at, bytes)
+}
+
+/// A slot's mark.
+fn mark(slot: usize, mark: u16) -> (usize, Vec<u8>) {
+    two(MARKS + 2 * slot, mark)
 }
 
 fn nothing_cached() -> (usize, Vec<u8>) {
@@ -120,7 +181,21 @@ fn four(at: usize, number: u32) -> (usize, Vec<u8>) {
     (at, number.to_le_bytes().to_vec())
 }
 
-fn broken() -> Vec<(String, Changes)> {
+/// Each rule of 2,240 bytes.
+fn all_broken() -> Rules {
+    [broken(), broken_marks(), zero_last_pages()].concat()
+}
+
+fn all_unbroken() -> Rules {
+    [unbroken(), unbroken_marks()].concat()
+}
+
+fn older_unbroken() -> Rules {
+    [unbroken(), zero_last_pages()].concat()
+}
+
+/// Each rule of either length.
+fn broken() -> Rules {
     let mut list = vec![
         ("frames 0", vec![two(FRAMES, 0), nothing_cached()]),
         ("frames 1,025", vec![two(FRAMES, 1_025)]),
@@ -173,8 +248,65 @@ fn broken() -> Vec<(String, Changes)> {
     let empty_slot = READERS + READER_BYTES * 3;
     let record_bytes = empty_slot + 1..empty_slot + READER_BYTES;
     list.extend(record_bytes.map(|at| ("an empty slot not all 0", vec![(at, vec![128])])));
-    let named = |(rule, changes): (&str, Changes)| (format!("{rule} {changes:?}"), changes);
-    list.into_iter().map(named).collect()
+    list
+}
+
+/// "0 for an empty slot, each at most the position, else 13": slot 0 is at page 3,
+/// slot 1 waits at page 4, slot 3 is empty.
+fn broken_marks() -> Rules {
+    vec![
+        ("a mark above the position", vec![mark(0, 4)]),
+        ("the same by its high byte", vec![mark(0, 256 + 3)]),
+        ("a mark at the last page, above", vec![mark(0, 12)]),
+        ("a mark far above", vec![mark(0, u16::MAX)]),
+        ("a waiting reader's mark above", vec![mark(1, 5)]),
+        (
+            "a mark above position 0",
+            vec![reader(1, 2, 0, 9), mark(2, 1)],
+        ),
+        (
+            "a mark above position 255, both bytes",
+            vec![reader(1, 2, 255, 1_024), mark(2, 256)],
+        ),
+        ("an empty slot's mark", vec![mark(3, 1)]),
+        ("the same by its high byte", vec![mark(3, 256)]),
+        ("the last slot's mark, empty", vec![mark(15, 1)]),
+        ("the same by its high byte", vec![mark(15, 0x8000)]),
+    ]
+}
+
+/// "a taken slot's last page of 0": 13, but in an older image the file's size.
+fn zero_last_pages() -> Rules {
+    vec![
+        ("a last page of 0", vec![reader(1, 2, 9, 0)]),
+        ("a last page of 0 at position 0", vec![reader(1, 2, 0, 0)]),
+        ("a last page of 0, waiting", vec![reader(2, 1, 4, 0)]),
+        ("a last page of 0 in a file of 1", vec![reader(1, 5, 1, 0)]),
+        (
+            "two last pages of 0",
+            vec![reader(1, 0, 3, 0), two(READERS + LAST, 0)],
+        ),
+    ]
+}
+
+fn unbroken_marks() -> Rules {
+    vec![
+        ("a mark of 0", vec![mark(0, 0)]),
+        ("a mark at the position", vec![mark(0, 3)]),
+        ("a waiting reader's mark of 0", vec![mark(1, 0)]),
+        (
+            "a mark of 1,024",
+            vec![reader(1, 1, 1_024, 1_024), mark(2, 1_024)],
+        ),
+        (
+            "a mark of 255 below position 256",
+            vec![reader(1, 1, 256, 1_024), mark(2, 255)],
+        ),
+        (
+            "a mark in slot 15",
+            vec![record(15, 1, 5, 10, 1), mark(15, 1)],
+        ),
+    ]
 }
 
 /// "A last page above the size or below the position, or a waiting reader at it,
@@ -198,7 +330,7 @@ fn broken_last_pages() -> [(&'static str, (usize, Vec<u8>)); 11] {
     ]
 }
 
-fn unbroken() -> Vec<(&'static str, Changes)> {
+fn unbroken() -> Rules {
     vec![
         ("nothing changed", vec![]),
         ("frames 1", vec![two(FRAMES, 1), nothing_cached()]),
@@ -219,6 +351,7 @@ fn unbroken() -> Vec<(&'static str, Changes)> {
         ("last page 1, position 0", vec![reader(1, 2, 0, 1)]),
         ("last page at the position", vec![reader(1, 2, 9, 9)]),
         ("last page at the size", vec![reader(1, 0, 3, 20)]),
+        ("a last page of 256", vec![reader(1, 2, 9, 256)]),
         (
             "last page and position 1,024",
             vec![reader(1, 1, 1_024, 1_024)],

@@ -9,7 +9,7 @@ use lib.Dec.{T, ltb, ltb→lt}
 use mir.Syntax.{Width}
 use mir.Val.{Fits, bits}
 use Rattle.rules.specs.Lists.{within, every}
-use Rattle.rules.specs.Calls.{settingsIn}
+use Rattle.rules.specs.Calls.{settingsIn, noInterval}
 use Rattle.rules.proofs.laws.Cases.{and-true, or-false, within-true}
 use Rattle.parts.specs.Files.{noRangeIn}
 
@@ -22,6 +22,10 @@ pub range-in : (q : Bool) (size start last : ℕ) → q ≡ noRangeIn size start
 range-in q size start last e h =
     let c = or-false (not (within 1 size last)) (ltb last start) (sym e ∙ h) in
     (omega (arith, ltb-false last start (c .1)), within-true 1 size last (not-false (within 1 size last) (c .0)) .1)
+
+-- no more ticks are blocked than an interval has that is not refused
+pub interval-in : (q : Bool) (interval blocked : ℕ) → q ≡ noInterval interval blocked → q ≡ false → blocked ≤ interval
+interval-in q interval blocked e h = ltb-false interval blocked (or-false (not (within 1 1000000 interval)) (ltb interval blocked) (sym e ∙ h) .1)
 
 -- the settings in range
 pub record InRange (frames look time : ℕ) (sizes : List ℕ) : Type 0 where

@@ -5,6 +5,7 @@ use mathlib.Core.Bool.{cond}
 use mathlib.Core.List.{List}
 use mathlib.Core.Logic.{_≢_}
 use mathlib.Core.Option.{Option, some}
+use lib.ListN.{getD}
 use Rattle.bits.specs.Map.{on, putBit}
 use Rattle.rules.specs.Lists.{onOption}
 use Rattle.rules.specs.Pages.{fileOf, pageOf, keyOf}
@@ -40,9 +41,9 @@ openFetch sizes fetching file page =
     (cond (noPageIn sizes file page) (NotOpen 8)
     (cond (on fetching (keyOf file page)) (Open (keyOf file page)) (NotOpen 9)))
 
--- every slot but this one has the record that it had
+-- every slot but this one has the record and the mark that it had
 abbrev pub OthersStay : View → ℕ → View → Type 0
-OthersStay v slot w = (j : ℕ) → j ≢ slot → readerIn (w .readers) j ≡ readerIn (v .readers) j
+OthersStay v slot w = (j : ℕ) → j ≢ slot → (readerIn (w .readers) j ≡ readerIn (v .readers) j) × (getD (w .marks) j 0 ≡ getD (v .marks) j 0)
 
 -- the key of the page chosen, if any, is one of a map's
 abbrev pub InMap : Option ℕ → Type 0

@@ -31,6 +31,9 @@ ghost use Rattle.rules.specs.Calls.{
   detachOf,
   lostOf,
   prefetchOf,
+  noInterval,
+  measuredPace,
+  measureOf,
 };
 ghost use Rattle.order.specs.Choices.{chosen, Housed};
 ghost use Rattle.calls.specs.Inner.{outcomeOf, refusal, stepped, openFetch, OthersStay, InMap, eased, landedWith, arrivalOf};
@@ -172,6 +175,7 @@ pub fn attach(mut v: View, slot: u64, file: u64, pace: u64, start: u64, last: u6
     match condition {
         Condition::Empty => {
             v.readers[i] = parts::docked(file as u8, pace as u16, start as u16, last as u16);
+            v.marks[i] = start as u16;
             outcome(v, Answer::Done)
         }
         Condition::Running | Condition::Waiting => refuse(v, 5),
@@ -242,9 +246,58 @@ pub fn detach(mut v: View, slot: u64) -> Outcome
         Condition::Empty => refuse(v, 6),
         Condition::Running | Condition::Waiting => {
             v.readers[i] = parts::no_reader();
+            v.marks[i] = 0;
             outcome(v, Answer::Done)
         }
     }
+}
+
+// 16: an interval that is not 1 to 1,000,000 ticks, or more ticks blocked than it has.
+fn no_interval(interval: u64, blocked: u64) -> bool
+    ensures { λ r. ⌜ r ≡ noInterval interval blocked ⌝ }
+{
+    !parts::within(1, 1000000, interval) || interval < blocked
+}
+
+// The pace by what a reader has read since its mark. One that has read no page keeps its pace.
+fn measured_pace(old: Reader, mark: u16, interval: u64, blocked: u64) -> u16
+    requires { ⌜ blocked ≤ interval ⌝ }
+    ensures { λ r. ⌜ r ≡ measuredPace interval blocked old mark ⌝ }
+{
+    if old.position <= mark {
+        return old.pace;
+    }
+    let n = (old.position - mark) as u64;
+    let pace = (interval - blocked) / n;
+    if pace < 1 {
+        return 1;
+    }
+    if 1000 < pace {
+        return 1000;
+    }
+    pace as u16
+}
+
+// A reader that waits is measured as one that runs: the ticks for which it waited are blocked ones.
+pub fn measure(mut v: View, slot: u64, interval: u64, blocked: u64) -> Outcome
+    ensures { λ r. ⌜ ((c f : List ℕ) → replyOf r c f ≡ measureOf (stateOf v c f) slot interval blocked) ⌝ }
+    ensures one_record { λ r. ⌜ OthersStay v slot (r .view) ⌝ }
+{
+    if 15 < slot {
+        return refuse(v, 2);
+    }
+    let i = slot as usize;
+    let old = v.readers[i];
+    if !parts::is_attached(old) {
+        return refuse(v, 6);
+    }
+    if no_interval(interval, blocked) {
+        return refuse(v, 16);
+    }
+    let pace = measured_pace(old, v.marks[i], interval, blocked);
+    v.readers[i] = parts::paced(old, pace);
+    v.marks[i] = old.position;
+    outcome(v, Answer::Done)
 }
 
 // ---- the end of a fetch

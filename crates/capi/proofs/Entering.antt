@@ -9,9 +9,9 @@ use lib.ListN.{getD, length}
 use mir.Syntax.{w8}
 use mir.Val.{Fits}
 use Rattle.rules.specs.Valid.{Valid}
-use Rattle.rules.specs.Image.{imageLength, imageOf, restoreOf}
+use Rattle.rules.specs.Image.{imageLength, imageOf, restoreWhole}
 use Rattle.rules.specs.Entries.{code, carriedOut, Call, callOf, Entered, entered, enter}
-use Rattle.rules.proofs.images.Images.{done-length, done-or-not, restore-refused, lent-valid}
+use Rattle.rules.proofs.images.Images.{done-length, done-or-not, whole-refused, lent-valid}
 use Rattle.rules.proofs.images.Enters.{enter-unrestored, enter-restored}
 use Rattle.rules.proofs.calls.Kept.{kept}
 use Rattle.rules.specs.declared.Reply.{Reply}
@@ -30,20 +30,20 @@ module _ (image : List ℕ) (r : Reply) (ok : Bool) (told : ok ≡ carriedOut (r
 abbrev Lent : List ℕ → Type 0
 Lent image = (i : ℕ) → Fits w8 (getD image i 0)
 
-module _ (image : List ℕ) (r : Reply) (restored : r ≡ restoreOf image) where
+module _ (image : List ℕ) (r : Reply) (restored : r ≡ restoreWhole image) where
   -- the state that a call is done on is valid
   pub entry-valid : Lent image → Valid (r .state)
   entry-valid lent = lent-valid image lent r restored
 
   module _ (ok : Bool) (told : ok ≡ carriedOut (r .answer)) where
     -- the test tells whether Restore is done
-    not-done : not ok ≡ true → restoreOf image .answer ≡ Done → ⊥
+    not-done : not ok ≡ true → restoreWhole image .answer ≡ Done → ⊥
     not-done t d = true≢false (sym (ap carriedOut (ap (λ q. q .answer) restored ∙ d)) ∙ sym told ∙ not-true ok t)
 
-    done : not ok ≡ false → restoreOf image .answer ≡ Done
+    done : not ok ≡ false → restoreWhole image .answer ≡ Done
     done t =
         ⊎-elim (λ d. d)
-        (λ n. absurd (true≢false (sym (not-false ok t) ∙ told ∙ ap (λ q. carriedOut (q .answer)) (restored ∙ restore-refused image n))))
+        (λ n. absurd (true≢false (sym (not-false ok t) ∙ told ∙ ap (λ q. carriedOut (q .answer)) (restored ∙ whole-refused image n))))
         (done-or-not image)
 
     module _ (c : Call) where

@@ -1,3 +1,2 @@
 -- What every entry shares.
-pub mod Outcomes
 pub mod Entering

@@ -9,3 +9,4 @@ pub mod Slots
 pub mod Clears
 pub mod MapTests
 pub mod Restores
+pub mod Upgrades

@@ -15,7 +15,7 @@ use Rattle.rules.specs.Lists.{range, every, within}
 use Rattle.rules.specs.Pages.{size, cached, Page, cachedPages}
 use Rattle.rules.specs.Schedules.{num, count}
 use Rattle.rules.specs.Calls.{reply, refused, settingsIn, idle}
-use Rattle.rules.specs.Image.{stateFrom, slotHolds, keyHolds, accepts, restoreOf, imageNumbers, imageLength}
+use Rattle.rules.specs.Image.{stateFrom, slotHolds, markHolds, keyHolds, accepts, restoreWhole, imageNumbers, imageLength}
 use Rattle.rules.proofs.laws.Cases.{passed}
 use Rattle.rules.proofs.laws.Tests.{or-left}
 use Rattle.rules.proofs.laws.Members.{range-at}
@@ -71,7 +71,7 @@ verdict image sizes cached fetching =
     && (every (apartAt cached fetching) (range 0 8192)
     && (every (sizeHolds sizes cached fetching) (range 0 8)
     && (leb (ones cached 0 8192) (numberAt 2 image 0)
-    && gapsHold (imageNumbers image))))))
+    && (gapsHold (imageNumbers image) && every (markHolds (stateIn image)) (range 0 16)))))))
 
 module _ (image : List ℕ) where
   -- the numbers before the sizes
@@ -98,7 +98,7 @@ module _ (image : List ℕ) where
       (and-same (settingsIn (s .frames) (s .«look_ahead») (s .«fetch_time») (s .sizes)) _ _ (λ h.
       ap (λ r. within 0 15 (s .turn) && (every (slotHolds (imageNumbers image)) (range 0 16) && r))
       (sym (and-assoc (every (apartAt (s .cached) (s .fetching)) (range 0 8192)) (every (sizeHolds (s .sizes) (s .cached) (s .fetching)) (range 0 8))
-      (leb (ones (s .cached) 0 8192) (s .frames) && gapsHold (imageNumbers image)))
+      (leb (ones (s .cached) 0 8192) (s .frames) && (gapsHold (imageNumbers image) && every (markHolds s) (range 0 16))))
       ∙ rw (maps-keys s) (and-same keys _ _ (λ k. ap₂ _&&_
       (ap (λ n. leb n (s .frames)) (sym (pages-ones s (cached-long image)
       (settings-in (s .frames) (s .«look_ahead») (s .«fetch_time») (s .sizes) h .sizes-in) k)))
@@ -127,17 +127,17 @@ room-pass words frames number n e f l = le-leb (ones words 0 8192) frames (rw (e
 
 module _ (image : List ℕ) where
   -- another length
-  pub restore-short : (length image ≡ imageLength → ⊥) → refused idle 13 ≡ restoreOf image
-  unfolding restoreOf
+  pub restore-short : (length image ≡ imageLength → ⊥) → refused idle 13 ≡ restoreWhole image
+  unfolding restoreWhole
   restore-short n = rw (ne-eqb (length image) imageLength n)
 
   -- the tests fail
-  pub restore-stop : length image ≡ imageLength → (t : Bool) → t ≡ accepts (imageNumbers image) → not t ≡ true → refused idle 13 ≡ restoreOf image
-  unfolding restoreOf
+  pub restore-stop : length image ≡ imageLength → (t : Bool) → t ≡ accepts (imageNumbers image) → not t ≡ true → refused idle 13 ≡ restoreWhole image
+  unfolding restoreWhole
   restore-stop l t e n = rw (l, ← e, not-true t n)
 
   -- they pass
   pub restore-pass : length image ≡ imageLength → (t : Bool) (s : State) → t ≡ accepts (imageNumbers image) → not t ≡ false → s ≡ stateIn image
-      → reply s Done ≡ restoreOf image
-  unfolding restoreOf
+      → reply s Done ≡ restoreWhole image
+  unfolding restoreWhole
   restore-pass l t s e n read = rw (l, ← e, not-false t n, read)

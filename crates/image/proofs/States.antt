@@ -1,18 +1,32 @@
 -- The state that an image's numbers are of, read number by number. Assumes nothing.
-use mathlib.Core.Path.{_≡_, refl, sym, ap, _∙_}
+use mathlib.Core.Path.{_≡_, refl, sym, ap, ap₂, _∙_}
 use mathlib.Core.List.{List, map}
 use Prim.Native.Nat.{ℕ, zero, suc, _+_, _*_, _≤_, _<_}
 use native.Mathlib.Omega.{arith}
-use lib.ListN.{length, getD, take, drop, length-take, List·getD-eq-default}
+use lib.ListN.{length, getD, take, drop}
+use lib.Dec.{leb}
 use lib.Seq.{ext-getD, getD-take, getD-drop}
 use Rattle.rules.specs.Lists.{range, each}
 use Rattle.rules.specs.Calls.{idle}
+use Rattle.rules.specs.Readers.{readerAt, markAt}
 use Rattle.rules.specs.Views.{stateOf, viewOf}
-use Rattle.rules.specs.Image.{layout, conditionOf, lastFrom, readerNumber, readerFrom, stateFrom, imageNumbers}
+use Rattle.rules.specs.Image.{layout, conditionOf, readerNumber, readerFrom, stateFrom, markHolds, imageNumbers}
 use Rattle.rules.proofs.laws.Indexed.{part-listed, length-listed, getD-listed}
 use Rattle.rules.proofs.images.Tables.{numbers-length}
-use Rattle.rules.proofs.images.Layouts.{last-raw, last-filled}
-use Rattle.rules.proofs.images.Offsets.{sizesAt, readersAt, cachedAt, fetchingAt, setting-at, size-at, slot-at, cached-at, fetching-at}
+use Rattle.rules.proofs.images.Layouts.{reader-from}
+use Rattle.rules.proofs.images.Offsets.{
+  sizesAt,
+  readersAt,
+  cachedAt,
+  fetchingAt,
+  marksAt,
+  setting-at,
+  size-at,
+  slot-at,
+  cached-at,
+  fetching-at,
+  mark-at,
+}
 use Rattle.image.specs.Bytes.{numberAt, numberFrom, numbersAt, stateIn}
 use Rattle.rules.specs.declared.View.{View}
 use Rattle.rules.specs.declared.Reader.{Reader}
@@ -26,12 +40,12 @@ waiting-of (suc zero) z o = absurd (o refl)
 waiting-of (suc (suc n)) z o = refl
 
 module _ (image : List ℕ) where
-  numbers-long : length (imageNumbers image) ≡ 350
+  numbers-long : length (imageNumbers image) ≡ 366
   unfolding layout each
   numbers-long = numbers-length (layout idle) image
 
   -- numbers of one width that stand one after the other are those of the table
-  pub part-at : (w place o n : ℕ) → ((k : ℕ) → k < n → getD (imageNumbers image) (o + k) 0 ≡ numberFrom w image place k) → o + n ≤ 350
+  pub part-at : (w place o n : ℕ) → ((k : ℕ) → k < n → getD (imageNumbers image) (o + k) 0 ≡ numberFrom w image place k) → o + n ≤ 366
       → numbersAt w image place n ≡ take n (drop o (imageNumbers image))
   part-at w place o n at fits =
       let f : ℕ → ℕ = numberFrom w image place in
@@ -48,7 +62,7 @@ module _ (image : List ℕ) where
       → file ≡ numberAt 1 image (readersAt + 8 * j + 1)
       → pace ≡ numberAt 2 image (readersAt + 8 * j + 2)
       → position ≡ numberAt 2 image (readersAt + 8 * j + 4)
-      → last ≡ lastFrom (imageNumbers image) j
+      → last ≡ numberAt 2 image (readersAt + 8 * j + 6)
       → _≡_ {A = Reader} (record { condition = condition; file = file; pace = pace; position = position; last = last }) (readerFrom (imageNumbers image) j)
   reader-read condition j number file pace position last l e e₀ e₁ e₂ e₃ e₄ =
       let start : readersAt + 8 * j + 0 ≡ readersAt + 8 * j = omega arith in
@@ -59,51 +73,27 @@ module _ (image : List ℕ) where
         file = (e₁ ∙ sym (slot-at image j 1 l (omega arith))) i;
         pace = (e₂ ∙ sym (slot-at image j 2 l (omega arith))) i;
         position = (e₃ ∙ sym (slot-at image j 3 l (omega arith))) i;
-        last = e₄ i;
+        last = (e₄ ∙ sym (slot-at image j 4 l (omega arith))) i;
       }
 
-  -- its last page: one that is not 0 stands as it is
-  pub last-stands : (j number : ℕ) → j < 16 → number ≡ numberAt 2 image (readersAt + 8 * j + 6) → (number ≡ 0 → ⊥) → number ≡ lastFrom (imageNumbers image) j
-  last-stands j number l e n =
-      let here = e ∙ sym (slot-at image j 4 l (omega arith)) in
-      here ∙ sym (last-raw (imageNumbers image) j (λ _ z. n (here ∙ z)))
-
-  module _ (j number condition : ℕ) (l : j < 16) (e : number ≡ numberAt 2 image (readersAt + 8 * j + 6)) (z : number ≡ 0)
-      (c : condition ≡ numberAt 1 image (readersAt + 8 * j)) where
-    first : readerNumber (imageNumbers image) j 0 ≡ condition
-    first =
-        let start : readersAt + 8 * j + 0 ≡ readersAt + 8 * j = omega arith in
-        slot-at image j 0 l (omega arith) ∙ ap (numberAt 1 image) start ∙ sym c
-
-    old : readerNumber (imageNumbers image) j 4 ≡ 0
-    old = slot-at image j 4 l (omega arith) ∙ sym e ∙ z
-
-    -- 0 in an empty slot is 0
-    pub last-empty : condition ≡ 0 → 0 ≡ lastFrom (imageNumbers image) j
-    last-empty o = sym (last-raw (imageNumbers image) j (λ taken _. taken (first ∙ o)) ∙ old)
-
-    module _ (n : condition ≡ 0 → ⊥) (file : ℕ) (f : file ≡ numberAt 1 image (readersAt + 8 * j + 1)) where
-      filled-in : lastFrom (imageNumbers image) j ≡ getD (take 8 (drop 5 (imageNumbers image))) file 0
-      filled-in =
-          last-filled (imageNumbers image) j (λ o. n (sym first ∙ o)) old
-          ∙ ap (λ g. getD (take 8 (drop 5 (imageNumbers image))) g 0) (slot-at image j 1 l (omega arith) ∙ sym f)
-
-      -- in a taken slot whose file is none of the eight too
-      pub last-far : 7 < file → 0 ≡ lastFrom (imageNumbers image) j
-      last-far h =
-          let sizes = take 8 (drop 5 (imageNumbers image)) in
-          sym (filled-in ∙ List·getD-eq-default sizes 0 (omega (arith, length-take 8 (drop 5 (imageNumbers image)))))
-
-      -- in any other it is the file's size
-      pub last-size : file ≤ 7 → (size : ℕ) → size ≡ numberAt 2 image (sizesAt + 2 * file) → size ≡ lastFrom (imageNumbers image) j
-      last-size h size s =
-          s ∙ sym (size-at image file (omega arith)) ∙ sym (getD-drop 5 (imageNumbers image) file 0)
-          ∙ sym (getD-take 8 (drop 5 (imageNumbers image)) file 0 (omega arith)) ∙ sym filled-in
-
-  -- the sizes and the maps
+  -- the sizes, the marks and the maps
   pub sizes-read : numbersAt 2 image sizesAt 8 ≡ stateIn image .sizes
   unfolding stateFrom
   sizes-read = part-at 2 sizesAt 5 8 (size-at image) (omega arith)
+
+  pub marks-read : numbersAt 2 image marksAt 16 ≡ stateIn image .marks
+  unfolding stateFrom
+  marks-read = part-at 2 marksAt 350 16 (mark-at image) (omega arith)
+
+  -- the test of a mark
+  pub mark-read : (j mark position : ℕ) → j < 16 → mark ≡ numberAt 2 image (marksAt + 2 * j) → position ≡ numberAt 2 image (readersAt + 8 * j + 4)
+      → leb mark position ≡ markHolds (stateIn image) j
+  unfolding stateFrom
+  mark-read j mark position l e f =
+      let numbers = imageNumbers image in
+      let here : markAt (stateIn image) j ≡ getD numbers (350 + j) 0 = getD-take 16 (drop 350 numbers) j 0 l ∙ getD-drop 350 numbers j 0 in
+      let there : readerAt (stateIn image) j .position ≡ readerNumber numbers j 3 = ap (λ r. r .position) (reader-from numbers j l) in
+      ap₂ leb (e ∙ sym (mark-at image j l) ∙ sym here) (f ∙ sym (slot-at image j 3 l (omega arith)) ∙ sym there)
 
   pub cached-read : numbersAt 8 image cachedAt 128 ≡ stateIn image .cached
   unfolding stateFrom
@@ -118,18 +108,20 @@ module _ (image : List ℕ) where
   cached-long = ap length (sym cached-read) ∙ length-listed (numberFrom 8 image cachedAt) 128
 
   -- the state but its maps
-  pub view-read : (frames turn look time : ℕ) (sizes : List ℕ) (readers : List Reader)
+  pub view-read : (frames turn look time : ℕ) (sizes : List ℕ) (readers : List Reader) (marks : List ℕ)
       → frames ≡ numberAt 2 image 0
       → turn ≡ numberAt 1 image 2
       → look ≡ numberAt 4 image 4
       → time ≡ numberAt 4 image 8
       → sizes ≡ stateIn image .sizes
       → readers ≡ map (readerFrom (imageNumbers image)) (range 0 16)
-      → _≡_ {A = View} (record { frames = frames; turn = turn; «look_ahead» = look; «fetch_time» = time; sizes = sizes; readers = readers })
+      → marks ≡ stateIn image .marks
+      → _≡_ {A = View} (record { marks = marks; frames = frames; turn = turn; «look_ahead» = look; «fetch_time» = time; sizes = sizes; readers = readers })
       (viewOf (stateIn image))
   unfolding stateFrom
-  view-read frames turn look time sizes readers e₀ e₁ e₃ e₄ e₅ r = λ i.
+  view-read frames turn look time sizes readers marks e₀ e₁ e₃ e₄ e₅ r m = λ i.
       record {
+        marks = m i;
         frames = (e₀ ∙ sym (setting-at image 0 (omega arith))) i;
         turn = (e₁ ∙ sym (setting-at image 1 (omega arith))) i;
         «look_ahead» = (e₃ ∙ sym (setting-at image 3 (omega arith))) i;

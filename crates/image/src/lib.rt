@@ -1,16 +1,22 @@
-// Save and Restore: the state as an image of bytes, and back. `bytes` puts and reads numbers, `saving` and `restoring` the parts of an image.
+// Save and Restore: the state as an image of bytes, and back. `bytes` puts and reads numbers, `saving` and `restoring` the parts of an image, and `upgrading`
+// makes an older image into one of the newest length.
 mod bytes;
 mod restoring;
 mod saving;
+mod upgrading;
 
-pub use restoring::restore;
+pub use restoring::restore_whole;
 pub use saving::save;
 pub use saving::save_whole;
+pub use upgrading::restore;
 
-// "Save writes 2,208 bytes".
-pub const IMAGE_LENGTH: usize = 2208;
+// As many bytes as Save writes.
+pub const IMAGE_LENGTH: usize = 2240;
 
-// Where the sizes, the readers, the 4 bytes of 0, the cached map and the fetch map begin: proved to be so in the rules' one table.
+// As many as it wrote before there were marks.
+const UNMARKED_LENGTH: usize = MARKS_AT;
+
+// Where the sizes, the readers, the 4 bytes of 0, the cached map, the fetch map and the marks begin: proved to be so in the rules' one table.
 const SIZES_AT: usize = 12;
 
 const READERS_AT: usize = 28;
@@ -20,3 +26,5 @@ const GAP_AT: usize = 156;
 const CACHED_AT: usize = 160;
 
 const FETCHING_AT: usize = 1184;
+
+const MARKS_AT: usize = 2208;

@@ -10,7 +10,7 @@ ghost use Rattle.rules.specs.Lists.{range, every, within};
 ghost use Rattle.rules.specs.Views.{viewOf, replyOf};
 ghost use Rattle.rules.specs.Calls.{refused, idle as idleState};
 ghost use Rattle.rules.specs.Readers.{awaits};
-ghost use Rattle.rules.specs.Image.{conditionOf, lastFrom, readerFrom, readerPlaced, readerHolds, slotHolds, accepts, restoreOf, imageNumbers, imageLength};
+ghost use Rattle.rules.specs.Image.{conditionOf, readerFrom, readerPlaced, readerHolds, slotHolds, markHolds, accepts, restoreWhole, imageNumbers, imageLength};
 ghost use Rattle.parts.specs.Files.{sizedWith};
 ghost use Rattle.image.specs.Bytes.{numbersAt, stateIn};
 ghost use Rattle.image.specs.Tests.{FromImage, SizesLow, settingsFrom, gapsHold, apartAt, clearAt, clearAbove, sizeHolds};
@@ -18,6 +18,7 @@ use crate::CACHED_AT;
 use crate::FETCHING_AT;
 use crate::GAP_AT;
 use crate::IMAGE_LENGTH;
+use crate::MARKS_AT;
 use crate::READERS_AT;
 use crate::SIZES_AT;
 use crate::bytes::get_u8;
@@ -42,26 +43,6 @@ fn condition_of(n: u8) -> Condition
     }
 }
 
-// The last page of a slot. In an older image a taken slot has 0 there, which means its file's size.
-fn last_in(image: &[u8], slot: usize) -> u16
-    requires { ⌜ (length (now image) ≡ imageLength) × (slot < 16) ⌝ }
-    ensures { λ r. ⌜ r ≡ lastFrom (imageNumbers (now (image .entry))) slot ⌝ }
-{
-    let at = READERS_AT + 8 * slot;
-    let last = get_u16(image, at + 6);
-    if last != 0 {
-        return last;
-    }
-    if get_u8(image, at) == 0 {
-        return 0;
-    }
-    let file = get_u8(image, at + 1) as usize;
-    if 7 < file {
-        return 0;
-    }
-    get_u16(image, SIZES_AT + 2 * file)
-}
-
 // The record of a slot.
 fn reader_in(image: &[u8], slot: usize) -> Reader
     requires { ⌜ (length (now image) ≡ imageLength) × (slot < 16) ⌝ }
@@ -74,7 +55,7 @@ fn reader_in(image: &[u8], slot: usize) -> Reader
         get_u8(image, at + 1),
         get_u16(image, at + 2),
         get_u16(image, at + 4),
-        last_in(image, slot),
+        get_u16(image, at + 6),
     )
 }
 
@@ -92,18 +73,35 @@ fn readers_in(image: &[u8]) -> [Reader; 16]
     readers
 }
 
+// Reads numbers of 2 bytes, one after the other, into their place.
+fn read_numbers(numbers: &mut [u16], image: &[u8], at: usize)
+    requires { ⌜ at + 2 * length (now numbers) ≤ length (now image) ⌝ }
+    ensures { λ _. ⌜ now (numbers .exit) ≡ numbersAt 2 (now (image .entry)) at (length (now (numbers .entry))) ⌝ }
+{
+    let mut k: usize = 0;
+    while k < numbers.len() {
+        let n = get_u16(image, at + 2 * k);
+        numbers[k] = n;
+        k += 1;
+    }
+}
+
 fn sizes_in(image: &[u8]) -> [u16; 8]
     requires { ⌜ length (now image) ≡ imageLength ⌝ }
     ensures { λ r. ⌜ r ≡ stateIn (now (image .entry)) .sizes ⌝ }
 {
     let mut sizes = [0u16; 8];
-    let mut f: usize = 0;
-    while f < 8 {
-        let n = get_u16(image, SIZES_AT + 2 * f);
-        sizes[f] = n;
-        f += 1;
-    }
+    read_numbers(&mut sizes, image, SIZES_AT);
     sizes
+}
+
+fn marks_in(image: &[u8]) -> [u16; 16]
+    requires { ⌜ length (now image) ≡ imageLength ⌝ }
+    ensures { λ r. ⌜ r ≡ stateIn (now (image .entry)) .marks ⌝ }
+{
+    let mut marks = [0u16; 16];
+    read_numbers(&mut marks, image, MARKS_AT);
+    marks
 }
 
 // Reads a map into its place. It is lent as a slice, whose length is told.
@@ -126,6 +124,7 @@ fn view_in(image: &[u8]) -> View
 {
     let sizes = sizes_in(image);
     let readers = readers_in(image);
+    let marks = marks_in(image);
     parts::view_of(
         get_u16(image, 0),
         get_u8(image, 2),
@@ -133,6 +132,7 @@ fn view_in(image: &[u8]) -> View
         get_u32(image, 8),
         sizes,
         readers,
+        marks,
     )
 }
 
@@ -260,6 +260,29 @@ fn slots_hold(image: &[u8], sizes: &[u16; 8], fetching: &[u64; 128]) -> bool
     true
 }
 
+// The mark of a slot is at most its position.
+fn mark_holds(image: &[u8], slot: usize) -> bool
+    requires { ⌜ (length (now image) ≡ imageLength) × (slot < 16) ⌝ }
+    ensures { λ r. ⌜ r ≡ markHolds (stateIn (now (image .entry))) slot ⌝ }
+{
+    get_u16(image, MARKS_AT + 2 * slot) <= get_u16(image, READERS_AT + 8 * slot + 4)
+}
+
+fn marks_hold(image: &[u8]) -> bool
+    requires { ⌜ length (now image) ≡ imageLength ⌝ }
+    ensures { λ r. ⌜ r ≡ every (markHolds (stateIn (now (image .entry)))) (range 0 16) ⌝ }
+{
+    let mut j: usize = 0;
+    while j < 16 {
+        let ok = mark_holds(image, j);
+        if !ok {
+            return false;
+        }
+        j += 1;
+    }
+    true
+}
+
 // The pages that a word has in both maps.
 fn in_both(c: u64, f: u64) -> u64
     ensures { λ r. ⌜ r ≡ bitAnd c f ⌝ }
@@ -363,7 +386,10 @@ fn accepted<'a>(image: &[u8], cached: &'a [u64; 128], fetching: &'a [u64; 128]) 
     if (get_u16(image, 0) as u32) < bits::count(cached, 0, 8192) {
         return false;
     }
-    gaps_hold(image)
+    if !gaps_hold(image) {
+        return false;
+    }
+    marks_hold(image)
 }
 
 // ---- Restore
@@ -380,9 +406,10 @@ fn refuse(cached: &mut [u64; 128], fetching: &mut [u64; 128]) -> Outcome
     }
 }
 
-// The lent maps become those of the image, whatever they held; where it is refused, those of the idle state.
-pub fn restore(image: &[u8], cached: &mut [u64; 128], fetching: &mut [u64; 128]) -> Outcome
-    ensures { λ r. ⌜ replyOf r (now (cached .exit)) (now (fetching .exit)) ≡ restoreOf (now (image .entry)) ⌝ }
+// Restore of an image as long as Save writes it; any other is refused. The lent maps become those of the image, whatever they held; where it is refused, those
+// of the idle state.
+pub fn restore_whole(image: &[u8], cached: &mut [u64; 128], fetching: &mut [u64; 128]) -> Outcome
+    ensures { λ r. ⌜ replyOf r (now (cached .exit)) (now (fetching .exit)) ≡ restoreWhole (now (image .entry)) ⌝ }
 {
     if image.len() != IMAGE_LENGTH {
         return refuse(cached, fetching);

@@ -1,6 +1,6 @@
 // Save: the state's parts, each put into its place of the buffer.
 ghost use mathlib.Core.Path.{_≡_};
-ghost use Prim.Native.Nat.{_+_, _≤_};
+ghost use Prim.Native.Nat.{_+_, _*_, _≤_};
 ghost use lib.ListN.{length};
 ghost use Rattle.rules.specs.Lists.{each, written};
 ghost use Rattle.rules.specs.Valid.{Valid};
@@ -11,6 +11,7 @@ use crate::CACHED_AT;
 use crate::FETCHING_AT;
 use crate::GAP_AT;
 use crate::IMAGE_LENGTH;
+use crate::MARKS_AT;
 use crate::READERS_AT;
 use crate::SIZES_AT;
 use crate::bytes::put_u8;
@@ -45,14 +46,15 @@ fn put_reader(buffer: &mut [u8], at: usize, r: Reader)
     put_u16(buffer, at + 6, r.last);
 }
 
-fn put_sizes(buffer: &mut [u8], at: usize, sizes: &[u16; 8])
-    requires { ⌜ (at + 16 ≤ length (now buffer)) × (length (now sizes) ≡ 8) ⌝ }
-    ensures { λ _. ⌜ now (buffer .exit) ≡ written (now (buffer .entry)) at (each (bytesOf 2) (now (sizes .entry))) ⌝ }
+// Writes numbers of 2 bytes, one after the other: the sizes, the marks.
+fn put_numbers(buffer: &mut [u8], at: usize, numbers: &[u16])
+    requires { ⌜ at + 2 * length (now numbers) ≤ length (now buffer) ⌝ }
+    ensures { λ _. ⌜ now (buffer .exit) ≡ written (now (buffer .entry)) at (each (bytesOf 2) (now (numbers .entry))) ⌝ }
 {
-    let mut f: usize = 0;
-    while f < 8 {
-        put_u16(buffer, at + 2 * f, sizes[f]);
-        f += 1;
+    let mut k: usize = 0;
+    while k < numbers.len() {
+        put_u16(buffer, at + 2 * k, numbers[k]);
+        k += 1;
     }
 }
 
@@ -96,12 +98,13 @@ pub fn save_whole<'a>(v: View, cached: &'a [u64; 128], fetching: &'a [u64; 128],
     ensures { λ _. ⌜ now (buffer .exit) ≡ imageOf (stateOf v (now (cached .entry)) (now (fetching .entry))) ⌝ }
 {
     put_settings(buffer, v.frames, v.turn, v.look_ahead, v.fetch_time);
-    put_sizes(buffer, SIZES_AT, &v.sizes);
+    put_numbers(buffer, SIZES_AT, &v.sizes);
     let readers = v.readers;
     put_readers(buffer, READERS_AT, readers);
     put_u32(buffer, GAP_AT, 0);
     put_words(buffer, CACHED_AT, cached);
     put_words(buffer, FETCHING_AT, fetching);
+    put_numbers(buffer, MARKS_AT, &v.marks);
 }
 
 // Save into a buffer that is long enough, or longer: what it holds behind the image is left.

@@ -11,10 +11,10 @@ use lib.Seq.{take-at}
 use Rattle.rules.specs.Lists.{each}
 use Rattle.rules.specs.Calls.{idle}
 use Rattle.rules.specs.Entries.{carriedOut}
-use Rattle.rules.specs.Image.{imageOf, restoreOf}
+use Rattle.rules.specs.Image.{imageOf, restoreWhole}
 use Rattle.rules.specs.Lines.{split, respondOf, linesOf, answers, programOf}
 use Rattle.rules.specs.declared.State.{State}
-use Rattle.rules.proofs.images.Images.{restore-save}
+use Rattle.rules.proofs.images.Images.{whole-save}
 use Rattle.rules.proofs.calls.Kept.{idle-valid}
 use Rattle.text.specs.Cuts.{clipped, textIn, kept}
 use Rattle.text.specs.Streams.{OnePiece, Fed, behind, answered, feed, feedAll, unfed, outputOf}
@@ -145,13 +145,13 @@ module _ (image text chunk : List ℕ) (from : ℕ) (out : List ℕ) (f : Fed) (
   unfolding pieces unsaid far
   on = fed-on (length out) (f .output) chunk (split (ascii "\n") (drop from chunk)) unsaid from refl (at .one)
 
-  restored : restoreOf image ≡ restoreOf (imageOf (f .state))
-  restored = ap restoreOf (at .image-is)
+  restored : restoreWhole image ≡ restoreWhole (imageOf (f .state))
+  restored = ap restoreWhole (at .image-is)
 
   -- what `feed` leaves, by the text itself
   pub feed-is : feedOf image text chunk from out ≡ saved (goneOf (f .state) text chunk from out)
   feed-is =
-      let same = restored ∙ restore-save (f .state) (at .valid) in
+      let same = restored ∙ whole-save (f .state) (at .valid) in
       sym (feed-taken image text chunk from out (sym (ready-all text chunk from out roomy (at .sized) inside)) (ap (λ r. carriedOut (r .answer)) same))
       ∙ ap (λ r. saved (goneOf (r .state) text chunk from out)) same
 

@@ -16,13 +16,13 @@ use lib.Dec.{eqb}
 use Rattle.rules.specs.Valid.{Valid}
 use Rattle.rules.specs.Calls.{refused}
 use Rattle.rules.specs.Entries.{carriedOut}
-use Rattle.rules.specs.Image.{imageOf, restoreOf}
+use Rattle.rules.specs.Image.{imageOf, restoreWhole}
 use Rattle.rules.specs.Lines.{split, told, respondOf}
 use Rattle.rules.specs.declared.State.{State}
 use Rattle.rules.specs.declared.Reply.{Reply}
 use Rattle.rules.specs.declared.Answer.the-variants.{Done}
 use Rattle.rules.proofs.Answer.{the-type}
-use Rattle.rules.proofs.images.Images.{done-or-not, restore-refused}
+use Rattle.rules.proofs.images.Images.{done-or-not, whole-refused}
 use Rattle.rules.proofs.laws.Cases.{and-true, cond-all}
 use Rattle.rules.specs.Lists.{written}
 use Rattle.text.specs.Written.{Put}
@@ -295,29 +295,29 @@ module _ (image text chunk : List ℕ) (from : ℕ) (out : List ℕ) where
   feed-unready e = rw (← e)
 
   -- Restore refuses the image
-  pub feed-refused : ready text chunk from out ≡ true → carriedOut (restoreOf image .answer) ≡ false
+  pub feed-refused : ready text chunk from out ≡ true → carriedOut (restoreWhole image .answer) ≡ false
       → fedIn (record { next = from; len = 0 }) image text out ≡ feedOf image text chunk from out
   unfolding feedOf
   feed-refused t e = rw (t, e)
 
   -- lines are taken
-  pub feed-taken : ready text chunk from out ≡ true → carriedOut (restoreOf image .answer) ≡ true
-      → saved (goneOf (restoreOf image .state) text chunk from out) ≡ feedOf image text chunk from out
+  pub feed-taken : ready text chunk from out ≡ true → carriedOut (restoreWhole image .answer) ≡ true
+      → saved (goneOf (restoreWhole image .state) text chunk from out) ≡ feedOf image text chunk from out
   unfolding feedOf
   feed-taken t e = rw (t, e)
 
-module _ (image : List ℕ) (r : Reply) (restored : r ≡ restoreOf image) where
+module _ (image : List ℕ) (r : Reply) (restored : r ≡ restoreWhole image) where
   -- what Restore's answer says
-  pub answer-refused : OneOf (0 ∷ []) (tagOf the-type (r .answer)) → carriedOut (restoreOf image .answer) ≡ false
+  pub answer-refused : OneOf (0 ∷ []) (tagOf the-type (r .answer)) → carriedOut (restoreWhole image .answer) ≡ false
   answer-refused k = rw (← restored) (refused-by (r .answer) k)
 
-  pub answer-taken : OneOf others (tagOf the-type (r .answer)) → carriedOut (restoreOf image .answer) ≡ true
+  pub answer-taken : OneOf others (tagOf the-type (r .answer)) → carriedOut (restoreWhole image .answer) ≡ true
   answer-taken k = rw (← restored) (carried-by (r .answer) k)
 
 -- an image that is not refused is done
-pub taken-done : (image : List ℕ) → carriedOut (restoreOf image .answer) ≡ true → restoreOf image .answer ≡ Done
+pub taken-done : (image : List ℕ) → carriedOut (restoreWhole image .answer) ≡ true → restoreWhole image .answer ≡ Done
 taken-done image e =
-    ⊎-elim (λ d. d) (λ n. absurd (true≢false (sym e ∙ ap (λ q. carriedOut (q .answer)) (restore-refused image n)))) (done-or-not image)
+    ⊎-elim (λ d. d) (λ n. absurd (true≢false (sym e ∙ ap (λ q. carriedOut (q .answer)) (whole-refused image n)))) (done-or-not image)
 
 -- lines were taken: the state is valid, and its image is saved
 module _ (s : State) (text chunk : List ℕ) (from : ℕ) (out : List ℕ) (g : Gone) (went : g ≡ goneOf s text chunk from out) where
@@ -325,7 +325,7 @@ module _ (s : State) (text chunk : List ℕ) (from : ℕ) (out : List ℕ) (g : 
   unfolding goneOf
   gone-valid v = rw went (taken-valid (length out) (split (ascii "\n") (drop from chunk)) (startOf s text) from v)
 
-  pub feed-went : (image : List ℕ) → ready text chunk from out ≡ true → carriedOut (restoreOf image .answer) ≡ true → s ≡ restoreOf image .state
+  pub feed-went : (image : List ℕ) → ready text chunk from out ≡ true → carriedOut (restoreWhole image .answer) ≡ true → s ≡ restoreWhole image .state
       → (after : List ℕ) → after ≡ imageOf (g .state)
       → fedIn (record { next = g .next; len = g .len }) after (g .text) (g .out) ≡ feedOf image text chunk from out
   feed-went image t e same after is =
@@ -337,9 +337,9 @@ module _ (s : State) (text chunk : List ℕ) (from : ℕ) (out : List ℕ) (g : 
 pub feed-fits : (image text chunk : List ℕ) (from : ℕ) (out : List ℕ) (t : Taken) → t ≡ feedOf image text chunk from out → t .left .len ≤ length (t .left .out)
 unfolding feedOf goneOf
 feed-fits image text chunk from out t e =
-    let said = taken (length out) (startOf (restoreOf image .state) text) from (split (ascii "\n") (drop from chunk)) .fed .output in
+    let said = taken (length out) (startOf (restoreWhole image .state) text) from (split (ascii "\n") (drop from chunk)) .fed .output in
     rw e
-    (cond-all (λ (u : Taken). u .left .len ≤ length (u .left .out)) (ready text chunk from out && carriedOut (restoreOf image .answer)) _ _
+    (cond-all (λ (u : Taken). u .left .len ≤ length (u .left .out)) (ready text chunk from out && carriedOut (restoreWhole image .answer)) _ _
     (λ _. omega (arith, length-append said (drop (length said) out))) (λ _. omega arith))
 
 pub finish-fits : (image text out : List ℕ) (l : Left) → l ≡ finishOf image text out → l .len ≤ length (l .out)

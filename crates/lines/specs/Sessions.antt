@@ -10,7 +10,7 @@ use lib.Dec.{leb, eqb}
 use Rattle.rules.specs.Views.{stateOf}
 use Rattle.rules.specs.Valid.{Valid}
 use Rattle.rules.specs.Entries.{carriedOut}
-use Rattle.rules.specs.Image.{imageOf, restoreOf}
+use Rattle.rules.specs.Image.{imageOf, restoreWhole}
 use Rattle.rules.specs.Lines.{split}
 use Rattle.rules.specs.declared.State.{State}
 use Rattle.text.specs.Cuts.{textRoom, clipped, textIn, kept}
@@ -102,7 +102,7 @@ saved g = fedIn (record { next = g .next; len = g .len }) (imageOf (g .state)) (
 -- lines of a chunk taken from a place on. Where Restore refuses the image, or the buffers or the place cannot be, all is left.
 unfoldable pub feedOf : List ℕ → List ℕ → List ℕ → ℕ → List ℕ → Taken
 feedOf image text chunk from out =
-    cond (ready text chunk from out && carriedOut (restoreOf image .answer)) (saved (goneOf (restoreOf image .state) text chunk from out))
+    cond (ready text chunk from out && carriedOut (restoreWhole image .answer)) (saved (goneOf (restoreWhole image .state) text chunk from out))
     (fedIn (record { next = from; len = 0 }) image text out)
 
 -- at the end of the input a text that is not empty is one last line, fed as if its line end followed

@@ -148,7 +148,7 @@ pub fn feed(
     }
     let mut cached = [0u64; 128];
     let mut fetching = [0u64; 128];
-    let restored = image::restore(image, &mut cached, &mut fetching);
+    let restored = image::restore_whole(image, &mut cached, &mut fetching);
     let answer = restored.answer;
     match answer {
         Answer::Refused(_) => Progress { next: from, len: 0 },

@@ -10,7 +10,7 @@ ghost use Prim.Native.Nat.{_<_};
 ghost use Rattle.rules.specs.Views.{stateOf, noPages};
 ghost use Rattle.rules.specs.Lists.{within};
 ghost use Rattle.rules.specs.Pages.{fileOf, pageOf, keyOf};
-ghost use Rattle.rules.specs.Readers.{noReader, attached, nextKey, inCondition, onward};
+ghost use Rattle.rules.specs.Readers.{noReader, attached, nextKey, inCondition, onward, paced};
 ghost use Rattle.rules.specs.Calls.{fresh, idle, docked};
 ghost use Rattle.parts.specs.Files.{noFileIn, noPageIn, noRangeIn, Small};
 
@@ -114,6 +114,15 @@ pub fn in_condition(r: Reader, condition: Condition) -> Reader
     reader_of(condition, r.file, r.pace, r.position, r.last)
 }
 
+// The reader after a Measure.
+pub fn paced(r: Reader, pace: u16) -> Reader
+    ensures { λ t. ⌜ t ≡ paced pace r ⌝ }
+{
+    let mut next = r;
+    next.pace = pace;
+    next
+}
+
 // Is there a reader in the slot? Running and waiting readers count alike.
 pub fn is_attached(r: Reader) -> bool
     ensures { λ b. ⌜ b ≡ attached r ⌝ }
@@ -143,10 +152,13 @@ pub fn view_of(
     fetch_time: u32,
     sizes: [u16; 8],
     readers: [Reader; 16],
+    marks: [u16; 16],
 ) -> View
-    ensures { λ r. ⌜ r ≡ record { frames = frames; turn = turn; «look_ahead» = «look_ahead»; «fetch_time» = «fetch_time»; sizes = sizes; readers = readers } ⌝ }
+    ensures { λ r. ⌜ r
+        ≡ record { marks = marks; frames = frames; turn = turn; «look_ahead» = «look_ahead»; «fetch_time» = «fetch_time»; sizes = sizes; readers = readers } ⌝ }
 {
     View {
+        marks,
         frames,
         turn,
         look_ahead,
@@ -161,7 +173,8 @@ pub fn fresh(frames: u16, look_ahead: u32, fetch_time: u32, sizes: [u16; 8]) -> 
     ensures { λ r. ⌜ stateOf r noPages noPages ≡ fresh frames «look_ahead» «fetch_time» sizes ⌝ }
 {
     let readers = [no_reader(); 16];
-    view_of(frames, 0, look_ahead, fetch_time, sizes, readers)
+    let marks = [0u16; 16];
+    view_of(frames, 0, look_ahead, fetch_time, sizes, readers, marks)
 }
 
 // The view of the idle state, which a refused Setup or Restore gives and with which the program starts.

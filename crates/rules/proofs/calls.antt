@@ -1,6 +1,6 @@
 -- The calls: what each keeps, changes and refuses.
 pub mod Valids
-pub mod Marks
+pub mod PageMaps
 pub mod Changes
 pub mod Landings
 pub mod Kept

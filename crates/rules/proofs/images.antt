@@ -3,7 +3,7 @@ pub mod Tables
 pub mod Layouts
 pub mod Accepts
 pub mod Fits
-pub mod Filled
+pub mod Upgrades
 pub mod Images
 pub mod Offsets
 pub mod Enters

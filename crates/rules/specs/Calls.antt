@@ -1,6 +1,6 @@
--- Setup, Attach, Read, Steal, Arrive, Detach, Lost and Prefetch: 01, "Calls". Numbers are any numbers; where several refusals apply, the one
+-- Setup, Attach, Read, Steal, Arrive, Detach, Lost and Prefetch: 01, "Calls"; Measure: A.2. Numbers are any numbers; where several refusals apply, the one
 -- listed first for the call is given, and but for Setup a refused call gives the state back. Assumes nothing: these are definitions.
-use Prim.Native.Nat.{ℕ, _+_}
+use Prim.Native.Nat.{ℕ, _+_, _-_, _/_}
 use mathlib.Core.Bool.{Bool, not, cond, _&&_, _||_}
 use mathlib.Core.List.{List, map}
 use mathlib.Core.Option.{Option, none}
@@ -9,7 +9,7 @@ use lib.Dec.{leb, ltb, eqb}
 use Rattle.bits.specs.Map.{putBit}
 use Rattle.rules.specs.Lists.{every, within, head, onOption}
 use Rattle.rules.specs.Pages.{size, fileOf, pageOf, keyOf, cached, inFetch, cachedPages}
-use Rattle.rules.specs.Readers.{noReader, readerAt, byCondition, nextKey, inCondition, onward}
+use Rattle.rules.specs.Readers.{noReader, readerAt, markAt, byCondition, nextKey, inCondition, onward, paced}
 use Rattle.rules.specs.Orders.{fetchOrder, victim}
 use Rattle.rules.specs.declared.State.{State}
 use Rattle.rules.specs.declared.Reader.{Reader}
@@ -21,14 +21,13 @@ use Rattle.rules.specs.declared.Condition.the-variants.{Running, Waiting
 abbrev pub reply : State → Answer → Reply
 reply s a = record { state = s; answer = a }
 
--- a refusal; of the calls that change a state, "Other refused calls change nothing"
+-- a refusal. But for Setup and Restore the state is the one before: "Other refused calls change nothing"
 abbrev pub refused : State → ℕ → Reply
 refused s number = reply s (Refused number)
 
--- a state with some parts changed: every call that changes a state, but Setup and Restore, makes the new one by the names below, one for each part, and they
--- by this record
-abbrev remade : State → ℕ → List Reader → List ℕ → List ℕ → State
-remade s turn readers cached fetching =
+-- a state with some parts changed: every call that changes a state, but Setup and Restore, makes the new one by the names below, and they by this record
+abbrev remade : State → ℕ → List Reader → List ℕ → List ℕ → List ℕ → State
+remade s turn readers marks cached fetching =
     record {
       frames = s .frames;
       turn = turn;
@@ -36,25 +35,33 @@ remade s turn readers cached fetching =
       «fetch_time» = s .«fetch_time»;
       sizes = s .sizes;
       readers = readers;
+      marks = marks;
       cached = cached;
       fetching = fetching;
     }
 
 abbrev pub withTurn : State → ℕ → State
-withTurn s turn = remade s turn (s .readers) (s .cached) (s .fetching)
+withTurn s turn = remade s turn (s .readers) (s .marks) (s .cached) (s .fetching)
 
 abbrev pub withReaders : State → List Reader → State
-withReaders s readers = remade s (s .turn) readers (s .cached) (s .fetching)
+withReaders s readers = remade s (s .turn) readers (s .marks) (s .cached) (s .fetching)
+
+abbrev pub withMarks : State → List ℕ → State
+withMarks s marks = remade s (s .turn) (s .readers) marks (s .cached) (s .fetching)
 
 abbrev pub withCached : State → List ℕ → State
-withCached s words = remade s (s .turn) (s .readers) words (s .fetching)
+withCached s words = remade s (s .turn) (s .readers) (s .marks) words (s .fetching)
 
 abbrev pub withFetching : State → List ℕ → State
-withFetching s words = remade s (s .turn) (s .readers) (s .cached) words
+withFetching s words = remade s (s .turn) (s .readers) (s .marks) (s .cached) words
 
 -- one record changed
 abbrev pub withReader : State → ℕ → Reader → State
 withReader s slot r = withReaders s (set (s .readers) slot r)
+
+-- a slot's record and its mark changed
+abbrev pub withSlot : State → ℕ → Reader → ℕ → State
+withSlot s slot r mark = withMarks (withReader s slot r) (set (s .marks) slot mark)
 
 -- a page put in fetch
 abbrev pub withFetch : State → ℕ → State
@@ -93,6 +100,7 @@ fresh frames look time sizes =
       «fetch_time» = time;
       sizes = sizes;
       readers = replicate 16 noReader;
+      marks = replicate 16 0;
       cached = replicate 128 0;
       fetching = replicate 128 0;
     }
@@ -111,14 +119,14 @@ setupOf frames look time sizes = cond (settingsIn frames look time sizes) (reply
 abbrev pub docked : ℕ → ℕ → ℕ → ℕ → Reader
 docked file pace start last = record { condition = Running; file = file; pace = pace; position = start; last = last }
 
--- 2; 3; 4: pace out of range; 15, "after 4 and before 5"; 5: slot not empty
+-- 2; 3; 4: pace out of range; 15, "after 4 and before 5"; 5: slot not empty. A.2: the mark is "the position .. at Attach"
 unfoldable pub attachOf : State → ℕ → ℕ → ℕ → ℕ → ℕ → Reply
 attachOf s slot file pace start last =
     cond (noSlot slot) (refused s 2)
     (cond (noFile s file) (refused s 3)
     (cond (not (within 1 1000 pace)) (refused s 4)
     (cond (noRange s file start last) (refused s 15)
-    (byCondition (readerAt s slot .condition) (reply (withReader s slot (docked file pace start last)) Done) (refused s 5) (refused s 5)))))
+    (byCondition (readerAt s slot .condition) (reply (withSlot s slot (docked file pace start last) start) Done) (refused s 5) (refused s 5)))))
 
 -- ---- Read
 
@@ -188,11 +196,13 @@ arriveOf s file page =
 
 -- ---- Detach, Lost, Prefetch
 
--- 2; 6; "The slot's record becomes empty and all 0; an open fetch stays open"
+-- Detach and Measure: 2; 6: slot empty
+abbrev pub forReader : State → ℕ → Reply → Reply
+forReader s slot done = cond (noSlot slot) (refused s 2) (byCondition (readerAt s slot .condition) (refused s 6) done done)
+
+-- "The slot's record becomes empty and all 0; an open fetch stays open"; A.2: the mark is "0 for an empty slot"
 unfoldable pub detachOf : State → ℕ → Reply
-detachOf s slot =
-    cond (noSlot slot) (refused s 2)
-    (byCondition (readerAt s slot .condition) (refused s 6) (reply (withReader s slot noReader) Done) (reply (withReader s slot noReader) Done))
+detachOf s slot = forReader s slot (reply (withSlot s slot noReader 0) Done)
 
 -- "the fetch is closed and its waiters run"
 unfoldable pub lostOf : State → ℕ → ℕ → Reply
@@ -201,3 +211,28 @@ lostOf s file page = forFetch s file page (reply (closed s (keyOf file page)) Do
 -- "puts the head of the fetch order in fetch, F; U if that order is empty"
 unfoldable pub prefetchOf : State → Reply
 prefetchOf s = onOption (head (fetchOrder s)) (λ k. reply (withFetch s k) (Fetch (fileOf k) (pageOf k))) (reply s Nothing)
+
+-- ---- Measure: A.2
+
+-- 16: "interval out of range or blocked above it"; the interval is "1 to 1,000,000 ticks"
+abbrev pub noInterval : ℕ → ℕ → Bool
+noInterval interval blocked = not (within 1 1000000 interval) || ltb interval blocked
+
+-- "held to 1 through 1,000"
+abbrev pub heldPace : ℕ → ℕ
+heldPace n = cond (ltb n 1) 1 (cond (ltb 1000 n) 1000 n)
+
+-- "With n pages read since the mark, the pace becomes (interval − blocked) divided by n, rounded down, held ..; with n = 0 it stays"
+unfoldable pub measuredPace : ℕ → ℕ → Reader → ℕ → ℕ
+measuredPace interval blocked r mark =
+    cond (eqb (r .position - mark) 0) (r .pace) (heldPace ((interval - blocked) / (r .position - mark)))
+
+-- the record with that pace; its mark becomes "the position at its last such call"
+abbrev pub measured : State → ℕ → ℕ → ℕ → State
+measured s slot interval blocked =
+    withSlot s slot (paced (measuredPace interval blocked (readerAt s slot) (markAt s slot)) (readerAt s slot)) (readerAt s slot .position)
+
+-- "Turned away: 16 .., after 2 and 6"
+unfoldable pub measureOf : State → ℕ → ℕ → ℕ → Reply
+measureOf s slot interval blocked =
+    forReader s slot (cond (noInterval interval blocked) (refused s 16) (reply (measured s slot interval blocked) Done))

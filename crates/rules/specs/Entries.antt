@@ -4,9 +4,9 @@ use Prim.Native.Char.{code as ascii}
 use mathlib.Core.Bool.{Bool, true, false, cond}
 use mathlib.Core.List.{List}
 use Rattle.rules.specs.Pages.{keyOf}
-use Rattle.rules.specs.Calls.{attachOf, readOf, stealOf, arriveOf, detachOf, lostOf, prefetchOf}
+use Rattle.rules.specs.Calls.{attachOf, readOf, stealOf, arriveOf, detachOf, lostOf, prefetchOf, measureOf}
 use Rattle.rules.specs.Run.{runOf}
-use Rattle.rules.specs.Image.{imageOf, restoreOf}
+use Rattle.rules.specs.Image.{imageOf, restoreWhole}
 use Rattle.rules.specs.declared.State.{State}
 use Rattle.rules.specs.declared.Reply.{Reply}
 use Rattle.rules.specs.declared.Answer.{Answer}
@@ -58,7 +58,8 @@ carriedOut Arrived = true
 carriedOut (Replaced file page) = true
 carriedOut (Ran fetches reads) = true
 
--- "Attach, Detach, Read, Arrive, Lost, Prefetch, Steal, Run", with their numbers; A.1: Attach has the start and the last page "at their end"
+-- "Attach, Detach, Read, Arrive, Lost, Prefetch, Steal, Run", with their numbers; A.1: Attach has the start and the last page at its end; A.2: "a call
+-- with slot, interval .. and the ticks blocked in it", which "answers O, in a C entry too"
 pub data Call : Type 0 where
   attach : ℕ → ℕ → ℕ → ℕ → ℕ → Call
   detach : ℕ → Call
@@ -68,6 +69,7 @@ pub data Call : Type 0 where
   prefetch : Call
   steal : Call
   run : ℕ → Call
+  measure : ℕ → ℕ → ℕ → Call
 
 abbrev pub callOf : Call → State → Reply
 callOf (attach slot file pace start last) s = attachOf s slot file pace start last
@@ -78,6 +80,7 @@ callOf (lost file page) s = lostOf s file page
 callOf prefetch s = prefetchOf s
 callOf steal s = stealOf s
 callOf (run turns) s = runOf s turns
+callOf (measure slot interval blocked) s = measureOf s slot interval blocked
 
 -- the number returned, and the buffer after the call
 pub record Entered : Type 0 where
@@ -88,8 +91,9 @@ pub record Entered : Type 0 where
 abbrev pub entered : List ℕ → Reply → Entered
 entered image r = record { number = code (r .answer); image = cond (carriedOut (r .answer)) (imageOf (r .state)) image }
 
--- "each as Restore, call, Save. The buffer must be exactly 2,208 bytes, else 13, tested first"
+-- "each as Restore, call, Save. The buffer must be exactly" as long as Save writes it, "else 13, tested first". A.2: "Saving and the C buffer use the new
+-- length", so the older one, which Restore reads, gets 13 here
 unfoldable pub enter : Call → List ℕ → Entered
 enter call image =
-    cond (carriedOut (restoreOf image .answer)) (entered image (callOf call (restoreOf image .state)))
-    (record { number = code (restoreOf image .answer); image = image })
+    cond (carriedOut (restoreWhole image .answer)) (entered image (callOf call (restoreWhole image .state)))
+    (record { number = code (restoreWhole image .answer); image = image })

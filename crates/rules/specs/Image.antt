@@ -1,4 +1,4 @@
--- Save and Restore: 01, "Calls", with the last pages of A.1. Assumes nothing: these are definitions.
+-- Save and Restore: 01, "Calls", with the last pages of A.1 and the marks of A.2. Assumes nothing: these are definitions.
 use Prim.Native.Nat.{ℕ, zero, suc, _+_, _*_, _/_, _%_}
 use mathlib.Core.Bool.{Bool, not, cond, _&&_, _||_}
 use mathlib.Core.List.{List, [], _∷_, _++_, map}
@@ -6,7 +6,7 @@ use lib.ListN.{getD, length, take, drop}
 use lib.Dec.{leb, ltb, eqb}
 use Rattle.rules.specs.Lists.{range, each, every, within}
 use Rattle.rules.specs.Pages.{size, fileOf, pageOf, cached, inFetch, cachedPages}
-use Rattle.rules.specs.Readers.{byCondition, awaits}
+use Rattle.rules.specs.Readers.{readerAt, markAt, byCondition, awaits}
 use Rattle.rules.specs.Calls.{reply, refused, settingsIn, idle, noFile}
 use Rattle.rules.specs.declared.State.{State}
 use Rattle.rules.specs.declared.Reader.{Reader}
@@ -35,9 +35,9 @@ abbrev pub readerFields : Reader → List Field
 readerFields r =
     field 1 (conditionNumber (r .condition)) ∷ field 1 (r .file) ∷ field 2 (r .pace) ∷ field 2 (r .position) ∷ field 2 (r .last) ∷ []
 
--- the fields behind those of 01: the image grows at its end
+-- the fields behind those of 01. A.2: "The image grows to 2,240 bytes by sixteen 2-byte marks at its end"
 abbrev pub tail : State → List Field
-tail s = []
+tail s = map (field 2) (s .marks)
 
 -- the one table: "frames (2), turn (1), 0 (1), L (4), T (4), sizes (8 of 2), sixteen readers .., 4 bytes of 0, cached map 1,024, fetch map 1,024",
 -- and the tail. A map's word is 8 bytes, lowest first, so that "page 1 [is] in the lowest bit of the first".
@@ -55,9 +55,9 @@ bytesOf (suc width) n = n % 256 ∷ bytesOf width (n / 256)
 abbrev pub encoded : List Field → List ℕ
 encoded = each (λ f. bytesOf (f .width) (f .value))
 
--- "Save writes 2,208 bytes"
+-- the bytes that Save writes
 abbrev pub imageLength : ℕ
-imageLength = 2208
+imageLength = 2240
 
 -- ---- Save
 
@@ -70,7 +70,7 @@ pub record Saved : Type 0 where
   pub answer : Answer
   pub buffer : List ℕ
 
--- "12: buffer shorter; bytes after 2,208 keep"
+-- "12: buffer shorter; bytes after" the image "keep"; A.2: "Saving .. use[s] the new length"
 unfoldable pub saveOf : State → List ℕ → Saved
 saveOf s buffer =
     cond (ltb (length buffer) imageLength) (record { answer = Refused 12; buffer = buffer })
@@ -101,13 +101,6 @@ conditionOf (suc (suc n)) = Waiting
 abbrev pub readerNumber : List ℕ → ℕ → ℕ → ℕ
 readerNumber numbers slot i = getD numbers (13 + 5 * slot + i) 0
 
--- A.1: "0 there, in an old image, means the file's size": the last page of a slot, which is taken where its condition is not 0
-abbrev pub lastFrom : List ℕ → ℕ → ℕ
-lastFrom numbers slot =
-    cond (not (eqb (readerNumber numbers slot 0) 0) && eqb (readerNumber numbers slot 4) 0)
-    (getD (take 8 (drop 5 numbers)) (readerNumber numbers slot 1) 0)
-    (readerNumber numbers slot 4)
-
 abbrev pub readerFrom : List ℕ → ℕ → Reader
 readerFrom numbers slot =
     record {
@@ -115,7 +108,7 @@ readerFrom numbers slot =
       file = readerNumber numbers slot 1;
       pace = readerNumber numbers slot 2;
       position = readerNumber numbers slot 3;
-      last = lastFrom numbers slot;
+      last = readerNumber numbers slot 4;
     }
 
 -- the state that the table's numbers are of
@@ -128,11 +121,13 @@ stateFrom numbers =
       «fetch_time» = getD numbers 4 0;
       sizes = take 8 (drop 5 numbers);
       readers = map (readerFrom numbers) (range 0 16);
+      marks = take 16 (drop 350 numbers);
       cached = take 128 (drop 94 numbers);
       fetching = take 128 (drop 222 numbers);
     }
 
--- "a file of size 0", file and pace in range; A.1: "A last page above the size or below the position .. gets 13"
+-- "a file of size 0", file and pace in range; A.1: "A last page above the size or below the position .. gets 13"; A.2: in the new length, "or a longer one, a
+-- taken slot's last page of 0 gets 13"
 unfoldable pub readerPlaced : State → Reader → Bool
 readerPlaced s r = not (noFile s (r .file)) && (within 1 1000 (r .pace) && (within 1 (size s (r .file)) (r .last) && leb (r .position) (r .last)))
 
@@ -142,6 +137,10 @@ readerHolds s r =
     byCondition (r .condition) (eqb (r .file) 0 && (eqb (r .pace) 0 && (eqb (r .position) 0 && eqb (r .last) 0))) (readerPlaced s r)
     (readerPlaced s r && awaits s r)
 
+-- A.2: a mark is "0 for an empty slot, each at most the position, else 13": one test for both, since an empty slot that `slotHolds` passes has position 0
+abbrev pub markHolds : State → ℕ → Bool
+markHolds s slot = leb (markAt s slot) (readerAt s slot .position)
+
 -- a slot's record, its condition in range
 unfoldable pub slotHolds : List ℕ → ℕ → Bool
 slotHolds numbers slot = within 0 2 (readerNumber numbers slot 0) && readerHolds (stateFrom numbers) (readerFrom numbers slot)
@@ -150,7 +149,7 @@ slotHolds numbers slot = within 0 2 (readerNumber numbers slot 0) && readerHolds
 unfoldable pub keyHolds : State → ℕ → Bool
 keyHolds s k = not (cached s k && inFetch s k) && (not (cached s k || inFetch s k) || leb (pageOf k) (size s (fileOf k)))
 
--- the table's numbers are those of a state: none of the grounds for 13 but the length
+-- the table's numbers are those of a state: all grounds for 13 but the length, which is tested before them
 unfoldable pub accepts : List ℕ → Bool
 accepts numbers =
     settingsIn (stateFrom numbers .frames) (stateFrom numbers .«look_ahead») (stateFrom numbers .«fetch_time») (stateFrom numbers .sizes)
@@ -158,28 +157,42 @@ accepts numbers =
     && (every (slotHolds numbers) (range 0 16)
     && (every (keyHolds (stateFrom numbers)) (range 0 8192)
     && (leb (length (cachedPages (stateFrom numbers))) (stateFrom numbers .frames)
-    && (eqb (getD numbers 2 0) 0 && eqb (getD numbers 93 0) 0)))))
+    && ((eqb (getD numbers 2 0) 0 && eqb (getD numbers 93 0) 0) && every (markHolds (stateFrom numbers)) (range 0 16))))))
 
--- "13: another length, .. The idle state comes back"
-unfoldable pub restoreOf : List ℕ → Reply
-restoreOf image =
+-- Restore of an image as long as Save writes it. "13: another length, ..": that of an older image too. "The idle state comes back"
+unfoldable pub restoreWhole : List ℕ → Reply
+restoreWhole image =
     cond (eqb (length image) imageLength && accepts (imageNumbers image)) (reply (stateFrom (imageNumbers image)) Done) (refused idle 13)
 
--- ---- an accepted image, as it is saved back
+-- ---- older images
 
--- the five numbers of a slot, its last page filled in
-abbrev pub filledSlot : List ℕ → ℕ → List ℕ
-filledSlot numbers slot = take 4 (drop (13 + 5 * slot) numbers) ++ lastFrom numbers slot ∷ []
+-- the length of an image without marks
+abbrev pub unmarkedLength : ℕ
+unmarkedLength = 2208
 
--- the numbers of an image, the last pages filled in
-unfoldable pub filled : List ℕ → List ℕ
-filled numbers = take 13 numbers ++ (each (filledSlot numbers) (range 0 16) ++ drop 93 numbers)
+-- A.1: "0 there, in an old image, means the file's size": the last page of a slot, which is taken where its condition is not 0
+abbrev pub lastFrom : List ℕ → ℕ → ℕ
+lastFrom numbers slot =
+    cond (not (eqb (readerNumber numbers slot 0) 0) && eqb (readerNumber numbers slot 4) 0)
+    (getD (take 8 (drop 5 numbers)) (readerNumber numbers slot 1) 0)
+    (readerNumber numbers slot 4)
 
--- a table's fields with other numbers
-unfoldable pub refielded : List Field → List ℕ → List Field
-refielded [] numbers = []
-refielded (f ∷ fs) numbers = field (f .width) (getD numbers 0 0) ∷ refielded fs (drop 1 numbers)
+-- the 8 bytes of a slot in an image without marks, the last page filled in: the records begin behind 28 bytes
+unfoldable pub filledSlot : List ℕ → ℕ → List ℕ
+filledSlot image slot = take 6 (drop (28 + 8 * slot) image) ++ bytesOf 2 (lastFrom (imageNumbers image) slot)
 
--- an image with its last pages filled in, and nothing else changed: A.1: "only such an image is saved back different"
+-- its mark, which equals the position
+abbrev pub firstMark : List ℕ → ℕ → List ℕ
+firstMark image slot = bytesOf 2 (readerNumber (imageNumbers image) slot 3)
+
+-- A.2: "2,208 bytes are still read, marks equal to positions": such an image with the last pages filled in and the marks behind it. An image of any
+-- other length stays as it is.
 unfoldable pub upgraded : List ℕ → List ℕ
-upgraded image = encoded (refielded (layout idle) (filled (imageNumbers image)))
+upgraded image =
+    cond (eqb (length image) unmarkedLength)
+    (take 28 image ++ (each (filledSlot image) (range 0 16) ++ (drop 156 image ++ each (firstMark image) (range 0 16))))
+    image
+
+-- Restore: an older image is read as the one that it is upgraded to
+unfoldable pub restoreOf : List ℕ → Reply
+restoreOf image = restoreWhole (upgraded image)

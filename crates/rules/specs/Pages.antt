@@ -30,7 +30,7 @@ pub record Page (s : State) (k : ℕ) : Type 0 where
   pub low : k < 8192
   pub there : pageOf k ≤ size s (fileOf k)
 
--- "A page is cached, in fetch, or neither": "the cached map has one bit a page", the fetch map likewise
+-- "A page is cached, in fetch, or neither": "The cached map has one bit a page", the fetch map likewise
 abbrev pub cached : State → ℕ → Bool
 cached s k = on (s .cached) k
 

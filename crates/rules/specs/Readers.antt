@@ -1,4 +1,4 @@
--- Readers: 01, "State", with the last page of A.1. Assumes nothing: these are definitions.
+-- Readers: 01, "State", with the last page of A.1 and the mark of A.2. Assumes nothing: these are definitions.
 use Prim.Native.Nat.{ℕ, _+_}
 use mathlib.Core.Bool.{Bool, true, false, _&&_}
 use mathlib.Core.List.{List}
@@ -20,6 +20,10 @@ readerIn readers slot = getD readers slot noReader
 
 abbrev pub readerAt : State → ℕ → Reader
 readerAt s = readerIn (s .readers)
+
+-- A.2: "Each reader gains a mark": that of a slot
+abbrev pub markAt : State → ℕ → ℕ
+markAt s slot = getD (s .marks) slot 0
 
 -- "A reader's record holds its condition: empty, running, or waiting"
 abbrev pub byCondition : {A : Type 0} → Condition → A → A → A → A
@@ -43,14 +47,18 @@ nextKey r = keyOf (r .file) (r .position + 1)
 unfoldable pub awaits : State → Reader → Bool
 awaits s r = ltb (r .position) (r .last) && inFetch s (nextKey r)
 
--- a reader with some parts changed: all that change one make it by the two names below, and they by this record
-abbrev rewritten : Reader → Condition → ℕ → Reader
-rewritten r condition position = record { condition = condition; file = r .file; pace = r .pace; position = position; last = r .last }
+-- a reader with some parts changed: calls after which it is still attached make it by the names below, one for each change, and they by this record
+abbrev rewritten : Reader → Condition → ℕ → ℕ → Reader
+rewritten r condition pace position = record { condition = condition; file = r .file; pace = pace; position = position; last = r .last }
 
 -- the record in another condition
 abbrev pub inCondition : Condition → Reader → Reader
-inCondition c r = rewritten r c (r .position)
+inCondition c r = rewritten r c (r .pace) (r .position)
 
 -- the position grows by 1
 abbrev pub onward : Reader → Reader
-onward r = rewritten r (r .condition) (r .position + 1)
+onward r = rewritten r (r .condition) (r .pace) (r .position + 1)
+
+-- A.2: another pace
+abbrev pub paced : ℕ → Reader → Reader
+paced pace r = rewritten r (r .condition) pace (r .position)

@@ -77,6 +77,6 @@ pub record Best (n : ℕ) (s : State) (fetches reads : ℕ) : Type 0 where
   pub least : (Bs : List Set) → Serves 8192 (s .frames) (laid n s) Bs → fetches ≤ fetchesIn 8192 (cached s) Bs
 
 -- what Run's answer to n turns from s must be: "Its start is any state whose image Restore's rules accept; permitted are 0 to 16,384 turns". `Valid` are
--- the states that Restore gives: since A.1 a last page of 0 is accepted in an image, and is the size in the state
+-- the states that Restore gives
 pub record ThirdStatement (n : ℕ) (s : State) (answer : Answer) : Type 0 where
   pub best : Valid s → (w : ℕ) → Premises s w → n ≤ 16384 → (fetches : ℕ) × (reads : ℕ) × (answer ≡ Ran fetches reads) × Best n s fetches reads

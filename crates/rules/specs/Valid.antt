@@ -6,7 +6,7 @@ use mathlib.Core.List.{List}
 use lib.ListN.{getD, length}
 use lib.Dec.{T}
 use Rattle.rules.specs.Pages.{size, cached, inFetch, Page, cachedPages}
-use Rattle.rules.specs.Readers.{noReader, readerAt, awaits}
+use Rattle.rules.specs.Readers.{noReader, readerAt, markAt, awaits}
 use Rattle.rules.specs.declared.State.{State}
 use Rattle.rules.specs.declared.Reader.{Reader}
 use Rattle.rules.specs.declared.Condition.{Condition}
@@ -43,6 +43,9 @@ pub record Valid (s : State) : Type 0 where
   pub time-high : s .«fetch_time» ≤ 2000000
   pub sixteen : length (s .readers) ≡ 16
   pub readers-in : (j : ℕ) → ReaderIn (readerAt s j .condition) s (readerAt s j)
+  -- A.2: a mark is "at most the position", and so "0 for an empty slot"
+  pub marks-all : length (s .marks) ≡ 16
+  pub marks-in : (j : ℕ) → markAt s j ≤ readerAt s j .position
   pub turn-high : s .turn < 16
   pub cached-map : PageMap (s .cached)
   pub fetching-map : PageMap (s .fetching)

@@ -16,6 +16,7 @@ stateOf v cached fetching = record {
   «fetch_time» = v .«fetch_time»;
   sizes = v .sizes;
   readers = v .readers;
+  marks = v .marks;
   cached = cached;
   fetching = fetching;
 }
@@ -23,6 +24,7 @@ stateOf v cached fetching = record {
 -- a state without its maps
 abbrev pub viewOf : State → View
 viewOf s = record {
+  marks = s .marks;
   frames = s .frames;
   turn = s .turn;
   «look_ahead» = s .«look_ahead»;

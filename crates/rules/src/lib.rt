@@ -16,7 +16,8 @@ pub struct Reader {
     pub last: u16,
 }
 
-// The box. A map has one bit a page, at the page's key. A type of the rules: no function passes it.
+// The box. A reader's mark, at its slot, is the position from which its pace is measured next. A map has one bit a page, at the page's key. A type of the
+// rules: no function passes it.
 pub struct State {
     pub frames: u16,
     pub turn: u8,
@@ -24,12 +25,15 @@ pub struct State {
     pub fetch_time: u32,
     pub sizes: [u16; 8],
     pub readers: [Reader; 16],
+    pub marks: [u16; 16],
     pub cached: [u64; 128],
     pub fetching: [u64; 128],
 }
 
-// A state but its two maps.
+// A state but its two maps. The marks, which few calls touch, come first: behind the readers they would be copied with these, in one piece of over 128
+// bytes, for which the compiler calls a function.
 pub struct View {
+    pub marks: [u16; 16],
     pub frames: u16,
     pub turn: u8,
     pub look_ahead: u32,

@@ -2,7 +2,7 @@
 //! beside the checker's `lines`: one run, the same images and streams.
 //!
 //!     cargo build --release --bin lines
-//!     QUAY_LIB=folder QUAY_PROGRAM=path \
+//!     QUAY_LIB=folder QUAY_PROBE=folder QUAY_PROGRAM=path \
 //!         cargo run --release --features box --bin bench
 //!
 //! Both entries restore, call and save an image each time. Every number is the
@@ -92,11 +92,17 @@ fn machine() -> String {
 fn calls() -> Vec<Case> {
     let mut cases = arrivals(&[(10_240, 0), (2_000_000, 0), (10_240, 1), (2_000_000, 100)]);
     let image = busy(FULL).image();
+    let measure = Call::Measure {
+        slot: 9,
+        interval: 1_000,
+        blocked: 400,
+    };
     for (name, call) in [
         ("Steal", Call::Steal),
         ("Prefetch", Call::Prefetch),
         ("Read, a hit", Call::Read { slot: 1 }),
         ("Read, refused (slot 16)", Call::Read { slot: 16 }),
+        ("Measure", measure),
     ] {
         let (name, image) = (name.to_string(), image.clone());
         cases.push(Case { name, image, call });
@@ -176,7 +182,7 @@ const FULL: Quay = Quay {
 };
 
 /// Readers of pace 10, a second and later reader of a file some way ahead of
-/// the one before. Nothing is cached.
+/// the one before; none was measured. Nothing is cached.
 fn seated(quay: Quay) -> State {
     let mut state = State::idle();
     state.frames = quay.frames;
@@ -185,7 +191,8 @@ fn seated(quay: Quay) -> State {
     state.sizes.fill(quay.pages);
     for slot in 0..quay.readers {
         let (file, position) = (slot % quay.files, slot / quay.files * 55);
-        let reader = Reader::running(file, 10, position, quay.pages);
+        let mut reader = Reader::running(file, 10, position, quay.pages);
+        reader.mark = 0;
         state.readers.insert(slot, reader);
     }
     state

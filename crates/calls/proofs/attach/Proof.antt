@@ -5,7 +5,8 @@ use borrow.Author.Needs.{needs}
 use lib.ListN.{getD}
 use Rattle.parts.proofs.Files.{file-high, file-fits}
 use Rattle.calls.proofs.Ranges.{within-fits, range-in}
-use Rattle.calls.proofs.Slots.{attach-stays, attach-no-slot, attach-no-file, attach-no-pace, attach-no-range, attach-there}
+use Rattle.rules.proofs.calls.OneRecord.{attaching}
+use Rattle.calls.proofs.Slots.{call-stays, attach-no-slot, attach-no-file, attach-no-pace, attach-no-range, attach-there}
 use Rattle.calls.proofs.Outcomes.{answers}
 use Rattle.calls.proofs.attach.Statement.{statement}
 use Rattle.calls.proofs.attach.Tie as tie
@@ -27,7 +28,7 @@ refuse-requires : tie.Need-refuse-requires
 refuse-requires c κs = search needs
 
 returns : tie.Need-returns
-returns c = attach-stays _ _ _ _ _ _ _ (λ a b. rw (c .refuse .ensures) (search (attach-no-slot, needs) depth 12))
+returns c = call-stays (attaching _ _ _ _) _ _ _ (λ a b. rw (c .refuse .ensures) (search (attach-no-slot, needs) depth 12))
 
 no-file-requires : tie.Need-no-file-requires
 no-file-requires c κs = search needs
@@ -36,7 +37,7 @@ refuse-requires-2 : tie.Need-refuse-requires-2
 refuse-requires-2 c κs = search needs
 
 returns-2 : tie.Need-returns-2
-returns-2 c = attach-stays _ _ _ _ _ _ _ (λ a b. rw (c .refuse2 .ensures) (search (attach-no-file, needs) depth 12))
+returns-2 c = call-stays (attaching _ _ _ _) _ _ _ (λ a b. rw (c .refuse2 .ensures) (search (attach-no-file, needs) depth 12))
 
 within-requires : tie.Need-within-requires
 within-requires c κs = search needs
@@ -45,7 +46,7 @@ refuse-requires-3 : tie.Need-refuse-requires-3
 refuse-requires-3 c κs = search needs
 
 returns-3 : tie.Need-returns-3
-returns-3 c = attach-stays _ _ _ _ _ _ _ (λ a b. rw (c .refuse3 .ensures) (search (attach-no-pace, needs) depth 12))
+returns-3 c = call-stays (attaching _ _ _ _) _ _ _ (λ a b. rw (c .refuse3 .ensures) (search (attach-no-pace, needs) depth 12))
 
 mul-size : tie.Need-mul-size
 mul-size c =
@@ -67,7 +68,7 @@ refuse-requires-4 : tie.Need-refuse-requires-4
 refuse-requires-4 c κs = search needs
 
 returns-4 : tie.Need-returns-4
-returns-4 c = attach-stays _ _ _ _ _ _ _ (λ a b. rw (c .refuse4 .ensures) (search (attach-no-range, needs) depth 12))
+returns-4 c = call-stays (attaching _ _ _ _) _ _ _ (λ a b. rw (c .refuse4 .ensures) (search (attach-no-range, needs) depth 12))
 
 mul-old : tie.Need-mul-old
 mul-old c = search needs
@@ -99,6 +100,15 @@ mul-t36 c = search needs
 element-set-from-v : tie.Need-element-set-from-v
 element-set-from-v c = search needs
 
+cast-v : tie.Need-cast-v
+cast-v c = omega (arith, short (c .before))
+
+mul-v : tie.Need-mul-v
+mul-v c = search needs
+
+element-write-v : tie.Need-element-write-v
+element-write-v c = search needs
+
 outcome-requires : tie.Need-outcome-requires
 outcome-requires c κs = search needs
 
@@ -106,10 +116,10 @@ refuse-requires-5 : tie.Need-refuse-requires-5
 refuse-requires-5 c κs = search needs
 
 returns-5 : tie.Need-returns-5
-returns-5 c = attach-stays _ _ _ _ _ _ _ (λ a b. rw (c .outcome .ensures, c .before .docked .ensures) (search (attach-there, answers) depth 12))
+returns-5 c = call-stays (attaching _ _ _ _) _ _ _ (λ a b. rw (c .outcome .ensures, c .before .docked .ensures) (search (attach-there, answers) depth 12))
 
 returns-6 : tie.Need-returns-6
-returns-6 c = attach-stays _ _ _ _ _ _ _ (λ a b. rw (c .refuse5 .ensures) (search (attach-there, answers) depth 12))
+returns-6 c = call-stays (attaching _ _ _ _) _ _ _ (λ a b. rw (c .refuse5 .ensures) (search (attach-there, answers) depth 12))
 
 pub attach-spec : {M : Type 1} → statement M
 attach-spec =
@@ -138,6 +148,9 @@ attach-spec =
     docked-requires
     mul-t36
     element-set-from-v
+    cast-v
+    mul-v
+    element-write-v
     outcome-requires
     refuse-requires-5
     returns-5

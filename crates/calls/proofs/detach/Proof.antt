@@ -1,7 +1,8 @@
 -- The slot, and then its condition, as the rule has them.
 use borrow.Author.Needs.{needs}
 use Rattle.rules.specs.Calls.{detachOf}
-use Rattle.calls.proofs.Slots.{detach-stays}
+use Rattle.rules.proofs.calls.OneRecord.{detaching}
+use Rattle.calls.proofs.Slots.{call-stays}
 use Rattle.calls.proofs.Outcomes.{answers}
 use Rattle.calls.proofs.detach.Statement.{statement}
 use Rattle.calls.proofs.detach.Tie as tie
@@ -11,7 +12,7 @@ refuse-requires c κs = search needs
 
 returns : tie.Need-returns
 unfolding detachOf
-returns c = detach-stays _ _ _ (λ a b. rw (c .refuse .ensures) (search answers depth 12))
+returns c = call-stays detaching _ _ _ (λ a b. rw (c .refuse .ensures) (search answers depth 12))
 
 mul-old : tie.Need-mul-old
 mul-old c = search needs
@@ -34,16 +35,22 @@ mul-t16 c = search needs
 element-set-from-v : tie.Need-element-set-from-v
 element-set-from-v c = search needs
 
+mul-v : tie.Need-mul-v
+mul-v c = search needs
+
+element-write-v : tie.Need-element-write-v
+element-write-v c = search needs
+
 outcome-requires : tie.Need-outcome-requires
 outcome-requires c κs = search needs
 
 returns-2 : tie.Need-returns-2
 unfolding detachOf
-returns-2 c = detach-stays _ _ _ (λ a b. rw (c .refuse2 .ensures) (search answers depth 12))
+returns-2 c = call-stays detaching _ _ _ (λ a b. rw (c .refuse2 .ensures) (search answers depth 12))
 
 returns-3 : tie.Need-returns-3
 unfolding detachOf
-returns-3 c = detach-stays _ _ _ (λ a b. rw (c .outcome .ensures, c .before .no-reader .ensures) (search answers depth 12))
+returns-3 c = call-stays detaching _ _ _ (λ a b. rw (c .outcome .ensures, c .before .no-reader .ensures) (search answers depth 12))
 
 pub detach-spec : {M : Type 1} → statement M
 detach-spec =
@@ -58,6 +65,8 @@ detach-spec =
     no-reader-requires
     mul-t16
     element-set-from-v
+    mul-v
+    element-write-v
     outcome-requires
     returns-2
     returns-3)

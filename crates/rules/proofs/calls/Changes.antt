@@ -9,9 +9,9 @@ use lib.ListN.{getD, set, length, length-set}
 use lib.Dec.{T, ltb, eqb, not-T}
 use Rattle.bits.specs.Map.{putBit, on}
 use Rattle.rules.specs.Pages.{size, cached, inFetch, Page, cachedPages}
-use Rattle.rules.specs.Readers.{noReader, readerAt, nextKey, awaits}
+use Rattle.rules.specs.Readers.{noReader, readerAt, markAt, nextKey, awaits}
 use Rattle.rules.specs.Valid.{Valid, Placed, ReaderIn, PageMap}
-use Rattle.rules.specs.Calls.{withTurn, withReaders, withCached, withFetching, withReader, withFetch, without}
+use Rattle.rules.specs.Calls.{withTurn, withReaders, withMarks, withCached, withFetching, withReader, withSlot, withFetch, without}
 use Rattle.rules.specs.Schedules.{num, count}
 use Rattle.rules.specs.declared.State.{State}
 use Rattle.rules.specs.declared.Reader.{Reader}
@@ -20,7 +20,7 @@ use Rattle.rules.specs.declared.Condition.the-variants.{Empty, Running, 
 use Rattle.rules.proofs.laws.Tests.{key, and-both, and-first, and-second, or-right}
 use Rattle.rules.proofs.laws.Counting.{empty, count-empty, plus, plus-count, same-count, num-in, num-out}
 use Rattle.rules.proofs.laws.Counts.{pages-count}
-use Rattle.rules.proofs.calls.Marks.{map-put, on-put, off-put, put-off}
+use Rattle.rules.proofs.calls.PageMaps.{map-put, on-put, off-put, put-off}
 
 -- the cached pages, counted by their keys
 pub cached-count : (s : State) → ((f : ℕ) → size s f ≤ 1024) → ((k : ℕ) → T (cached s k) → Page s k) → length (cachedPages s) ≡ count 8192 (cached s)
@@ -38,11 +38,13 @@ record MapIn (s : State) (words : List ℕ) : Type 0 where
   fits : PageMap words
   inside : (k : ℕ) → T (on words k) → Page s k
 
--- the turn and the readers, by the state's own files and fetches
-record Seats (s : State) (turn : ℕ) (readers : List Reader) : Type 0 where
+-- the turn, the readers and their marks, by the state's own files and fetches
+record Seats (s : State) (turn : ℕ) (readers : List Reader) (marks : List ℕ) : Type 0 where
   low : turn < 16
   all : length readers ≡ 16
   each-in : (j : ℕ) → ReaderIn (getD readers j noReader .condition) s (getD readers j noReader)
+  marks-all : length marks ≡ 16
+  marks-in : (j : ℕ) → getD marks j 0 ≤ getD readers j noReader .position
 
 -- the two maps, by the state's own files and frames
 record Maps (s : State) (held fetching : List ℕ) : Type 0 where
@@ -57,16 +59,16 @@ Waits s readers fetching =
     (j : ℕ) → getD readers j noReader .condition ≡ Waiting → T (inFetch s (nextKey (getD readers j noReader)))
     → T (on fetching (nextKey (getD readers j noReader)))
 
--- a state with all four parts changed
-abbrev allChanged : State → ℕ → List Reader → List ℕ → List ℕ → State
-allChanged s turn readers held fetching = withFetching (withCached (withReaders (withTurn s turn) readers) held) fetching
+-- a state with all five parts changed
+abbrev allChanged : State → ℕ → List Reader → List ℕ → List ℕ → List ℕ → State
+allChanged s turn readers marks held fetching = withFetching (withCached (withMarks (withReaders (withTurn s turn) readers) marks) held) fetching
 
-module _ (s : State) (turn : ℕ) (readers : List Reader) (held fetching : List ℕ) where
-  page-in : (k : ℕ) → Page s k → Page (allChanged s turn readers held fetching) k
+module _ (s : State) (turn : ℕ) (readers : List Reader) (marks held fetching : List ℕ) where
+  page-in : (k : ℕ) → Page s k → Page (allChanged s turn readers marks held fetching) k
   page-in k p = record { low = p .low; there = p .there }
 
   -- a placed reader stays placed
-  pub placed-in : (r : Reader) → Placed s r → Placed (allChanged s turn readers held fetching) r
+  pub placed-in : (r : Reader) → Placed s r → Placed (allChanged s turn readers marks held fetching) r
   placed-in r p =
       record {
         file-high = p .file-high;
@@ -79,7 +81,7 @@ module _ (s : State) (turn : ℕ) (readers : List Reader) (held fetching : List 
       }
 
   reader-in : (c : Condition) (r : Reader) → (c ≡ Waiting → T (inFetch s (nextKey r)) → T (on fetching (nextKey r))) → ReaderIn c s r
-      → ReaderIn c (allChanged s turn readers held fetching) r
+      → ReaderIn c (allChanged s turn readers marks held fetching) r
   unfolding awaits
   reader-in Empty r w h = h
   reader-in Running r w h = placed-in r h
@@ -87,10 +89,10 @@ module _ (s : State) (turn : ℕ) (readers : List Reader) (held fetching : List 
       let short : Bool = ltb (r .position) (r .last) in
       (placed-in r (h .0), and-both short _ (and-first short _ (h .1)) (w refl (and-second short _ (h .1))))
 
-  -- turn, readers and maps that fit make a valid state
-  all-changed : Valid s → Seats s turn readers → Maps s held fetching → Waits s readers fetching → Valid (allChanged s turn readers held fetching)
+  -- turn, readers, marks and maps that fit make a valid state
+  all-changed : Valid s → Seats s turn readers marks → Maps s held fetching → Waits s readers fetching → Valid (allChanged s turn readers marks held fetching)
   all-changed v a m w =
-      let inside : (k : ℕ) → T (on held k) → Page (allChanged s turn readers held fetching) k = λ k h. page-in k (m .held-in .inside k h) in
+      let inside : (k : ℕ) → T (on held k) → Page (allChanged s turn readers marks held fetching) k = λ k h. page-in k (m .held-in .inside k h) in
       record {
         eight = v .eight;
         sizes-high = v .sizes-high;
@@ -101,13 +103,15 @@ module _ (s : State) (turn : ℕ) (readers : List Reader) (held fetching : List 
         time-high = v .time-high;
         sixteen = a .all;
         readers-in = λ j. reader-in (getD readers j noReader .condition) (getD readers j noReader) (w j) (a .each-in j);
+        marks-all = a .marks-all;
+        marks-in = a .marks-in;
         turn-high = a .low;
         cached-map = m .held-in .fits;
         fetching-map = m .fetching-in .fits;
         cached-in = inside;
         fetching-in = λ k h. page-in k (m .fetching-in .inside k h);
         apart = m .apart;
-        room = rw (cached-count (allChanged s turn readers held fetching) (v .sizes-high) inside) (m .room);
+        room = rw (cached-count (allChanged s turn readers marks held fetching) (v .sizes-high) inside) (m .room);
       }
 
 module _ (s : State) (v : Valid s) where
@@ -123,6 +127,10 @@ module _ (s : State) (v : Valid s) where
 
   same-maps : Maps s (s .cached) (s .fetching)
   same-maps = record { held-in = cached-map-in; fetching-in = fetching-map-in; apart = v .apart; room = counted }
+
+  -- its own readers and marks, at a turn
+  seats : (turn : ℕ) → turn < 16 → Seats s turn (s .readers) (s .marks)
+  seats turn h = record { low = h; all = v .sixteen; each-in = v .readers-in; marks-all = v .marks-all; marks-in = v .marks-in }
 
   -- a page put in a map of pages
   put-in : (words : List ℕ) (k : ℕ) → Page s k → MapIn s words → MapIn s (putBit words k 1)
@@ -154,20 +162,22 @@ module _ (s : State) (v : Valid s) where
 
   -- other maps
   maps-changed : (held fetching : List ℕ) → Maps s held fetching → Waits s (s .readers) fetching → Valid (withFetching (withCached s held) fetching)
-  maps-changed held fetching = all-changed s (s .turn) (s .readers) held fetching v (record { low = v .turn-high; all = v .sixteen; each-in = v .readers-in })
+  maps-changed held fetching = all-changed s (s .turn) (s .readers) (s .marks) held fetching v (seats (s .turn) (v .turn-high))
 
   -- the turn moves on
   pub turn-moved : (turn : ℕ) → turn < 16 → Valid (withTurn s turn)
   turn-moved turn h =
-      all-changed s turn (s .readers) (s .cached) (s .fetching) v (record { low = h; all = v .sixteen; each-in = v .readers-in })
-      same-maps (λ j _ q. q)
+      all-changed s turn (s .readers) (s .marks) (s .cached) (s .fetching) v (seats turn h) same-maps (λ j _ q. q)
 
-  -- other readers
+  -- other readers and marks
+  slots-changed : (readers : List Reader) (marks : List ℕ) → Seats s (s .turn) readers marks → Valid (withMarks (withReaders s readers) marks)
+  slots-changed readers marks a = all-changed s (s .turn) readers marks (s .cached) (s .fetching) v a same-maps (λ j _ q. q)
+
+  -- other readers, none of which stands before its mark
   pub readers-changed : (readers : List Reader) → length readers ≡ 16 → ((j : ℕ) → ReaderIn (getD readers j noReader .condition) s (getD readers j noReader))
-      → Valid (withReaders s readers)
-  readers-changed readers n h =
-      all-changed s (s .turn) readers (s .cached) (s .fetching) v (record { low = v .turn-high; all = n; each-in = h }) same-maps
-      (λ j _ q. q)
+      → ((j : ℕ) → markAt s j ≤ getD readers j noReader .position) → Valid (withReaders s readers)
+  readers-changed readers n h m =
+      slots-changed readers (s .marks) (record { low = v .turn-high; all = n; each-in = h; marks-all = v .marks-all; marks-in = m })
 
   -- a page put in fetch
   pub fetch-opened : (k : ℕ) → Page s k → (T (cached s k) → ⊥) → Valid (withFetch s k)
@@ -245,16 +255,43 @@ module _ (s : State) (v : Valid s) where
         room = omega (arith, more);
       }
 
--- what holds of each record, and of one more, holds of each after that one is stored
-all-set : (P : Reader → Type 0) (l : List Reader) (i : ℕ) (r d : Reader) → P r → ((j : ℕ) → P (getD l j d)) → (j : ℕ) → P (getD (set l i r) j d)
+-- what holds of each record at its place, and of one more, holds of each after that one is stored
+all-set : (P : ℕ → Reader → Type 0) (l : List Reader) (i : ℕ) (r d : Reader) → P i r → ((j : ℕ) → P j (getD l j d)) → (j : ℕ) → P j (getD (set l i r) j d)
 all-set P [] i r d p h j = h j
 all-set P (x ∷ l) zero r d p h zero = p
 all-set P (x ∷ l) zero r d p h (suc j) = h (suc j)
 all-set P (x ∷ l) (suc i) r d p h zero = h zero
-all-set P (x ∷ l) (suc i) r d p h (suc j) = all-set P l i r d p (λ k. h (suc k)) j
+all-set P (x ∷ l) (suc i) r d p h (suc j) = all-set (λ k. P (suc k)) l i r d p (λ k. h (suc k)) j
 
--- one record changed
-pub reader-changed : (s : State) → Valid s → (slot : ℕ) (r : Reader) → ReaderIn (r .condition) s r → Valid (withReader s slot r)
-reader-changed s v slot r h =
-    readers-changed s v (set (s .readers) slot r) (length-set (s .readers) slot r ∙ v .sixteen)
-    (all-set (λ q. ReaderIn (q .condition) s q) (s .readers) slot r noReader h (v .readers-in))
+-- so does what holds of each record and its mark
+both-set : (rs : List Reader) (ms : List ℕ) (i : ℕ) (r d : Reader) (m : ℕ) → length rs ≡ length ms → m ≤ r .position
+    → ((j : ℕ) → getD ms j 0 ≤ getD rs j d .position) → (j : ℕ) → getD (set ms i m) j 0 ≤ getD (set rs i r) j d .position
+both-set [] [] i r d m e p h j = h j
+both-set [] (y ∷ ms) i r d m e p h j = absurd (omega arith)
+both-set (x ∷ rs) [] i r d m e p h j = absurd (omega arith)
+both-set (x ∷ rs) (y ∷ ms) zero r d m e p h zero = p
+both-set (x ∷ rs) (y ∷ ms) zero r d m e p h (suc j) = h (suc j)
+both-set (x ∷ rs) (y ∷ ms) (suc i) r d m e p h zero = h zero
+both-set (x ∷ rs) (y ∷ ms) (suc i) r d m e p h (suc j) = both-set rs ms i r d m (omega arith) p (λ k. h (suc k)) j
+
+module _ (s : State) (v : Valid s) (slot : ℕ) (r : Reader) (h : ReaderIn (r .condition) s r) where
+  records : (j : ℕ) → ReaderIn (getD (set (s .readers) slot r) j noReader .condition) s (getD (set (s .readers) slot r) j noReader)
+  records = all-set (λ _ q. ReaderIn (q .condition) s q) (s .readers) slot r noReader h (v .readers-in)
+
+  -- one record changed
+  pub reader-changed : markAt s slot ≤ r .position → Valid (withReader s slot r)
+  reader-changed m =
+      readers-changed s v (set (s .readers) slot r) (length-set (s .readers) slot r ∙ v .sixteen) records
+      (all-set (λ j q. markAt s j ≤ q .position) (s .readers) slot r noReader m (v .marks-in))
+
+  -- and its mark
+  pub slot-changed : (mark : ℕ) → mark ≤ r .position → Valid (withSlot s slot r mark)
+  slot-changed mark m =
+      slots-changed s v (set (s .readers) slot r) (set (s .marks) slot mark)
+      (record {
+        low = v .turn-high;
+        all = length-set (s .readers) slot r ∙ v .sixteen;
+        each-in = records;
+        marks-all = length-set (s .marks) slot mark ∙ v .marks-all;
+        marks-in = both-set (s .readers) (s .marks) slot r noReader mark (v .sixteen ∙ sym (v .marks-all)) m (v .marks-in);
+      })

@@ -1,7 +1,7 @@
 -- Every call keeps the state valid, and Setup makes a valid one. Assumes nothing.
-use Prim.Native.Nat.{ℕ, zero, suc, _+_, _/_, _%_, _≤_, _<_}
+use Prim.Native.Nat.{ℕ, zero, suc, _+_, _-_, _/_, _%_, _≤_, _<_}
 use mathlib.Core.Path.{_≡_, refl, sym, subst}
-use mathlib.Core.Bool.{true, false, not}
+use mathlib.Core.Bool.{true, false, not, cond}
 use mathlib.Core.List.{List, [], _∷_}
 use mathlib.Core.Option.{none}
 use native.Mathlib.Omega.{arith}
@@ -12,7 +12,7 @@ use lib.Dec.{T, T-not, eqb, ltb, lt→ltb}
 use Rattle.bits.specs.Map.{bit, on}
 use Rattle.rules.specs.Lists.{within, every, head}
 use Rattle.rules.specs.Pages.{size, fileOf, cached, inFetch, Page, cachedPages}
-use Rattle.rules.specs.Readers.{noReader, readerAt, attached, nextKey, awaits, inCondition, onward}
+use Rattle.rules.specs.Readers.{noReader, readerAt, markAt, attached, nextKey, awaits, inCondition, onward, paced}
 use Rattle.rules.specs.Valid.{Valid, Placed, ReaderIn, PageMap}
 use Rattle.rules.specs.UseTimes.{seen}
 use Rattle.rules.specs.Orders.{wanted, fetchOrder}
@@ -21,6 +21,7 @@ use Rattle.rules.specs.Calls.{
   noPage,
   noRange,
   withReader,
+  withSlot,
   withFetch,
   settingsIn,
   fresh,
@@ -35,14 +36,18 @@ use Rattle.rules.specs.Calls.{
   detachOf,
   lostOf,
   prefetchOf,
+  heldPace,
+  measuredPace,
+  measured,
+  measureOf,
 }
 use Rattle.rules.specs.Run.{Turn, nextTurn, readTurn, turnOf, turnsOf, runOf}
-use Rattle.rules.specs.Entries.{Call, attach, detach, read, arrive, lost, prefetch, steal, run, callOf}
+use Rattle.rules.specs.Entries.{Call, attach, detach, read, arrive, lost, prefetch, steal, run, measure, callOf}
 use Rattle.rules.specs.declared.State.{State}
 use Rattle.rules.specs.declared.Reader.{Reader}
 use Rattle.rules.specs.declared.Reply.{Reply}
 use Rattle.rules.specs.declared.Condition.the-variants.{Running, Waiting}
-use Rattle.rules.proofs.laws.Tests.{and-both, and-first, and-second}
+use Rattle.rules.proofs.laws.Tests.{less, and-both, and-first, and-second}
 use Rattle.rules.proofs.orders.Distinct.{victim-cached, fetch-wanted, wanted-page}
 use Rattle.rules.proofs.laws.Cases.{
   cond-all,
@@ -57,8 +62,8 @@ use Rattle.rules.proofs.laws.Cases.{
   within-true,
   file-there,
 }
-use Rattle.rules.proofs.calls.Marks.{put-on}
-use Rattle.rules.proofs.calls.Changes.{none-cached, placed-in, turn-moved, reader-changed, fetch-opened, page-dropped}
+use Rattle.rules.proofs.calls.PageMaps.{put-on}
+use Rattle.rules.proofs.calls.Changes.{none-cached, placed-in, turn-moved, reader-changed, slot-changed, fetch-opened, page-dropped}
 use Rattle.rules.proofs.calls.Landings.{placed-still, waiters-woken, landed-valid}
 
 -- the reply's state is valid
@@ -87,12 +92,16 @@ docked-in s file pace start last f p e =
 -- Attach keeps the state valid
 pub attach-kept : (s : State) (slot file pace start last : ℕ) → Valid s → Valid (attachOf s slot file pace start last .state)
 unfolding attachOf
-attach-kept s slot file pace start last v = search (cond-all Keeps, condition-all Keeps, reader-changed, docked-in) depth 12
+attach-kept s slot file pace start last v =
+    let own : start ≤ start = omega arith in
+    search (cond-all Keeps, condition-all Keeps, slot-changed, docked-in, own) depth 12
 
 -- Detach keeps the state valid
 pub detach-kept : (s : State) (slot : ℕ) → Valid s → Valid (detachOf s slot .state)
 unfolding detachOf
-detach-kept s slot v = search (cond-all Keeps, condition-all Keeps, reader-changed) depth 12
+detach-kept s slot v =
+    let none : Valid (withSlot s slot noReader 0) = slot-changed s v slot noReader refl 0 (omega arith) in
+    search (cond-all Keeps, condition-all Keeps, none) depth 12
 
 -- ---- Read
 
@@ -103,7 +112,7 @@ next-page s v r p h =
     let f : fileOf (nextKey r) ≡ r .file = omega (arith, p .file-high) in
     record { low = omega (arith, p .file-high); there = rw f (omega (arith, p .last-high)) }
 
-module _ (s : State) (v : Valid s) (slot : ℕ) (r : Reader) (p : Placed s r) where
+module _ (s : State) (v : Valid s) (slot : ℕ) (r : Reader) (p : Placed s r) (m : markAt s slot ≤ r .position) where
   not-at-end : eqb (r .position) (r .last) ≡ false → r .position < r .last
   not-at-end ne = let h = eqb-false (r .position) (r .last) ne in omega (arith, p .position-in)
 
@@ -120,20 +129,20 @@ module _ (s : State) (v : Valid s) (slot : ℕ) (r : Reader) (p : Placed s r) wh
         last-high = p .last-high;
         position-in = omega arith;
       } in
-      reader-changed s v slot (onward r) (subst (λ c. ReaderIn c s (onward r)) (sym e) q)
+      reader-changed s v slot (onward r) (subst (λ c. ReaderIn c s (onward r)) (sym e) q) (omega arith)
 
   wait-kept : eqb (r .position) (r .last) ≡ false → T (inFetch s (nextKey r)) → Valid (withReader s slot (inCondition Waiting r))
   unfolding awaits
   wait-kept ne f =
       reader-changed s v slot (inCondition Waiting r)
-      (placed-still Waiting s r p, and-both (ltb (r .position) (r .last)) _ (lt→ltb _ _ (not-at-end ne)) f)
+      (placed-still Waiting s r p, and-both (ltb (r .position) (r .last)) _ (lt→ltb _ _ (not-at-end ne)) f) m
 
-fetch-kept : (s : State) → Valid s → (slot : ℕ) (r : Reader) → Placed s r → eqb (r .position) (r .last) ≡ false → cached s (nextKey r) ≡ false
-    → Valid (withFetch (withReader s slot (inCondition Waiting r)) (nextKey r))
-fetch-kept s v slot r p ne absent =
-    let page = next-page s v r p (not-at-end s v slot r p ne) in
+fetch-kept : (s : State) → Valid s → (slot : ℕ) (r : Reader) → Placed s r → markAt s slot ≤ r .position → eqb (r .position) (r .last) ≡ false
+    → cached s (nextKey r) ≡ false → Valid (withFetch (withReader s slot (inCondition Waiting r)) (nextKey r))
+fetch-kept s v slot r p m ne absent =
+    let page = next-page s v r p (not-at-end s v slot r p m ne) in
     let opened = fetch-opened s v (nextKey r) page (failed (cached s (nextKey r)) absent) in
-    wait-kept (withFetch s (nextKey r)) opened slot r (placed-in s _ _ _ _ r p) ne (put-on (s .fetching) (v .fetching-map) (nextKey r) (page .low))
+    wait-kept (withFetch s (nextKey r)) opened slot r (placed-in s _ _ _ _ _ r p) m ne (put-on (s .fetching) (v .fetching-map) (nextKey r) (page .low))
 
 -- a running reader is placed in its file
 pub running-placed : (s : State) → Valid s → (slot : ℕ) → readerAt s slot .condition ≡ Running → Placed s (readerAt s slot)
@@ -142,7 +151,65 @@ running-placed s v slot e = subst (λ c. ReaderIn c s (readerAt s slot)) e (v .r
 -- Read keeps the state valid
 pub read-kept : (s : State) (slot : ℕ) → Valid s → Valid (readOf s slot .state)
 unfolding readOf readRunning
-read-kept s slot v = search (cond-all Keeps, condition-all Keeps, hit-kept, wait-kept, fetch-kept, running-placed, passed) depth 12
+read-kept s slot v =
+    let m = v .marks-in slot in
+    search (cond-all Keeps, condition-all Keeps, hit-kept, wait-kept, fetch-kept, running-placed, passed, m) depth 12
+
+-- ---- Measure
+
+held-in : (n : ℕ) → (1 ≤ heldPace n) × (heldPace n ≤ 1000)
+held-in n =
+    less n 1 (λ b. (1 ≤ cond b 1 (cond (ltb 1000 n) 1000 n)) × (cond b 1 (cond (ltb 1000 n) 1000 n) ≤ 1000)) (λ _. omega arith)
+    (λ l. less 1000 n (λ b. (1 ≤ cond b 1000 n) × (cond b 1000 n ≤ 1000)) (λ _. omega arith) (λ h. omega arith))
+
+-- a measured pace is in its range
+measured-in : (interval blocked : ℕ) (r : Reader) (mark : ℕ) → 1 ≤ r .pace → r .pace ≤ 1000
+    → (1 ≤ measuredPace interval blocked r mark) × (measuredPace interval blocked r mark ≤ 1000)
+unfolding measuredPace
+measured-in interval blocked r mark low high =
+    let n = r .position - mark in
+    cond-all (λ p. (1 ≤ p) × (p ≤ 1000)) (eqb n 0) _ _ (λ _. (low, high)) (λ _. held-in ((interval - blocked) / n))
+
+-- a reader with another pace in range stands where it stood
+paced-placed : (s : State) (r : Reader) (pace : ℕ) → (1 ≤ pace) × (pace ≤ 1000) → Placed s r → Placed s (paced pace r)
+paced-placed s r pace w p =
+    record {
+      file-high = p .file-high;
+      file-there = p .file-there;
+      pace-low = w .0;
+      pace-high = w .1;
+      last-low = p .last-low;
+      last-high = p .last-high;
+      position-in = p .position-in;
+    }
+
+module _ (s : State) (slot interval blocked : ℕ) (v : Valid s) where
+  abbrev r : Reader
+  r = readerAt s slot
+
+  abbrev after : Reader
+  after = paced (measuredPace interval blocked r (markAt s slot)) r
+
+  placed : Placed s r → Placed s after
+  placed p = paced-placed s r _ (measured-in interval blocked r (markAt s slot) (p .pace-low) (p .pace-high)) p
+
+  done : ReaderIn (r .condition) s after → Valid (measured s slot interval blocked)
+  done h = slot-changed s v slot after h _ (omega (arith, v .marks-in slot))
+
+  measured-running : r .condition ≡ Running → Valid (measured s slot interval blocked)
+  measured-running e = done (subst (λ c. ReaderIn c s after) (sym e) (placed (subst (λ c. ReaderIn c s r) e (v .readers-in slot))))
+
+  -- a reader that waits still waits
+  measured-waiting : r .condition ≡ Waiting → Valid (measured s slot interval blocked)
+  unfolding awaits
+  measured-waiting e =
+      let h : ReaderIn Waiting s r = subst (λ c. ReaderIn c s r) e (v .readers-in slot) in
+      done (subst (λ c. ReaderIn c s after) (sym e) (placed (h .0), h .1))
+
+-- Measure keeps the state valid
+pub measure-kept : (s : State) (slot interval blocked : ℕ) → Valid s → Valid (measureOf s slot interval blocked .state)
+unfolding measureOf
+measure-kept s slot interval blocked v = search (cond-all Keeps, condition-all Keeps, measured-running, measured-waiting) depth 12
 
 -- ---- Steal, Arrive, Lost and Prefetch
 
@@ -212,6 +279,7 @@ kept (lost file page) s v = lost-kept s file page v
 kept prefetch s v = prefetch-kept s v
 kept steal s v = steal-kept s v
 kept (run turns) s v = run-kept s turns v
+kept (measure slot interval blocked) s v = measure-kept s slot interval blocked v
 
 -- ---- Setup
 
@@ -256,6 +324,8 @@ fresh-valid frames look time sizes eight e =
       time-high = within-true 0 2000000 time (c .0) .1;
       sixteen = length-replicate 16 noReader;
       readers-in = λ j. rw (same-at 16 j noReader) refl;
+      marks-all = length-replicate {A = ℕ} 16 0;
+      marks-in = λ j. rw (same-at {A = ℕ} 16 j 0) (omega arith);
       turn-high = omega arith;
       cached-map = blank-map;
       fetching-map = blank-map;

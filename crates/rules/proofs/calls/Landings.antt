@@ -24,7 +24,7 @@ use Rattle.rules.proofs.laws.Tests.{and-second}
 use Rattle.rules.proofs.orders.Distinct.{victim-cached, no-victim}
 use Rattle.rules.proofs.laws.Cases.{cond-all, condition-all, option-all}
 use Rattle.bits.specs.Map.{on}
-use Rattle.rules.proofs.calls.Marks.{off-put, put-off}
+use Rattle.rules.proofs.calls.PageMaps.{off-put, put-off}
 use Rattle.rules.proofs.calls.Changes.{cached-count, none-cached, counted, readers-changed, fetch-closed, page-dropped, less-count, page-cached}
 
 -- ---- the waiters
@@ -73,11 +73,18 @@ module _ (s : State) (v : Valid s) (k : ℕ) where
   unfolding woken
   woken-at j = List·getD-map (woken k) (s .readers) j noReader
 
+  -- waking moves nobody
+  woken-position : (r : Reader) → woken k r .position ≡ r .position
+  unfolding woken
+  woken-position r =
+      condition-all (λ (q : Reader). q .position ≡ r .position) (r .condition) _ _ _ (λ _. refl) (λ _. refl)
+      (λ _. cond-all (λ (q : Reader). q .position ≡ r .position) (eqb (nextKey r) k) _ _ (λ _. refl) (λ _. refl))
+
   -- the fetch is closed and its waiters run
   pub waiters-woken : T (inFetch s k) → Valid (closed s k)
   waiters-woken f =
       let w = readers-changed s v (map (woken k) (s .readers)) (length-map (s .readers) (woken k) ∙ v .sixteen)
-      (λ j. rw (woken-at j) (woken-in s k (readerAt s j) (v .readers-in j))) in
+      (λ j. rw (woken-at j) (woken-in s k (readerAt s j) (v .readers-in j))) (λ j. rw (woken-at j, woken-position (readerAt s j)) (v .marks-in j)) in
       fetch-closed (withReaders s (map (woken k) (s .readers))) w k (w .fetching-in k f) (λ j. rw (woken-at j) (woken-waits k (readerAt s j)))
 
 -- ---- the page that goes

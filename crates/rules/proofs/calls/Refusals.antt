@@ -4,9 +4,9 @@ use mathlib.Core.Path.{_≡_, refl, subst}
 use mathlib.Core.Bool.{Bool, false, _||_}
 use mathlib.Core.List.{List, [], _∷_}
 use lib.Dec.{T, eqb}
-use Rattle.rules.specs.Calls.{refused, idle, setupOf, attachOf, readRunning, readOf, stealOf, arriveOf, detachOf, lostOf, prefetchOf}
+use Rattle.rules.specs.Calls.{refused, idle, setupOf, attachOf, readRunning, readOf, stealOf, arriveOf, detachOf, lostOf, prefetchOf, measureOf}
 use Rattle.rules.specs.Run.{runOf}
-use Rattle.rules.specs.Entries.{carriedOut, Call, attach, detach, read, arrive, lost, prefetch, steal, run, callOf}
+use Rattle.rules.specs.Entries.{carriedOut, Call, attach, detach, read, arrive, lost, prefetch, steal, run, measure, callOf}
 use Rattle.rules.specs.declared.State.{State}
 use Rattle.rules.specs.declared.Reply.{Reply}
 use Rattle.rules.specs.declared.Answer.the-variants.{Refused}
@@ -28,6 +28,7 @@ refusalsOf (lost file page) = 3 ∷ 8 ∷ 9 ∷ []
 refusalsOf prefetch = []
 refusalsOf steal = []
 refusalsOf (run turns) = 11 ∷ 10 ∷ []
+refusalsOf (measure slot interval blocked) = 2 ∷ 6 ∷ 16 ∷ []
 
 -- a refusal gives the state s back, with a number of the list
 Fair : State → List ℕ → Reply → Type 0
@@ -43,7 +44,7 @@ fair-done s list r h n e = absurd (subst (λ a. T (carriedOut a)) e h)
 
 -- every call refuses with one of its numbers, and then changes nothing
 fair : (c : Call) (s : State) → Fair s (refusalsOf c) (callOf c s)
-unfolding attachOf detachOf readOf readRunning arriveOf lostOf prefetchOf stealOf runOf
+unfolding attachOf detachOf readOf readRunning arriveOf lostOf prefetchOf stealOf runOf measureOf
 fair (attach slot file pace start last) s =
     let F = Fair s (refusalsOf (attach slot file pace start last)) in search (cond-all F, condition-all F, fair-refused, fair-done, tt) depth 12
 fair (detach slot) s = let F = Fair s (refusalsOf (detach slot)) in search (cond-all F, condition-all F, fair-refused, fair-done, tt) depth 12
@@ -55,6 +56,8 @@ fair (lost file page) s = let F = Fair s (refusalsOf (lost file page)) in search
 fair prefetch s = let F = Fair s [] in search (option-all F, fair-done, tt) depth 12
 fair steal s = let F = Fair s [] in search (option-all F, fair-done, tt) depth 12
 fair (run turns) s = let F = Fair s (refusalsOf (run turns)) in search (cond-all F, fair-refused, fair-done, tt) depth 12
+fair (measure slot interval blocked) s =
+    let F = Fair s (refusalsOf (measure slot interval blocked)) in search (cond-all F, condition-all F, fair-refused, fair-done, tt) depth 12
 
 -- a refused call gives the state back
 pub refused-same : (c : Call) (s : State) (n : ℕ) → callOf c s .answer ≡ Refused n → callOf c s .state ≡ s

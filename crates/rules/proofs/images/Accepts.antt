@@ -11,18 +11,16 @@ use Rattle.bits.specs.Map.{bit, digit}
 use Rattle.bits.proofs.Words.{digit-high}
 use Rattle.rules.specs.Lists.{range, every, within}
 use Rattle.rules.specs.Pages.{size, fileOf, pageOf, cached, inFetch, Page, cachedPages}
-use Rattle.rules.specs.Readers.{noReader, readerAt, byCondition, awaits}
+use Rattle.rules.specs.Readers.{noReader, readerAt, markAt, byCondition, awaits}
 use Rattle.rules.specs.Valid.{Placed, ReaderIn, PageMap, Valid}
 use Rattle.rules.specs.Calls.{settingsIn}
-use Rattle.rules.specs.Image.{readerNumber, readerFrom, stateFrom, readerPlaced, readerHolds, slotHolds, keyHolds, accepts}
+use Rattle.rules.specs.Image.{readerNumber, readerFrom, stateFrom, readerPlaced, readerHolds, slotHolds, markHolds, keyHolds, accepts}
 use Rattle.rules.proofs.laws.Tests.{less, key, and-both, and-first, and-second, or-left, or-right}
 use Rattle.rules.proofs.laws.Members.{range-in, range-at}
 use Rattle.rules.proofs.laws.Indexed.{Always, always-take, always-drop, all-always, always-all, every-all, all-every}
 use Rattle.rules.proofs.images.Layouts.{
   condition-low,
   Lengths,
-  Lasts,
-  valid-lasts,
   valid-lengths,
   stateNumbers,
   slot-number,
@@ -238,6 +236,7 @@ pub record Accepted (v : List ℕ) : Type 0 where
   pub settings : Settings (stateFrom v .frames) (stateFrom v .«look_ahead») (stateFrom v .«fetch_time») (stateFrom v .sizes)
   pub turn-high : stateFrom v .turn ≤ 15
   pub slots : (j : ℕ) → j < 16 → SlotIn v j
+  pub marks : (j : ℕ) → j < 16 → markAt (stateFrom v) j ≤ readerAt (stateFrom v) j .position
   pub keys : (k : ℕ) → k < 8192 → KeyIn (stateFrom v) k
   pub room : length (cachedPages (stateFrom v)) ≤ stateFrom v .frames
   pub gap : getD v 2 0 ≡ 0
@@ -255,6 +254,8 @@ module _ (v : List ℕ) where
       let h₃ = and-second (every (slotHolds v) (range 0 16)) _ h₂ in
       let h₄ = and-second (every (keyHolds s) (range 0 8192)) _ h₃ in
       let h₅ = and-second (leb (length (cachedPages s)) (s .frames)) _ h₄ in
+      let gaps = eqb (getD v 2 0) 0 && eqb (getD v 93 0) 0 in
+      let h₆ = and-first gaps _ h₅ in
       record {
         settings = settings-in (s .frames) (s .«look_ahead») (s .«fetch_time») (s .sizes) (and-first set _ h₀);
         turn-high = in-within 0 15 (s .turn) (and-first (within 0 15 (s .turn)) _ h₁) .1;
@@ -263,14 +264,18 @@ module _ (v : List ℕ) where
             slot-in v j
             (range-at (λ i. T (slotHolds v i)) 0 16 j (every-all (slotHolds v) (range 0 16) (and-first (every (slotHolds v) (range 0 16)) _ h₂))
             (omega arith) l);
+        marks =
+            λ j l.
+            leb→le (markAt s j) (readerAt s j .position)
+            (range-at (λ i. T (markHolds s i)) 0 16 j (every-all (markHolds s) (range 0 16) (and-second gaps _ h₅)) (omega arith) l);
         keys =
             λ k l.
             key-in s k
             (range-at (λ i. T (keyHolds s i)) 0 8192 k
             (every-all (keyHolds s) (range 0 8192) (and-first (every (keyHolds s) (range 0 8192)) _ h₃)) (omega arith) l);
         room = leb→le (length (cachedPages s)) (s .frames) (and-first (leb (length (cachedPages s)) (s .frames)) _ h₄);
-        gap = eqb→eq (getD v 2 0) 0 (and-first (eqb (getD v 2 0) 0) _ h₅);
-        gap-maps = eqb→eq (getD v 93 0) 0 (and-second (eqb (getD v 2 0) 0) _ h₅);
+        gap = eqb→eq (getD v 2 0) 0 (and-first (eqb (getD v 2 0) 0) _ h₆);
+        gap-maps = eqb→eq (getD v 93 0) 0 (and-second (eqb (getD v 2 0) 0) _ h₆);
       }
 
   -- and is passed where all of it holds
@@ -286,11 +291,14 @@ module _ (v : List ℕ) where
       (and-both (every (keyHolds s) (range 0 8192)) _
       (all-every (keyHolds s) (range 0 8192) (range-in (λ k. T (keyHolds s k)) 0 8192 (λ k _ l. in-key s k (a .keys k l))))
       (and-both (leb (length (cachedPages s)) (s .frames)) _ (le→leb (length (cachedPages s)) (s .frames) (a .room))
-      (and-both (eqb (getD v 2 0) 0) _ (eq→eqb (getD v 2 0) 0 (a .gap)) (eq→eqb (getD v 93 0) 0 (a .gap-maps)))))))
+      (and-both (eqb (getD v 2 0) 0 && eqb (getD v 93 0) 0) _
+      (and-both (eqb (getD v 2 0) 0) _ (eq→eqb (getD v 2 0) 0 (a .gap)) (eq→eqb (getD v 93 0) 0 (a .gap-maps)))
+      (all-every (markHolds s) (range 0 16)
+      (range-in (λ j. T (markHolds s j)) 0 16 (λ j _ l. le→leb (markAt s j) (readerAt s j .position) (a .marks j l)))))))))
 
 -- ---- from numbers to a state
 
-module _ (v : List ℕ) (long : length v ≡ 350) (a : Accepted v) where
+module _ (v : List ℕ) (long : length v ≡ 366) (a : Accepted v) where
   -- accepted numbers are those of a table
   pub table-in : Table v
   table-in =
@@ -310,6 +318,13 @@ module _ (v : List ℕ) (long : length v ≡ 350) (a : Accepted v) where
           let out : readerAt (stateFrom v) j ≡ noReader =
           List·getD-eq-default (stateFrom v .readers) noReader (omega (arith, lengths-from v table-in .sixteen)) in
           subst (λ r. ReaderIn (r .condition) (stateFrom v) r) (sym out) refl
+
+  mark-valid : (j : ℕ) → markAt (stateFrom v) j ≤ readerAt (stateFrom v) j .position
+  mark-valid j = go (decLt j 16)
+    where
+      go : Dec (j < 16) → markAt (stateFrom v) j ≤ readerAt (stateFrom v) j .position
+      go (yes l) = a .marks j l
+      go (no n) = rw (List·getD-eq-default (stateFrom v .marks) 0 {n = j} (omega (arith, lengths-from v table-in .marks-all))) (omega arith)
 
   maps-valid : Always (λ n. n < 2 ^ 64) 0 v → PageMap (stateFrom v .cached) × PageMap (stateFrom v .fetching)
   unfolding stateFrom
@@ -338,6 +353,8 @@ module _ (v : List ℕ) (long : length v ≡ 350) (a : Accepted v) where
         time-high = a .settings .time-high;
         sixteen = lengths .sixteen;
         readers-in = reader-valid;
+        marks-all = lengths .marks-all;
+        marks-in = mark-valid;
         turn-high = omega (arith, a .turn-high);
         cached-map = maps-valid fit .0;
         fetching-map = maps-valid fit .1;
@@ -353,15 +370,12 @@ module _ (s : State) (v : Valid s) where
   lengths : Lengths s
   lengths = valid-lengths s v
 
-  lasts : Lasts s
-  lasts = valid-lasts s v
-
   slot-accepted : (j : ℕ) → j < 16 → SlotIn (stateNumbers s) j
   slot-accepted j l =
       record {
         condition-in = rw (slot-number s lengths j 0 l (omega arith)) (condition-low (readerAt s j .condition));
         record-in =
-            subst₂ (λ t r. ReaderIn (r .condition) t r) (sym (state-numbers s lengths lasts)) (sym (reader-numbers s lengths lasts j l))
+            subst₂ (λ t r. ReaderIn (r .condition) t r) (sym (state-numbers s lengths)) (sym (reader-numbers s lengths j l))
             (v .readers-in j);
       }
 
@@ -375,7 +389,7 @@ module _ (s : State) (v : Valid s) where
   -- a valid state's numbers are accepted
   pub valid-accepted : Accepted (stateNumbers s)
   valid-accepted =
-      let back = sym (state-numbers s lengths lasts) in
+      let back = sym (state-numbers s lengths) in
       record {
         settings =
             subst (λ t. Settings (t .frames) (t .«look_ahead») (t .«fetch_time») (t .sizes)) back
@@ -387,6 +401,7 @@ module _ (s : State) (v : Valid s) where
             });
         turn-high = subst (λ t. t .turn ≤ 15) back (omega (arith, v .turn-high));
         slots = slot-accepted;
+        marks = λ j _. subst (λ t. markAt t j ≤ readerAt t j .position) back (v .marks-in j);
         keys = λ k _. subst (λ t. KeyIn t k) back (key-accepted k);
         room = subst (λ t. length (cachedPages t) ≤ t .frames) back (v .room);
         gap = refl;

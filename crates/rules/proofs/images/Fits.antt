@@ -47,7 +47,9 @@ module _ (s : State) (v : Valid s) where
       all-fit (readerFields r) (omega (arith, condition-low (r .condition)))
 
   tail-fits : Fits (tail s)
-  tail-fits = all-fit (tail s) tt
+  tail-fits = words-fit 2 (s .marks) (λ j.
+      let r = readerAt s j in
+      omega (arith, v .marks-in j, reader-fits s r (r .condition) (v .sizes-high) (v .readers-in j)))
 
   -- a valid state's values fit their widths
   pub layout-fits : Fits (layout s)

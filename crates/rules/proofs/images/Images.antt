@@ -1,5 +1,5 @@
--- Save and Restore undo one another: an image is accepted exactly if it is that of a valid state, and is saved back with its last pages filled in.
--- Assumes nothing.
+-- Save and Restore undo one another: an image, brought up to date, is accepted exactly if it is that of a valid state, and is saved back so. Assumes
+-- nothing.
 use mathlib.Core.Path.{_≡_, refl, sym, ap, _∙_, subst}
 use mathlib.Core.Bool.{Bool, not, _&&_}
 use mathlib.Core.List.{List, [], append-nil}
@@ -13,22 +13,18 @@ use lib.ListN.{length, getD}
 use lib.Dec.{T, leb, leb→le, eqb, eqb→eq}
 use Rattle.rules.specs.Lists.{each, every}
 use Rattle.rules.specs.Valid.{Valid}
-use Rattle.rules.specs.Readers.{readerAt}
 use Rattle.rules.specs.Calls.{reply, refused, idle}
 use Rattle.rules.specs.Image.{
   layout,
-  encoded,
   imageLength,
   imageOf,
   numbersIn,
   imageNumbers,
-  readerNumber,
   stateFrom,
   accepts,
-  restoreOf,
-  filled,
-  refielded,
+  restoreWhole,
   upgraded,
+  restoreOf,
 }
 use Rattle.rules.proofs.calls.Kept.{idle-valid}
 use Rattle.rules.proofs.laws.Tests.{side, is-true, is-false, and-both, and-first, and-second}
@@ -41,9 +37,6 @@ use Rattle.rules.proofs.images.Tables.{
   numbers-encoded,
   encoded-numbers,
   numbers-alike,
-  refielded-widths,
-  refielded-values,
-  refielded-same,
   numbers-length,
   numbers-low,
 }
@@ -51,22 +44,16 @@ use Rattle.rules.proofs.images.Fits.{layout-fits}
 use Rattle.rules.proofs.images.Layouts.{
   Lengths,
   valid-lengths,
-  valid-lasts,
-  readerNumbers,
   stateNumbers,
   values-layout,
   widths-alike,
-  number-attached,
-  slot-number,
   state-numbers,
   Table,
-  last-raw,
-  filled-same,
   numbers-from,
   lengths-from,
 }
 use Rattle.rules.proofs.images.Accepts.{Accepted, accepted, in-accepted, table-in, accepted-valid, valid-accepted}
-use Rattle.rules.proofs.images.Filled.{accepted-filled}
+use Rattle.rules.proofs.images.Upgrades.{upgraded-same, upgraded-bytes}
 use Rattle.rules.specs.declared.State.{State}
 use Rattle.rules.specs.declared.Reply.{Reply}
 use Rattle.rules.specs.declared.Answer.the-variants.{Refused, Done}
@@ -74,9 +61,9 @@ use Rattle.rules.specs.declared.Answer.the-variants.{Refused, Done}
 -- ---- the table
 
 idle-lengths : Lengths idle
-idle-lengths = record { eight = refl; sixteen = refl; cached-all = refl; fetching-all = refl }
+idle-lengths = record { eight = refl; sixteen = refl; marks-all = refl; cached-all = refl; fetching-all = refl }
 
-table-long : length (layout idle) ≡ 350
+table-long : length (layout idle) ≡ 366
 unfolding layout each
 table-long = refl
 
@@ -90,7 +77,7 @@ table-narrow i =
     let ws = widths (layout idle) in
     leb→le (getD ws i 0) 8 (all-always (λ w. T (leb w 8)) 0 tt ws (every-all (λ w. leb w 8) ws tt) i)
 
-numbers-long : (image : List ℕ) → length (imageNumbers image) ≡ 350
+numbers-long : (image : List ℕ) → length (imageNumbers image) ≡ 366
 numbers-long image = numbers-length (layout idle) image ∙ table-long
 
 -- every number of an image fits a word
@@ -114,7 +101,7 @@ module _ (s : State) (v : Valid s) where
       ∙ numbers-encoded (layout s) [] (layout-fits s v)
       ∙ values-layout s
 
--- ---- Restore
+-- ---- Restore of an image as long as Save writes it
 
 -- what is tested
 abbrev passes : List ℕ → Bool
@@ -122,40 +109,40 @@ passes image = eqb (length image) imageLength && accepts (imageNumbers image)
 
 module _ (image : List ℕ) where
   -- the test passes: the state of the numbers
-  restore-done : T (passes image) → restoreOf image ≡ reply (stateFrom (imageNumbers image)) Done
-  unfolding restoreOf
-  restore-done h = rw (is-true (passes image) h)
+  whole-done : T (passes image) → restoreWhole image ≡ reply (stateFrom (imageNumbers image)) Done
+  unfolding restoreWhole
+  whole-done h = rw (is-true (passes image) h)
 
   -- the test fails: it is refused
-  restore-out : T (not (passes image)) → restoreOf image ≡ refused idle 13
-  unfolding restoreOf
-  restore-out h = rw (is-false (passes image) h)
+  whole-out : T (not (passes image)) → restoreWhole image ≡ refused idle 13
+  unfolding restoreWhole
+  whole-out h = rw (is-false (passes image) h)
 
-  not-done : T (not (passes image)) → restoreOf image .answer ≡ Done → ⊥
+  not-done : T (not (passes image)) → restoreWhole image .answer ≡ Done → ⊥
   not-done h e =
-      let out : restoreOf image .answer ≡ Refused 13 = ap (λ r. r .answer) (restore-out h) in
+      let out : restoreWhole image .answer ≡ Refused 13 = ap (λ r. r .answer) (whole-out h) in
       let z : _≡_ {A = ℕ} 0 1 = cc in
       omega arith
 
   -- done only where the test passes
-  done-taken : restoreOf image .answer ≡ Done → T (passes image)
+  done-taken : restoreWhole image .answer ≡ Done → T (passes image)
   done-taken e = ⊎-elim (λ h. h) (λ h. absurd (not-done h e)) (side (passes image))
 
   -- and only with an image of the right length
-  pub done-length : restoreOf image .answer ≡ Done → length image ≡ imageLength
+  pub done-length : restoreWhole image .answer ≡ Done → length image ≡ imageLength
   done-length e = eqb→eq (length image) imageLength (and-first (eqb (length image) imageLength) _ (done-taken e))
 
   -- with the state that it gives
-  pub done-reply : restoreOf image .answer ≡ Done → restoreOf image ≡ reply (restoreOf image .state) Done
-  done-reply e = let d = restore-done (done-taken e) in d ∙ ap (λ r. reply (r .state) Done) (sym d)
+  pub done-reply : restoreWhole image .answer ≡ Done → restoreWhole image ≡ reply (restoreWhole image .state) Done
+  done-reply e = let d = whole-done (done-taken e) in d ∙ ap (λ r. reply (r .state) Done) (sym d)
 
-  -- Restore is done, or not
-  pub done-or-not : (restoreOf image .answer ≡ Done) ⊎ (restoreOf image .answer ≡ Done → ⊥)
-  done-or-not = ⊎-elim (λ h. inl (ap (λ r. r .answer) (restore-done h))) (λ h. inr (not-done h)) (side (passes image))
+  -- it is done, or not
+  pub done-or-not : (restoreWhole image .answer ≡ Done) ⊎ (restoreWhole image .answer ≡ Done → ⊥)
+  done-or-not = ⊎-elim (λ h. inl (ap (λ r. r .answer) (whole-done h))) (λ h. inr (not-done h)) (side (passes image))
 
   -- a refused image gives the idle state back
-  pub restore-refused : (restoreOf image .answer ≡ Done → ⊥) → restoreOf image ≡ refused idle 13
-  restore-refused n = ⊎-elim (λ h. absurd (n (ap (λ r. r .answer) (restore-done h)))) restore-out (side (passes image))
+  pub whole-refused : (restoreWhole image .answer ≡ Done → ⊥) → restoreWhole image ≡ refused idle 13
+  whole-refused n = ⊎-elim (λ h. absurd (n (ap (λ r. r .answer) (whole-done h)))) whole-out (side (passes image))
 
   taken-accepted : T (passes image) → Accepted (imageNumbers image)
   taken-accepted h = accepted (imageNumbers image) (and-second (eqb (length image) imageLength) _ h)
@@ -164,84 +151,71 @@ module _ (image : List ℕ) where
   taken-table h = table-in (imageNumbers image) (numbers-long image) (taken-accepted h)
 
 -- a valid state is restored from its image
-pub restore-save : (s : State) → Valid s → restoreOf (imageOf s) ≡ reply s Done
-restore-save s v =
+pub whole-save : (s : State) → Valid s → restoreWhole (imageOf s) ≡ reply s Done
+whole-save s v =
     let numbered : imageNumbers (imageOf s) ≡ stateNumbers s = image-numbers s v in
     let long : T (eqb (length (imageOf s)) imageLength) = rw (image-length s v) tt in
     let test : T (passes (imageOf s)) =
     and-both (eqb (length (imageOf s)) imageLength) (accepts (imageNumbers (imageOf s))) long
     (rw numbered (in-accepted (stateNumbers s) (valid-accepted s v))) in
-    restore-done (imageOf s) test ∙ ap (λ t. reply t Done) (ap stateFrom numbered ∙ state-numbers s (valid-lengths s v) (valid-lasts s v))
+    whole-done (imageOf s) test ∙ ap (λ t. reply t Done) (ap stateFrom numbered ∙ state-numbers s (valid-lengths s v))
 
--- an accepted image is saved back with its last pages filled in
-pub save-restore : (image : List ℕ) → restoreOf image .answer ≡ Done → imageOf (restoreOf image .state) ≡ upgraded image
-unfolding imageOf upgraded
-save-restore image e =
-    let h = done-taken image e in
-    let v = imageNumbers image in
-    let table = taken-table image h in
-    let s = stateFrom v in
-    ap (λ r. imageOf (r .state)) (restore-done image h)
-    ∙ ap encoded (sym (refielded-same (layout idle) (layout s) (widths-alike idle s idle-lengths (lengths-from v table))))
-    ∙ ap (λ ns. encoded (refielded (layout idle) ns)) (values-layout s ∙ numbers-from v table)
+module _ (image : List ℕ) (bytes : Bytes image) where
+  -- accepted or refused, the state is valid
+  pub whole-valid : Valid (restoreWhole image .state)
+  whole-valid =
+      ⊎-elim (λ h. rw (whole-done image h) (accepted-valid (imageNumbers image) (numbers-long image) (taken-accepted image h) (numbers-fit image bytes)))
+      (λ h. rw (whole-out image h) idle-valid) (side (passes image))
 
--- no taken slot has 0 for its last page
-abbrev pub NoneOld : List ℕ → Type 0
-NoneOld image = (j : ℕ) → j < 16 → (readerNumber (imageNumbers image) j 0 ≡ 0 → ⊥) → readerNumber (imageNumbers image) j 4 ≡ 0 → ⊥
+  -- an accepted image is saved back unchanged
+  save-whole : restoreWhole image .answer ≡ Done → imageOf (restoreWhole image .state) ≡ image
+  unfolding imageOf
+  save-whole e =
+      let h = done-taken image e in
+      let v = imageNumbers image in
+      let table = taken-table image h in
+      let s = stateFrom v in
+      let alike = widths-alike s idle (lengths-from v table) idle-lengths in
+      ap (λ r. imageOf (r .state)) (whole-done image h)
+      ∙ encoded-numbers (layout s) image (done-length image e ∙ sym table-total ∙ ap total (sym alike)) bytes
+      (values-layout s ∙ numbers-from v table ∙ numbers-alike (layout idle) (layout s) image (sym alike))
+
+-- what is restored of a lent buffer, whose elements are bytes, is valid
+pub lent-valid : (image : List ℕ) → ((i : ℕ) → Fits w8 (getD image i 0)) → (r : Reply) → r ≡ restoreWhole image → Valid (r .state)
+lent-valid image lent r e = rw e (whole-valid image (λ i. lent i .fits))
+
+-- ---- Restore of an image of any length, brought up to date
+
+-- an image that Save writes is
+saved-same : (s : State) → Valid s → upgraded (imageOf s) ≡ imageOf s
+saved-same s v = upgraded-same (imageOf s) (λ e. omega (arith, image-length s v))
+
+-- a valid state is restored from its image
+pub restore-save : (s : State) → Valid s → restoreOf (imageOf s) ≡ reply s Done
+unfolding restoreOf
+restore-save s v = ap restoreWhole (saved-same s v) ∙ whole-save s v
 
 module _ (image : List ℕ) (bytes : Bytes image) where
   -- accepted or refused, the state is valid
   pub restored-valid : Valid (restoreOf image .state)
-  restored-valid =
-      ⊎-elim (λ h. rw (restore-done image h) (accepted-valid (imageNumbers image) (numbers-long image) (taken-accepted image h) (numbers-fit image bytes)))
-      (λ h. rw (restore-out image h) idle-valid) (side (passes image))
+  unfolding restoreOf
+  restored-valid = whole-valid (upgraded image) (upgraded-bytes image bytes)
 
-  module _ (e : restoreOf image .answer ≡ Done) where
-    -- the numbers of the image that is saved back: the last pages are filled in, and nothing else is changed
-    pub upgraded-numbers : imageNumbers (upgraded image) ≡ filled (imageNumbers image)
-    upgraded-numbers =
-        let h = done-taken image e in
-        ap imageNumbers (sym (save-restore image e)) ∙ image-numbers (restoreOf image .state) restored-valid
-        ∙ ap (λ r. stateNumbers (r .state)) (restore-done image h) ∙ numbers-from (imageNumbers image) (taken-table image h)
+  -- an accepted image is saved back as what it is upgraded to
+  pub save-restore : restoreOf image .answer ≡ Done → imageOf (restoreOf image .state) ≡ upgraded image
+  unfolding restoreOf
+  save-restore e = save-whole (upgraded image) (upgraded-bytes image bytes) e
 
-    -- it is the image itself where no last page has to be filled in
-    same-none : NoneOld image → upgraded image ≡ image
-    unfolding upgraded
-    same-none none =
-        let v = imageNumbers image in
-        let fs = refielded (layout idle) v in
-        let same : filled v ≡ v = filled-same v (numbers-long image) (λ j l. last-raw v j (none j l)) in
-        ap (λ ns. encoded (refielded (layout idle) ns)) same
-        ∙ encoded-numbers fs image (done-length image e ∙ sym table-total ∙ ap total (sym (refielded-widths (layout idle) v))) bytes
-        (refielded-values (layout idle) v (numbers-long image ∙ sym table-long) ∙ numbers-alike (layout idle) fs image (sym (refielded-widths (layout idle) v)))
+  -- A.2: in the new length "an accepted image comes back unchanged"
+  pub back-unchanged : length image ≡ imageLength → restoreOf image .answer ≡ Done → imageOf (restoreOf image .state) ≡ image
+  back-unchanged l e = save-restore e ∙ upgraded-same image (λ o. omega arith)
 
-    none-same : upgraded image ≡ image → NoneOld image
-    none-same u j l taken zero-last =
-        let s = restoreOf image .state in
-        let v = restored-valid in
-        let h = valid-lengths s v in
-        let ns : imageNumbers image ≡ stateNumbers s = ap imageNumbers (sym (save-restore image e ∙ u)) ∙ image-numbers s v in
-        let at : (i : ℕ) → i < 5 → readerNumber (imageNumbers image) j i ≡ getD (readerNumbers (readerAt s j)) i 0 =
-        λ i m. ap (λ w. readerNumber w j i) ns ∙ slot-number s h j i l m in
-        let here = number-attached (readerAt s j .condition) (λ z. taken (at 0 (omega arith) ∙ z)) in
-        omega (arith, valid-lasts s v j here, at 4 (omega arith))
-
-    -- A.1: "only such an image is saved back different"
-    pub upgraded-same : (upgraded image ≡ image) ↔ NoneOld image
-    upgraded-same = (none-same, same-none)
-
-  -- an image is accepted exactly if it has its length, and its numbers with the last pages filled in are those of a valid state's image
-  pub accepts-exactly : (restoreOf image .answer ≡ Done)
-      ↔ ((s : State) × Valid s × (length image ≡ imageLength) × (filled (imageNumbers image) ≡ imageNumbers (imageOf s)))
-  accepts-exactly = (
-    λ e. (restoreOf image .state, restored-valid, done-length image e, sym (upgraded-numbers e) ∙ ap imageNumbers (sym (save-restore image e))),
-    λ w.
-        let v = imageNumbers image in
-        let a = subst Accepted (sym (w .3 ∙ image-numbers (w .0) (w .1))) (valid-accepted (w .0) (w .1)) in
-        let test : T (accepts v) = in-accepted v (accepted-filled v (numbers-long image) a) in
-        ap (λ r. r .answer) (restore-done image (and-both (eqb (length image) imageLength) _ (rw (w .2) tt) test)),
+  -- both directions, of images of any length: one gives a state exactly if the state is valid and its image is what that one is upgraded to
+  pub restores-exactly : (s : State) → (restoreOf image ≡ reply s Done) ↔ (Valid s × (upgraded image ≡ imageOf s))
+  unfolding restoreOf
+  restores-exactly s = (
+    λ e.
+        let state : restoreOf image .state ≡ s = ap (λ r. r .state) e in
+        (subst Valid state restored-valid, sym (save-restore (ap (λ r. r .answer) e)) ∙ ap imageOf state),
+    λ w. ap restoreWhole (w .1) ∙ whole-save s (w .0),
   )
-
--- what is restored of a lent buffer, whose elements are bytes, is valid
-pub lent-valid : (image : List ℕ) → ((i : ℕ) → Fits w8 (getD image i 0)) → (r : Reply) → r ≡ restoreOf image → Valid (r .state)
-lent-valid image lent r e = rw e (restored-valid image (λ i. lent i .fits))

@@ -1,14 +1,12 @@
 -- The table of a state, and the state of a table's numbers. Assumes nothing.
 use mathlib.Core.Path.{_≡_, refl, sym, ap, ap₂, _∙_}
-use mathlib.Core.Bool.{false, true, not, cond, _&&_}
 use mathlib.Core.List.{List, [], _∷_, _++_, map, map-map, map-append, map-id}
 use Prim.Native.Nat.{ℕ, zero, suc, _+_, _*_, _≤_, _<_}
 use native.Mathlib.Omega.{arith}
-use lib.ListN.{length, getD, take, drop, length-take, length-drop, drop-of-length-le, take-append-drop, List·getD-append}
-use lib.Dec.{T, eqb}
-use lib.Seq.{take-at, drop-cons, drop-drop, getD-drop, ext-getD}
+use lib.ListN.{length, getD, take, drop, length-take, length-drop, take-append-drop, List·getD-append}
+use lib.Seq.{take-at, take-all, drop-cons, drop-drop, getD-drop, ext-getD}
 use Rattle.rules.specs.Lists.{range, each}
-use Rattle.rules.specs.Readers.{noReader, readerAt, byCondition, attached}
+use Rattle.rules.specs.Readers.{noReader, readerAt}
 use Rattle.rules.specs.Image.{
   Field,
   field,
@@ -18,16 +16,11 @@ use Rattle.rules.specs.Image.{
   layout,
   conditionOf,
   readerNumber,
-  lastFrom,
   readerFrom,
   stateFrom,
-  filledSlot,
-  filled,
 }
 use Rattle.rules.specs.Valid.{Valid}
-use Rattle.rules.proofs.laws.Tests.{key}
 use Rattle.rules.proofs.laws.Members.{range-in}
-use Rattle.rules.proofs.calls.Valids.{placed-at}
 use Rattle.rules.proofs.laws.Indexed.{
   map-each,
   each-map,
@@ -54,20 +47,14 @@ use Rattle.rules.specs.declared.Condition.the-variants.{Empty, Running, 
 pub record Lengths (s : State) : Type 0 where
   pub eight : length (s .sizes) ≡ 8
   pub sixteen : length (s .readers) ≡ 16
+  pub marks-all : length (s .marks) ≡ 16
   pub cached-all : length (s .cached) ≡ 128
   pub fetching-all : length (s .fetching) ≡ 128
 
 -- a valid state's lists are so long
 pub valid-lengths : (s : State) → Valid s → Lengths s
-valid-lengths s v = record { eight = v .eight; sixteen = v .sixteen; cached-all = v .cached-map .all; fetching-all = v .fetching-map .all }
-
--- an attached reader's last page is at least 1, as 0 means another
-abbrev pub Lasts : State → Type 0
-Lasts s = (j : ℕ) → T (attached (readerAt s j)) → 1 ≤ readerAt s j .last
-
--- so it is in a valid state
-pub valid-lasts : (s : State) → Valid s → Lasts s
-valid-lasts s v j a = placed-at s v j a .last-low
+valid-lengths s v =
+    record { eight = v .eight; sixteen = v .sixteen; marks-all = v .marks-all; cached-all = v .cached-map .all; fetching-all = v .fetching-map .all }
 
 -- ---- the table, part by part
 
@@ -98,13 +85,9 @@ readerNumbers r = values (readerFields r)
 abbrev pub slotsOf : State → List ℕ
 slotsOf s = each readerNumbers (s .readers)
 
--- the values of the tail
-abbrev pub tailOf : State → List ℕ
-tailOf s = values (tail s)
-
 -- the values after the records
 abbrev pub mapsOf : State → List ℕ
-mapsOf s = 0 ∷ (s .cached ++ (s .fetching ++ tailOf s))
+mapsOf s = 0 ∷ (s .cached ++ (s .fetching ++ s .marks))
 
 -- the values of a state's table
 abbrev pub stateNumbers : State → List ℕ
@@ -114,11 +97,14 @@ stateNumbers s = s .frames ∷ s .turn ∷ 0 ∷ s .«look_ahead» ∷ s .«fetc
 pub values-layout : (s : State) → values (layout s) ≡ stateNumbers s
 values-layout s =
     layout-map (λ f. f .value) s
-    ∙ rw (map-id (s .sizes), map-id (s .cached), map-id (s .fetching))
+    ∙ rw (map-id (s .sizes), map-id (s .cached), map-id (s .fetching), map-map (λ (f : Field). f .value) (field 2) (s .marks), map-id (s .marks))
 
 -- the tail's widths depend on the lists' lengths alone
 tail-alike : (s t : State) → Lengths s → Lengths t → widths (tail s) ≡ widths (tail t)
-tail-alike s t h k = refl
+tail-alike s t h k =
+    map-map (λ (f : Field). f .width) (field 2) (s .marks)
+    ∙ map-alike 2 (s .marks) (t .marks) (h .marks-all ∙ sym (k .marks-all))
+    ∙ sym (map-map (λ (f : Field). f .width) (field 2) (t .marks))
 
 -- so do all widths
 pub widths-alike : (s t : State) → Lengths s → Lengths t → widths (layout s) ≡ widths (layout t)
@@ -139,22 +125,10 @@ condition-low Empty = omega arith
 condition-low Running = omega arith
 condition-low Waiting = omega arith
 
--- that of an attached reader is not 0
-pub number-attached : (c : Condition) → (conditionNumber c ≡ 0 → ⊥) → T (byCondition c false true true)
-number-attached Empty h = absurd (h refl)
-number-attached Running h = tt
-number-attached Waiting h = tt
-
 condition-of : (c : Condition) → conditionOf (conditionNumber c) ≡ c
 condition-of Empty = refl
 condition-of Running = refl
 condition-of Waiting = refl
-
--- 0 does not stand for itself in a taken slot alone
-last-kept : (c : Condition) (x n : ℕ) → (T (byCondition c false true true) → 1 ≤ n) → cond (not (eqb (conditionNumber c) 0) && eqb n 0) x n ≡ n
-last-kept Empty x n h = refl
-last-kept Running x n h = key n 0 (λ b. cond b x n ≡ n) (λ e. absurd (omega (arith, h tt))) (λ _. refl)
-last-kept Waiting x n h = key n 0 (λ b. cond b x n ≡ n) (λ e. absurd (omega (arith, h tt))) (λ _. refl)
 
 module _ (s : State) (h : Lengths s) where
   slots-long : length (slotsOf s) ≡ 80
@@ -171,32 +145,6 @@ module _ (s : State) (h : Lengths s) where
       ∙ List·getD-append (slotsOf s) (mapsOf s) 0 k (omega (arith, slots-long))
       ∙ getD-each readerNumbers 5 (λ r. refl) (s .readers) noReader 0 j i (omega arith) m
 
-  -- a last page is read as it was written
-  last-number : (told : Lasts s) (j : ℕ) → j < 16 → lastFrom (stateNumbers s) j ≡ readerAt s j .last
-  last-number told j l =
-      let x = getD (take 8 (drop 5 (stateNumbers s))) (readerNumber (stateNumbers s) j 1) 0 in
-      ap₂ (λ c n. cond (not (eqb c 0) && eqb n 0) x n) (slot-number j 0 l (omega arith)) (slot-number j 4 l (omega arith))
-      ∙ last-kept (readerAt s j .condition) x (readerAt s j .last) (told j)
-
-  -- a record is that of its slot's numbers
-  pub reader-numbers : Lasts s → (j : ℕ) → j < 16 → readerFrom (stateNumbers s) j ≡ readerAt s j
-  reader-numbers told j l = λ i.
-      record {
-        condition = (ap conditionOf (slot-number j 0 l (omega arith)) ∙ condition-of (readerAt s j .condition)) i;
-        file = slot-number j 1 l (omega arith) i;
-        pace = slot-number j 2 l (omega arith) i;
-        position = slot-number j 3 l (omega arith) i;
-        last = last-number told j l i;
-      }
-
-  readers-numbers : Lasts s → map (readerFrom (stateNumbers s)) (range 0 16) ≡ s .readers
-  readers-numbers told =
-      let f = readerFrom (stateNumbers s) in
-      let long = length-listed f 16 in
-      ext-getD noReader (map f (range 0 16)) (s .readers) (long ∙ sym (h .sixteen)) (λ j l.
-      let low : j < 16 = omega arith in
-      getD-listed f 16 j noReader low ∙ reader-numbers told j low)
-
   -- past the sizes and the readers
   drop-maps : (m : ℕ) → drop (5 + (8 + (80 + m))) (stateNumbers s) ≡ drop m (mapsOf s)
   drop-maps m =
@@ -208,20 +156,41 @@ module _ (s : State) (h : Lengths s) where
   pub gap-number : getD (stateNumbers s) 93 0 ≡ 0
   gap-number = sym (getD-drop 93 (stateNumbers s) 0 0) ∙ ap (λ r. getD r 0 0) (drop-maps 0)
 
+  -- a record is that of its slot's numbers
+  pub reader-numbers : (j : ℕ) → j < 16 → readerFrom (stateNumbers s) j ≡ readerAt s j
+  reader-numbers j l = λ i.
+      record {
+        condition = (ap conditionOf (slot-number j 0 l (omega arith)) ∙ condition-of (readerAt s j .condition)) i;
+        file = slot-number j 1 l (omega arith) i;
+        pace = slot-number j 2 l (omega arith) i;
+        position = slot-number j 3 l (omega arith) i;
+        last = slot-number j 4 l (omega arith) i;
+      }
+
+  readers-numbers : map (readerFrom (stateNumbers s)) (range 0 16) ≡ s .readers
+  readers-numbers =
+      let f = readerFrom (stateNumbers s) in
+      let long = length-listed f 16 in
+      ext-getD noReader (map f (range 0 16)) (s .readers) (long ∙ sym (h .sixteen)) (λ j l.
+      let low : j < 16 = omega arith in
+      getD-listed f 16 j noReader low ∙ reader-numbers j low)
+
   -- a state is that of its numbers
-  pub state-numbers : Lasts s → stateFrom (stateNumbers s) ≡ s
+  pub state-numbers : stateFrom (stateNumbers s) ≡ s
   unfolding stateFrom
-  state-numbers told = λ i.
+  state-numbers = λ i.
       record {
         frames = s .frames;
         turn = s .turn;
         «look_ahead» = s .«look_ahead»;
         «fetch_time» = s .«fetch_time»;
         sizes = take-at (s .sizes) (slotsOf s ++ mapsOf s) 8 (h .eight) i;
-        readers = readers-numbers told i;
-        cached = (ap (take 128) (drop-maps 1) ∙ take-at (s .cached) (s .fetching ++ tailOf s) 128 (h .cached-all)) i;
-        fetching = (ap (take 128) (drop-maps 129 ∙ drop-past (s .cached) (s .fetching ++ tailOf s) 128 (h .cached-all) 0)
-            ∙ take-at (s .fetching) (tailOf s) 128 (h .fetching-all)) i;
+        readers = readers-numbers i;
+        marks = (ap (take 16) (drop-maps 257 ∙ drop-past (s .cached) (s .fetching ++ s .marks) 128 (h .cached-all) 128
+            ∙ drop-past (s .fetching) (s .marks) 128 (h .fetching-all) 0) ∙ take-all 16 (s .marks) (omega (arith, h .marks-all))) i;
+        cached = (ap (take 128) (drop-maps 1) ∙ take-at (s .cached) (s .fetching ++ s .marks) 128 (h .cached-all)) i;
+        fetching = (ap (take 128) (drop-maps 129 ∙ drop-past (s .cached) (s .fetching ++ s .marks) 128 (h .cached-all) 0)
+            ∙ take-at (s .fetching) (s .marks) 128 (h .fetching-all)) i;
       }
 
 -- ---- the numbers of a state made of numbers
@@ -233,7 +202,7 @@ number-of (suc (suc n)) h = omega arith
 
 -- numbers that a state's table can have, but for their ranges
 pub record Table (v : List ℕ) : Type 0 where
-  pub long : length v ≡ 350
+  pub long : length v ≡ 366
   pub gap : getD v 2 0 ≡ 0
   pub gap-maps : getD v 93 0 ≡ 0
   pub conditions : (j : ℕ) → j < 16 → readerNumber v j 0 ≤ 2
@@ -247,25 +216,29 @@ module _ (v : List ℕ) (t : Table v) where
       record {
         eight = omega (arith, length-take 8 (drop 5 v), length-drop 5 v);
         sixteen = length-listed (readerFrom v) 16;
+        marks-all = omega (arith, length-take 16 (drop 350 v), length-drop 350 v);
         cached-all = omega (arith, length-take 128 (drop 94 v), length-drop 94 v);
         fetching-all = omega (arith, length-take 128 (drop 222 v), length-drop 222 v);
       }
 
-  slot-from : (j : ℕ) → j < 16 → readerNumbers (readerFrom v j) ≡ filledSlot v j
+  slot-from : (j : ℕ) → j < 16 → readerNumbers (readerFrom v j) ≡ take 5 (drop (13 + 5 * j) v)
   unfolding range
   slot-from j l =
-      (λ i. number-of (readerNumber v j 0) (t .conditions j l) i ∷ readerNumber v j 1 ∷ readerNumber v j 2 ∷ readerNumber v j 3 ∷ lastFrom v j ∷ [])
-      ∙ ap (λ r. r ++ lastFrom v j ∷ []) (sym (part-listed v 0 (13 + 5 * j) 4 (omega (arith, t .long))))
+      (λ i.
+      number-of (readerNumber v j 0) (t .conditions j l) i ∷ readerNumber v j 1 ∷ readerNumber v j 2 ∷ readerNumber v j 3 ∷ readerNumber v j 4 ∷ [])
+      ∙ sym (part-listed v 0 (13 + 5 * j) 5 (omega (arith, t .long)))
 
-  slots-from : slotsOf (stateFrom v) ≡ each (filledSlot v) (range 0 16)
+  slots-from : slotsOf (stateFrom v) ≡ take 80 (drop 13 v)
   unfolding stateFrom
   slots-from =
       each-map readerNumbers (readerFrom v) (range 0 16)
-      ∙ each-same (λ j. readerNumbers (readerFrom v j)) (filledSlot v) (range 0 16)
-      (range-in (λ j. readerNumbers (readerFrom v j) ≡ filledSlot v j) 0 16 (λ j _ l. slot-from j l))
+      ∙ each-same (λ j. readerNumbers (readerFrom v j)) (λ j. take 5 (drop (13 + 5 * j) v)) (range 0 16)
+      (range-in (λ j. readerNumbers (readerFrom v j) ≡ take 5 (drop (13 + 5 * j) v)) 0 16 (λ j _ l. slot-from j l))
+      ∙ each-part v 5 13 0 16
 
-  tail-from : tailOf (stateFrom v) ≡ drop 350 v
-  tail-from = sym (drop-of-length-le v {i = 350} (omega (arith, t .long)))
+  tail-from : stateFrom v .marks ≡ drop 350 v
+  unfolding stateFrom
+  tail-from = take-all 16 (drop 350 v) (omega (arith, t .long, length-drop 350 v))
 
   maps-from : mapsOf (stateFrom v) ≡ drop 93 v
   unfolding stateFrom
@@ -281,43 +254,13 @@ module _ (v : List ℕ) (t : Table v) where
       ∙ ap (λ r. r ++ drop 5 v) (sym (part-listed v 0 0 5 (omega (arith, t .long))))
       ∙ take-append-drop 5 v
 
-  -- the numbers of a table's state are its own, the last pages filled in
-  pub numbers-from : stateNumbers (stateFrom v) ≡ filled v
-  unfolding stateFrom filled
+  -- the numbers of a table's state are its own
+  pub numbers-from : stateNumbers (stateFrom v) ≡ v
+  unfolding stateFrom
   numbers-from =
       ap (λ w. take 13 w ++ (slotsOf (stateFrom v) ++ mapsOf (stateFrom v))) first-from
       ∙ ap₂ (λ a b. take 13 v ++ (a ++ b)) slots-from maps-from
-
--- a last page that does not stand for another is read as it stands
-pub last-raw : (v : List ℕ) (j : ℕ) → ((readerNumber v j 0 ≡ 0 → ⊥) → readerNumber v j 4 ≡ 0 → ⊥) → lastFrom v j ≡ readerNumber v j 4
-last-raw v j none =
-    let n = readerNumber v j 4 in
-    let x = getD (take 8 (drop 5 v)) (readerNumber v j 1) 0 in
-    key (readerNumber v j 0) 0 (λ b. cond (not b && eqb n 0) x n ≡ n) (λ _. refl)
-    (λ taken. key n 0 (λ b. cond b x n ≡ n) (λ e. absurd (none taken e)) (λ _. refl))
-
--- 0 in a taken slot is read as its file's size
-pub last-filled : (v : List ℕ) (j : ℕ) → (readerNumber v j 0 ≡ 0 → ⊥) → readerNumber v j 4 ≡ 0 → lastFrom v j ≡ getD (take 8 (drop 5 v)) (readerNumber v j 1) 0
-last-filled v j taken old =
-    let n = readerNumber v j 4 in
-    let x = getD (take 8 (drop 5 v)) (readerNumber v j 1) 0 in
-    key (readerNumber v j 0) 0 (λ b. cond (not b && eqb n 0) x n ≡ x) (λ e. absurd (taken e))
-    (λ _. key n 0 (λ b. cond b x n ≡ x) (λ _. refl) (λ ne. absurd (ne old)))
-
--- where no last page has to be filled in, nothing is
-pub filled-same : (v : List ℕ) → length v ≡ 350 → ((j : ℕ) → j < 16 → lastFrom v j ≡ readerNumber v j 4) → filled v ≡ v
-unfolding filled range
-filled-same v long same =
-    ap (λ r. take 13 v ++ (r ++ drop 93 v))
-    (each-same (filledSlot v) (λ j. take 5 (drop (13 + 5 * j) v)) (range 0 16)
-    (range-in (λ j. filledSlot v j ≡ take 5 (drop (13 + 5 * j) v)) 0 16 (λ j _ l. slot j l))
-    ∙ each-part v 5 13 0 16)
-    ∙ ap (λ r. take 13 v ++ r) (rejoin v 13 80) ∙ take-append-drop 13 v
-  where
-    slot : (j : ℕ) → j < 16 → filledSlot v j ≡ take 5 (drop (13 + 5 * j) v)
-    slot j l =
-        ap₂ (λ r n. r ++ n ∷ []) (part-listed v 0 (13 + 5 * j) 4 (omega arith)) (same j l)
-        ∙ sym (part-listed v 0 (13 + 5 * j) 5 (omega arith))
+      ∙ ap (λ r. take 13 v ++ r) (rejoin v 13 80) ∙ take-append-drop 13 v
 
 -- the record that a slot's numbers make
 pub reader-from : (v : List ℕ) (j : ℕ) → j < 16 → readerAt (stateFrom v) j ≡ readerFrom v j

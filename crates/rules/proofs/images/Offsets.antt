@@ -14,7 +14,7 @@ use Rattle.rules.proofs.laws.Members.{range-at}
 use Rattle.rules.proofs.laws.Indexed.{every-all}
 use Rattle.rules.proofs.images.Tables.{widths, total, number-at}
 
--- where the sizes, the readers, the 4 bytes of 0, the cached map and the fetch map begin: the laws below compute it from the table
+-- where the sizes, the readers, the 4 bytes of 0, the cached map, the fetch map and the marks begin: the laws below compute it from the table
 abbrev pub sizesAt : ℕ
 sizesAt = 12
 
@@ -29,6 +29,9 @@ cachedAt = 160
 
 abbrev pub fetchingAt : ℕ
 fetchingAt = 1184
+
+abbrev pub marksAt : ℕ
+marksAt = 2208
 
 -- the width of a field of the table, and the place of its first byte
 abbrev wide : ℕ → ℕ
@@ -70,7 +73,7 @@ module _ (image : List ℕ) where
   unfolding layout each every range total
   size-at = numbers-at (λ f. 5 + f) (λ f. 2) (λ f. sizesAt + 2 * f) 8 tt image
 
-  -- condition, file, pace, position and 0 of slot j
+  -- condition, file, pace, position and last page of slot j
   pub slot-at : (j i : ℕ) → j < 16 → i < 5
       → readerNumber (imageNumbers image) j i ≡ numberOf (take (slotWidth i) (drop (readersAt + 8 * j + slotPlace i) image))
   unfolding layout each every range total
@@ -96,3 +99,8 @@ module _ (image : List ℕ) where
   pub fetching-at : (k : ℕ) → k < 128 → getD (imageNumbers image) (222 + k) 0 ≡ numberOf (take 8 (drop (fetchingAt + 8 * k) image))
   unfolding layout each every range total
   fetching-at = numbers-at (λ k. 222 + k) (λ k. 8) (λ k. fetchingAt + 8 * k) 128 tt image
+
+  -- the mark of slot j
+  pub mark-at : (j : ℕ) → j < 16 → getD (imageNumbers image) (350 + j) 0 ≡ numberOf (take 2 (drop (marksAt + 2 * j) image))
+  unfolding layout each every range total
+  mark-at = numbers-at (λ j. 350 + j) (λ j. 2) (λ j. marksAt + 2 * j) 16 tt image

@@ -7,7 +7,7 @@ use native.Mathlib.Omega.{arith}
 use lib.ListN.{length, getD, take, drop, length-append, length-take, length-drop, take-append-drop}
 use lib.Seq.{take-at, drop-at, drop-drop, length-take-le}
 use Rattle.rules.specs.Lists.{each}
-use Rattle.rules.specs.Image.{Field, field, bytesOf, encoded, numberOf, numbersIn, refielded}
+use Rattle.rules.specs.Image.{Field, field, bytesOf, encoded, numberOf, numbersIn}
 use Rattle.rules.proofs.laws.Indexed.{Always, always-take, always-drop}
 use Rattle.rules.proofs.laws.Numbers.{Bytes, bytes-length, number-bytes, bytes-number, number-low}
 
@@ -74,29 +74,6 @@ numbers-alike (f ∷ fs) [] image e = let l = ap length e in absurd (omega arith
 numbers-alike (f ∷ fs) (g ∷ gs) image e =
     let w : f .width ≡ g .width = head-eq-of-cons-eq e in
     ap₂ _∷_ (ap (λ n. numberOf (take n image)) w) (ap (λ n. numbersIn fs (drop n image)) w ∙ numbers-alike fs gs (drop (g .width) image) (tail-eq-of-cons-eq e))
-
--- a table with other numbers has its widths
-pub refielded-widths : (fs : List Field) (ns : List ℕ) → widths (refielded fs ns) ≡ widths fs
-unfolding refielded
-refielded-widths [] ns = refl
-refielded-widths (f ∷ fs) ns = ap (λ r. f .width ∷ r) (refielded-widths fs (drop 1 ns))
-
--- and those numbers
-pub refielded-values : (fs : List Field) (ns : List ℕ) → length ns ≡ length fs → values (refielded fs ns) ≡ ns
-unfolding refielded
-refielded-values [] [] e = refl
-refielded-values [] (n ∷ ns) e = absurd (omega arith)
-refielded-values (f ∷ fs) [] e = absurd (omega arith)
-refielded-values (f ∷ fs) (n ∷ ns) e = ap (λ r. n ∷ r) (refielded-values fs ns (omega arith))
-
--- a table is one of the same widths with its numbers
-pub refielded-same : (fs gs : List Field) → widths fs ≡ widths gs → refielded fs (values gs) ≡ gs
-unfolding refielded
-refielded-same [] [] e = refl
-refielded-same [] (g ∷ gs) e = let l = ap length e in absurd (omega arith)
-refielded-same (f ∷ fs) [] e = let l = ap length e in absurd (omega arith)
-refielded-same (f ∷ fs) (g ∷ gs) e =
-    ap₂ _∷_ (ap (λ w. field w (g .value)) (head-eq-of-cons-eq e)) (refielded-same fs gs (tail-eq-of-cons-eq e))
 
 -- there are as many numbers as fields
 pub numbers-length : (fs : List Field) (image : List ℕ) → length (numbersIn fs image) ≡ length fs

@@ -4,15 +4,17 @@ use Prim.Native.Nat.{ℕ, _+_}
 use mathlib.Core.Path.{_≡_, refl}
 use mathlib.Core.Bool.{cond}
 use mathlib.Core.List.{List, [], _∷_, _++_, map}
-use lib.ListN.{length, take, replicate}
+use lib.ListN.{length, take, drop, replicate}
 use lib.Dec.{eqb}
 use Rattle.bits.specs.Map.{bit, putBit}
 use Rattle.rules.specs.Lists.{range, each, only, every, put, sorted, least, some-of}
 use Rattle.rules.specs.Pages.{keyOf, pages, cachedPages, fetchingPages, held, ends, clusters}
-use Rattle.rules.specs.Readers.{noReader}
+use Rattle.rules.specs.Readers.{noReader, readerAt, markAt}
 use Rattle.rules.specs.UseTimes.{before, present, missing, pruned, sees, timeFor, useFor, useKey, ahead, seen}
 use Rattle.rules.specs.Orders.{notAhead, notSeen, useTime, stealOrder, fetchOrder, victim}
 use Rattle.rules.specs.Calls.{
+  withMarks,
+  withSlot,
   idle,
   attachOf,
   readRunning,
@@ -27,11 +29,13 @@ use Rattle.rules.specs.Calls.{
   detachOf,
   lostOf,
   prefetchOf,
+  measuredPace,
+  measureOf,
 }
 use Rattle.rules.specs.Run.{fetchOpen, readTurn, turnOf, turnsOf, runOf}
 use Rattle.rules.specs.Listings.{countIn, refusalIn, Written, listed, stealListOf, fetchListOf, clustersOf}
-use Rattle.rules.specs.Image.{conditionNumber, layout, bytesOf, imageOf, Saved, saveOf}
-use Rattle.rules.specs.Entries.{code, Call, attach, detach, read, arrive, lost, run, callOf}
+use Rattle.rules.specs.Image.{conditionNumber, layout, bytesOf, imageOf, Saved, saveOf, numberOf, numbersIn, filledSlot, upgraded}
+use Rattle.rules.specs.Entries.{code, Call, attach, detach, read, arrive, lost, run, measure, callOf}
 use Rattle.rules.specs.Lines.{
   split,
   isDecimal,
@@ -67,19 +71,21 @@ row found due = record { found = found; due = due }
 abbrev pub Hold : List Row → Type 0
 Hold rows = map (λ r. r .found) rows ≡ map (λ r. r .due) rows
 
--- ---- Save: "writes 2,208 bytes, little-endian"
+-- ---- Save: the image, "little-endian"; A.2: of 2,240 bytes
 
 -- the bytes that are not 0, each behind its place
-unfoldable pub marks : ℕ → List ℕ → List ℕ
-marks i [] = []
-marks i (b ∷ bs) = cond (eqb b 0) [] (i ∷ b ∷ []) ++ marks (i + 1) bs
+unfoldable pub nonzero : ℕ → List ℕ → List ℕ
+nonzero i [] = []
+nonzero i (b ∷ bs) = cond (eqb b 0) [] (i ∷ b ∷ []) ++ nonzero (i + 1) bs
 
 -- numbers of several bytes, a reader that runs, one that waits, one in the last slot, the first and the last page cached, a page in fetch
 abbrev laden : State
 laden =
-    stateWith 770 11 1967877 657672 (1024 ∷ 300 ∷ 0 ∷ 0 ∷ 0 ∷ 0 ∷ 0 ∷ 1024 ∷ [])
+    withMarks
+    (stateWith 770 11 1967877 657672 (1024 ∷ 300 ∷ 0 ∷ 0 ∷ 0 ∷ 0 ∷ 0 ∷ 1024 ∷ [])
     (reader Running 0 1000 513 772 ∷ reader Waiting 1 258 299 300 ∷ (replicate 13 noReader ++ reader Running 7 1 2 3 ∷ []))
-    (0 ∷ 9 ∷ 1024 ∷ 8191 ∷ []) (1323 ∷ [])
+    (0 ∷ 9 ∷ 1024 ∷ 8191 ∷ []) (1323 ∷ []))
+    (258 ∷ 299 ∷ (replicate 13 0 ++ 1 ∷ []))
 
 -- its image, as 01 lays it out
 abbrev image : List ℕ
@@ -91,23 +97,52 @@ image =
     ∷ 36 ∷ 2 ∷ 37 ∷ 1 ∷ 38 ∷ 2 ∷ 39 ∷ 1 ∷ 40 ∷ 43 ∷ 41 ∷ 1 ∷ 42 ∷ 44 ∷ 43 ∷ 1
     ∷ 148 ∷ 1 ∷ 149 ∷ 7 ∷ 150 ∷ 1 ∷ 152 ∷ 2 ∷ 154 ∷ 3
     -- the cached map and the fetch map
-    ∷ 160 ∷ 1 ∷ 161 ∷ 2 ∷ 288 ∷ 1 ∷ 1183 ∷ 128 ∷ 1349 ∷ 8 ∷ []
+    ∷ 160 ∷ 1 ∷ 161 ∷ 2 ∷ 288 ∷ 1 ∷ 1183 ∷ 128 ∷ 1349 ∷ 8
+    -- the marks of the three
+    ∷ 2208 ∷ 2 ∷ 2209 ∷ 1 ∷ 2210 ∷ 43 ∷ 2211 ∷ 1 ∷ 2238 ∷ 1 ∷ []
 
--- the number, and the buffer after the call: its length and its marks
+-- the number, and the buffer after the call: its length and its bytes that are not 0
 unfoldable pub saved : Saved → List ℕ
-saved r = code (r .answer) ∷ length (r .buffer) ∷ marks 0 (r .buffer)
+saved r = code (r .answer) ∷ length (r .buffer) ∷ nonzero 0 (r .buffer)
 
--- "12: buffer shorter; bytes after 2,208 keep"
+-- "12: buffer shorter; bytes after .. keep"
 unfoldable pub saves : List Row
 saves =
-    row (saved (saveOf laden (7 ∷ replicate 2206 0))) (12 ∷ 2207 ∷ 0 ∷ 7 ∷ [])
-    ∷ row (saved (saveOf laden (replicate 2208 9))) (5177344 ∷ 2208 ∷ image)
-    ∷ row (saved (saveOf laden (replicate 2209 9))) (5177344 ∷ 2209 ∷ (image ++ 2208 ∷ 9 ∷ []))
+    row (saved (saveOf laden (7 ∷ replicate 2207 0))) (12 ∷ 2208 ∷ 0 ∷ 7 ∷ [])
+    ∷ row (saved (saveOf laden (7 ∷ replicate 2238 0))) (12 ∷ 2239 ∷ 0 ∷ 7 ∷ [])
+    ∷ row (saved (saveOf laden (replicate 2240 9))) (5177344 ∷ 2240 ∷ image)
+    ∷ row (saved (saveOf laden (replicate 2241 9))) (5177344 ∷ 2241 ∷ (image ++ 2240 ∷ 9 ∷ []))
     ∷ []
 
 pub saves-hold : Hold saves
-unfolding saves saved marks bit putBit each layout bytesOf imageOf saveOf code
+unfolding saves saved nonzero bit putBit each layout bytesOf imageOf saveOf code
 saves-hold = refl
+
+-- ---- an older image: A.2: "2,208 bytes are still read, marks equal to positions"
+
+-- two readers, the first without its last page, and an empty slot between them
+abbrev unfilled : State
+unfilled = stateWith 1 0 1 0 (1024 ∷ 300 ∷ []) (reader Running 1 10 299 0 ∷ noReader ∷ reader Running 0 10 2 3 ∷ replicate 13 noReader) [] []
+
+-- an image's length and its bytes that are not 0 behind the first 28
+unfoldable pub laidOut : List ℕ → List ℕ
+laidOut bs = length bs ∷ nonzero 28 (drop 28 bs)
+
+unfoldable pub older : List Row
+older =
+    -- the last page is the file's size, 300, and the marks are 299 and 2
+    row (laidOut (upgraded (take 2208 (imageOf unfilled))))
+    (2240 ∷ 28 ∷ 1 ∷ 29 ∷ 1 ∷ 30 ∷ 10 ∷ 32 ∷ 43 ∷ 33 ∷ 1 ∷ 34 ∷ 44 ∷ 35 ∷ 1 ∷ 44 ∷ 1 ∷ 46 ∷ 10 ∷ 48 ∷ 2 ∷ 50 ∷ 3
+    ∷ 2208 ∷ 43 ∷ 2209 ∷ 1 ∷ 2212 ∷ 2 ∷ [])
+    -- "in it, or a longer one", an image stays as it is
+    ∷ row (laidOut (upgraded (imageOf unfilled)))
+    (2240 ∷ 28 ∷ 1 ∷ 29 ∷ 1 ∷ 30 ∷ 10 ∷ 32 ∷ 43 ∷ 33 ∷ 1 ∷ 44 ∷ 1 ∷ 46 ∷ 10 ∷ 48 ∷ 2 ∷ 50 ∷ 3 ∷ [])
+    ∷ row (upgraded (7 ∷ [])) (7 ∷ [])
+    ∷ []
+
+pub older-hold : Hold older
+unfolding older laidOut nonzero bit putBit range each layout bytesOf numberOf numbersIn imageOf filledSlot upgraded
+older-hold = refl
 
 -- ---- Steal list, Fetch list, Clusters: "All: 12, list too short. Past what is written the list is unchanged"
 
@@ -210,11 +245,51 @@ refusals =
     ∷ gives (lost 0 6) 9
     ∷ gives (run 16385) 11
     ∷ gives (run 16384) 10
+    -- A.2: 16 "after 2 and 6"
+    ∷ gives (measure 16 0 1) 2
+    ∷ gives (measure 15 0 1) 6
+    ∷ gives (measure 0 0 0) 16
+    ∷ gives (measure 0 1000001 0) 16
+    ∷ gives (measure 0 1 2) 16
+    ∷ gives (measure 0 1 1) 5177344
+    ∷ gives (measure 0 1000000 1000000) 5177344
     ∷ []
 
 pub refusals-hold : Hold refusals
-unfolding refusals bit putBit range each only pages fetchingPages attachOf readOf readRunning detachOf forFetch arriveOf lostOf fetchOpen runOf code
+unfolding refusals bit putBit range each only pages fetchingPages attachOf readOf readRunning detachOf forFetch arriveOf lostOf fetchOpen runOf measureOf code
 refusals-hold = refl
+
+-- ---- Measure: A.2: "the pace becomes (interval − blocked) divided by n, rounded down, held to 1 through 1,000; with n = 0 it stays"
+
+-- a reader of pace 44 that has read n pages since its mark at 5, in slot 3
+abbrev since : ℕ → State
+since n = withSlot (stateWith 16 0 40 0 (64 ∷ []) [] [] []) 3 (reader Running 0 44 (5 + n) 64) 5
+
+-- the answer's number, then pace, position and mark
+unfoldable pub paceAfter : Reply → List ℕ
+paceAfter r =
+    let q = readerAt (r .state) 3 in
+    code (r .answer) ∷ q .pace ∷ q .position ∷ markAt (r .state) 3 ∷ []
+
+unfoldable pub measures : List Row
+measures =
+    row (paceAfter (measureOf (since 20) 3 1000 400)) (5177344 ∷ 30 ∷ 25 ∷ 25 ∷ [])
+    ∷ row (paceAfter (measureOf (since 7) 3 1000 400)) (5177344 ∷ 85 ∷ 12 ∷ 12 ∷ [])
+    ∷ row (paceAfter (measureOf (since 0) 3 1000 400)) (5177344 ∷ 44 ∷ 5 ∷ 5 ∷ [])
+    ∷ row (paceAfter (measureOf (since 3) 3 1000 1000)) (5177344 ∷ 1 ∷ 8 ∷ 8 ∷ [])
+    ∷ row (paceAfter (measureOf (since 3) 3 1000000 0)) (5177344 ∷ 1000 ∷ 8 ∷ 8 ∷ [])
+    -- at once again: no page has been read since
+    ∷ row (paceAfter (measureOf (measureOf (since 20) 3 1000 400 .state) 3 7 0)) (5177344 ∷ 30 ∷ 25 ∷ 25 ∷ [])
+    -- refused, all stays
+    ∷ row (paceAfter (measureOf (since 20) 3 1000 1001)) (16 ∷ 44 ∷ 25 ∷ 5 ∷ [])
+    -- "the position .. at Attach" is the first mark; Detach leaves none
+    ∷ row (paceAfter (attachOf (stateWith 16 0 40 0 (64 ∷ []) [] [] []) 3 0 44 9 64)) (5177344 ∷ 44 ∷ 9 ∷ 9 ∷ [])
+    ∷ row (paceAfter (detachOf (since 7) 3)) (5177344 ∷ 0 ∷ 0 ∷ 0 ∷ [])
+    ∷ []
+
+pub measures-hold : Hold measures
+unfolding measures paceAfter bit putBit attachOf detachOf measuredPace measureOf code
+measures-hold = refl
 
 -- ---- the orders and the clusters
 

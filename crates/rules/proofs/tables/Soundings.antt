@@ -36,7 +36,7 @@ pub record Row : Type 0 where
   pub question : Question
   pub answer : List ℕ
 
--- a state, of frames, turn, L, T, sizes, readers, cached pages and pages in fetch: no further files and readers
+-- a state, of frames, turn, L, T, sizes, readers, cached pages and pages in fetch: no further files and readers, and all marks 0
 abbrev pub stateWith : ℕ → ℕ → ℕ → ℕ → List ℕ → List Reader → List ℕ → List ℕ → State
 stateWith frames turn look time sizes readers cached fetching =
     record {
@@ -46,6 +46,7 @@ stateWith frames turn look time sizes readers cached fetching =
       «fetch_time» = time;
       sizes = take 8 (sizes ++ replicate 8 0);
       readers = take 16 (readers ++ replicate 16 noReader);
+      marks = replicate 16 0;
       cached = mapOf cached;
       fetching = mapOf fetching;
     }

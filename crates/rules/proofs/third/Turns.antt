@@ -42,7 +42,7 @@ use Rattle.rules.proofs.laws.Counting.{plus, swap}
 use Rattle.rules.proofs.calls.Valids.{placed-at}
 use Rattle.rules.proofs.orders.Ranks.{pages-at}
 use Rattle.rules.proofs.laws.Cases.{option-all}
-use Rattle.rules.proofs.calls.Marks.{map-put, on-put, off-put, put-on}
+use Rattle.rules.proofs.calls.PageMaps.{map-put, on-put, off-put, put-on}
 use Rattle.rules.proofs.calls.Changes.{cached-count}
 use Rattle.rules.proofs.calls.Landings.{full-dropped, dropped-some, dropped-none}
 use Rattle.rules.proofs.calls.Kept.{next-page, read-kept}

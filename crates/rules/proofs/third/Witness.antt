@@ -54,6 +54,7 @@ pub lead-valid : Valid lead
 unfolding setupOf settingsIn every
 lead-valid = readers-changed start (setup-valid 2 60 0 (8 ∷ replicate 7 0) refl) (lead .readers) refl
     (each-reader (λ r. ReaderIn (r .condition) start r) (placed 0 (omega arith)) (placed 3 (omega arith)) refl)
+    (λ j. rw (same-at {A = ℕ} 16 j 0) (omega arith))
 
 -- it meets the premises
 pub lead-premises : Premises lead 10

@@ -1,7 +1,11 @@
 -- The tests, made in the code's order, are the rule's: `verdict-is`.
-use mathlib.Core.Path.{_∙_, ap}
+use mathlib.Core.Path.{_≡_, refl, _∙_, ap}
+use mathlib.Core.Bool.{Bool, _&&_}
 use borrow.Author.Needs.{needs}
-use Rattle.rules.specs.Lists.{within}
+use Rattle.rules.specs.Lists.{range, every, within}
+use Rattle.rules.specs.Image.{markHolds, accepts, imageNumbers}
+use Rattle.image.specs.Bytes.{stateIn}
+use Rattle.image.specs.Tests.{gapsHold}
 use Rattle.rules.proofs.laws.Cases.{and-stop, and-pass, call-stop, call-pass}
 use Rattle.image.proofs.Checks.{and-later}
 use Rattle.image.proofs.Restores.{verdict-is, sizes-low, room-stop, room-pass}
@@ -108,8 +112,15 @@ returns-6 c =
 gaps-hold-requires : tie.Need-gaps-hold-requires
 gaps-hold-requires c κs = search needs
 
-returns-7 : tie.Need-returns-7
-returns-7 c =
+-- what the tests before the last two have shown
+passed-so : (c : tie.After-gaps-hold) →
+    let else-6 = c .before in
+    let else-3 = else-6 .before .before .before .before .before .before .before .before in
+    let after-sizes-in = else-3 .before .before .before .before .before .before .before .before .before in
+    let at-start = after-sizes-in .before .before in
+    (m t : Bool) → t ≡ (gapsHold (imageNumbers (at-start .args .image .now)) && m)
+    → m ≡ every (markHolds (stateIn (at-start .args .image .now))) (range 0 16) → t ≡ accepts (imageNumbers (at-start .args .image .now))
+passed-so c m t e f =
     let else-6 = c .before in
     let after-count = else-6 .before in
     let after-get-u16 = after-count .before in
@@ -132,7 +143,21 @@ returns-7 c =
     (call-pass _ _ _ _ (after-slots-hold .slots-hold .ensures) (else-3 .if3 .left)
     (call-pass _ _ _ _ (after-is-apart .is-apart .ensures) (else-4 .if4 .left)
     (call-pass _ _ _ _ (after-files-hold .files-hold .ensures) (else-5 .if5 .left)
-    (and-pass _ _ _ (room-pass _ _ _ _ (after-count .count .ensures) (after-get-u16 .get-u16 .ensures) (else-6 .if6 .left)) (c .gaps-hold .ensures)))))))
+    (and-pass _ _ _ (room-pass _ _ _ _ (after-count .count .ensures) (after-get-u16 .get-u16 .ensures) (else-6 .if6 .left)) (rw f at e)))))))
+
+returns-7 : tie.Need-returns-7
+returns-7 c =
+    let after-gaps-hold = c .before in
+    passed-so after-gaps-hold _ _ (call-stop _ _ _ (after-gaps-hold .gaps-hold .ensures) (c .if7 .taken)) refl
+
+marks-hold-requires : tie.Need-marks-hold-requires
+marks-hold-requires c κs = search needs
+
+returns-8 : tie.Need-returns-8
+returns-8 c =
+    let else-7 = c .before in
+    let after-gaps-hold = else-7 .before in
+    passed-so after-gaps-hold _ _ (call-pass _ _ _ _ (after-gaps-hold .gaps-hold .ensures) (else-7 .if7 .left) (c .marks-hold .ensures)) refl
 
 pub accepted-spec : {M : Type 1} → statement M
 accepted-spec =
@@ -156,4 +181,6 @@ accepted-spec =
     count-requires
     returns-6
     gaps-hold-requires
-    returns-7)
+    returns-7
+    marks-hold-requires
+    returns-8)

@@ -34,8 +34,11 @@ add-get-u16-2 c = search needs
 get-u16-requires-2 : tie.Need-get-u16-requires-2
 get-u16-requires-2 c κs = search needs
 
-last-in-requires : tie.Need-last-in-requires
-last-in-requires c κs = search needs
+add-get-u16-3 : tie.Need-add-get-u16-3
+add-get-u16-3 c = search needs
+
+get-u16-requires-3 : tie.Need-get-u16-requires-3
+get-u16-requires-3 c κs = search needs
 
 reader-of-requires : tie.Need-reader-of-requires
 reader-of-requires c κs = search needs
@@ -57,6 +60,7 @@ reader-in-spec =
     get-u16-requires
     add-get-u16-2
     get-u16-requires-2
-    last-in-requires
+    add-get-u16-3
+    get-u16-requires-3
     reader-of-requires
     returns)

@@ -10,6 +10,9 @@ sizes-in-requires c κs = search needs
 readers-in-requires : tie.Need-readers-in-requires
 readers-in-requires c κs = search needs
 
+marks-in-requires : tie.Need-marks-in-requires
+marks-in-requires c κs = search needs
+
 get-u16-requires : tie.Need-get-u16-requires
 get-u16-requires c κs = search needs
 
@@ -34,6 +37,7 @@ view-in-spec =
     (tie.spec
     sizes-in-requires
     readers-in-requires
+    marks-in-requires
     get-u16-requires
     get-u8-requires
     get-u32-requires

@@ -19,28 +19,28 @@ same-length-2 c = search needs
 returns : tie.Need-returns
 returns c = feed-unready _ _ _ _ _ (sym (not-true _ (c .if1 .taken)) ∙ c .before .ready .ensures)
 
-restore-requires : tie.Need-restore-requires
-restore-requires c κs = search needs
+restore-whole-requires : tie.Need-restore-whole-requires
+restore-whole-requires c κs = search needs
 
 enum-told : tie.Need-enum-told
 enum-told c = search needs
 
 go-through-requires : tie.Need-go-through-requires
 go-through-requires c κs =
-    let after-restore = c .before .before .before .before .before in
-    let else-1 = after-restore .before .before .before .before in
+    let after-restore-whole = c .before .before .before .before .before in
+    let else-1 = after-restore-whole .before .before .before .before in
     let after-ready = else-1 .before in
     let after-slice-known = after-ready .before .before .before .before .before .before in
     let room = ready-room _ _ _ _ (sym (after-ready .ready .ensures) ∙ not-false _ (else-1 .if1 .left)) in
-    (lent-valid _ (after-slice-known .slice-known .given) _ (after-restore .restore .ensures), (room .1, room .2, room .0))
+    (lent-valid _ (after-slice-known .slice-known .given) _ (after-restore-whole .restore-whole .ensures), (room .1, room .2, room .0))
 
 save-whole-requires : tie.Need-save-whole-requires
 save-whole-requires c κs =
     let after-go-through = c .before .before .before .before .before .before .before in
     let at-match-keys-2 = after-go-through .before .before .before .before .before in
-    let after-restore = at-match-keys-2 .before in
-    let after-slice-known = after-restore .before .before .before .before .before .before .before .before .before .before .before in
-    let restored = after-restore .restore .ensures in (
+    let after-restore-whole = at-match-keys-2 .before in
+    let after-slice-known = after-restore-whole .before .before .before .before .before .before .before .before .before .before .before in
+    let restored = after-restore-whole .restore-whole .ensures in (
       gone-valid _ _ _ _ _ _ (after-go-through .go-through .ensures) (lent-valid _ (after-slice-known .slice-known .given) _ restored),
       done-length _ (taken-done _ (answer-taken _ _ restored (at-match-keys-2 .match .keys2))),
     )
@@ -57,11 +57,11 @@ same-length-5 c = search needs
 returns-2 : tie.Need-returns-2
 returns-2 c =
     let at-match-keys-1 = c .before in
-    let after-restore = at-match-keys-1 .before in
-    let else-1 = after-restore .before .before .before .before in
+    let after-restore-whole = at-match-keys-1 .before in
+    let else-1 = after-restore-whole .before .before .before .before in
     let after-ready = else-1 .before in
     feed-refused _ _ _ _ _ (sym (after-ready .ready .ensures) ∙ not-false _ (else-1 .if1 .left))
-    (answer-refused _ _ (after-restore .restore .ensures) (at-match-keys-1 .match .keys1))
+    (answer-refused _ _ (after-restore-whole .restore-whole .ensures) (at-match-keys-1 .match .keys1))
 
 same-length-6 : tie.Need-same-length-6
 same-length-6 c = search needs
@@ -77,10 +77,10 @@ returns-3 c =
     let after-save-whole = c .before .before in
     let after-go-through = after-save-whole .before .before .before .before .before .before .before .before in
     let at-match-keys-2 = after-go-through .before .before .before .before .before in
-    let after-restore = at-match-keys-2 .before in
-    let else-1 = after-restore .before .before .before .before in
+    let after-restore-whole = at-match-keys-2 .before in
+    let else-1 = after-restore-whole .before .before .before .before in
     let after-ready = else-1 .before in
-    let restored = after-restore .restore .ensures in
+    let restored = after-restore-whole .restore-whole .ensures in
     feed-went _ _ _ _ _ _ (after-go-through .go-through .ensures)
     _ (sym (after-ready .ready .ensures) ∙ not-false _ (else-1 .if1 .left)) (answer-taken _ _ restored (at-match-keys-2 .match .keys2))
     (ap (λ q. q .state) restored) _ (after-save-whole .save-whole .ensures)
@@ -93,7 +93,7 @@ feed-spec =
     same-length
     same-length-2
     returns
-    restore-requires
+    restore-whole-requires
     enum-told
     go-through-requires
     save-whole-requires

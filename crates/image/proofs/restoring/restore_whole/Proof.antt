@@ -3,8 +3,8 @@ use mathlib.Core.Path.{_∙_}
 use borrow.Author.Needs.{needs}
 use Rattle.image.proofs.States.{cached-read, fetching-read, state-read}
 use Rattle.image.proofs.Restores.{restore-short, restore-stop, restore-pass}
-use Rattle.image.proofs.restoring.restore.Statement.{statement}
-use Rattle.image.proofs.restoring.restore.Tie as tie
+use Rattle.image.proofs.restoring.restore_whole.Statement.{statement}
+use Rattle.image.proofs.restoring.restore_whole.Tie as tie
 
 refuse-requires : tie.Need-refuse-requires
 refuse-requires c κs = search needs
@@ -57,8 +57,8 @@ returns-3 c =
     restore-pass image (else-1 .if1 .left) _ _ (after-accepted .accepted .ensures) (else-2 .if2 .left)
     (state-read image _ _ _ (c .view-in .ensures) (after-read-words .read-words .ensures) (after-read-words-2 .read-words2 .ensures))
 
-pub restore-spec : {M : Type 1} → statement M
-restore-spec =
+pub restore-whole-spec : {M : Type 1} → statement M
+restore-whole-spec =
     tie.close
     (tie.spec
     refuse-requires

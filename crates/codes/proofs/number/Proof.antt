@@ -1,8 +1,8 @@
 -- By the answer, 01's number for each.
 use borrow.Author.Needs.{needs}
 use Rattle.rules.specs.Entries.{code}
-use Rattle.capi.proofs.number.Statement.{statement}
-use Rattle.capi.proofs.number.Tie as tie
+use Rattle.codes.proofs.number.Statement.{statement}
+use Rattle.codes.proofs.number.Tie as tie
 
 enum-known-a : tie.Need-enum-known-a
 enum-known-a c = search needs

@@ -1,8 +1,8 @@
 -- By the answer: all but a refusal are carried out.
 use borrow.Author.Needs.{needs}
-use Rattle.capi.proofs.Outcomes.{not-refused}
-use Rattle.capi.proofs.carried_out.Statement.{statement}
-use Rattle.capi.proofs.carried_out.Tie as tie
+use Rattle.codes.proofs.Outcomes.{not-refused}
+use Rattle.codes.proofs.carried_out.Statement.{statement}
+use Rattle.codes.proofs.carried_out.Tie as tie
 
 enum-told : tie.Need-enum-told
 enum-told c = search needs

@@ -1,8 +1,8 @@
 -- The number stands as it is, or is 0: in an empty slot, for a file that is none of the eight, or for a file's size.
 use borrow.Author.Needs.{needs}
-use Rattle.image.proofs.States.{last-stands, last-empty, last-far, last-size}
-use Rattle.image.proofs.restoring.last_in.Statement.{statement}
-use Rattle.image.proofs.restoring.last_in.Tie as tie
+use Rattle.image.proofs.Upgrades.{last-stands, last-empty, last-far, last-size}
+use Rattle.image.proofs.upgrading.last_in.Statement.{statement}
+use Rattle.image.proofs.upgrading.last_in.Tie as tie
 
 mul-at : tie.Need-mul-at
 mul-at c = search needs

@@ -1,0 +1,2 @@
+-- The calls of the library as functions of numbers and bytes.
+pub mod Probes
