@@ -1,6 +1,6 @@
 //! With the feature `box`: links the box's library, `libquay.a`, and `src/ffi.c`,
 //! compiled with its header, `quay.h`, both in the folder that the environment
-//! variable `QUAY_LIB` names; and Restore and Save by themselves, `libprobe.a`, in
+//! variable `QUAY_LIB` names; and the calls to which no door leads, `libprobe.a`, in
 //! the folder that `QUAY_PROBE` names.
 
 use std::env;

@@ -1,5 +1,5 @@
-//! The nine calls of the C boundary, the settings of a first image, and what
-//! takes up an older one.
+//! The nine calls of the C boundary, the settings of a first image, what takes up
+//! an older one, and what lists an order.
 
 use crate::limits::FILES;
 
@@ -79,6 +79,32 @@ pub type Upgrade = fn(&mut [u8], Older) -> u64;
 /// buffer of any length: Restore and Save themselves, or what stands for them. It
 /// returns Restore's number + 4,294,967,296 × Save's.
 pub type Probe = fn(&[u8], &mut [u8]) -> u64;
+
+/// The two orders that go into a lent list.
+#[derive(Clone, Copy, Debug, PartialEq, Eq)]
+#[allow(missing_docs)] // the paper's own words
+pub enum Order {
+    Steal,
+    Fetch,
+}
+
+impl Order {
+    /// One after the other.
+    pub const BOTH: [Order; 2] = [Order::Steal, Order::Fetch];
+
+    /// The name of the call that writes its list.
+    pub fn name(self) -> &'static str {
+        match self {
+            Order::Steal => "Steal list",
+            Order::Fetch => "Fetch list",
+        }
+    }
+}
+
+/// Something that restores an image of any length and writes an order into a lent
+/// list: the box's Steal list and Fetch list, or what stands for them. It returns
+/// the refusal's number, or 4,294,967,296 + keys × 65,536 + pages tested.
+pub type Lister = fn(Order, &[u8], &mut [u16]) -> u64;
 
 impl Call {
     /// The call's name in the paper.

@@ -1,10 +1,11 @@
 //! The box itself, through its C entries: "calls the box on numbers and an
 //! image buffer"; the header's first image and its upgrade of an older one, through
-//! `ffi.c`; and Restore and Save by themselves.
+//! `ffi.c`; Restore and Save by themselves; and Steal list and Fetch list with what
+//! they report.
 
 #![allow(unsafe_code)]
 
-use crate::call::{Call, Older, Settings};
+use crate::call::{Call, Older, Order, Settings};
 
 extern "C" {
     fn quay_attach(
@@ -35,6 +36,8 @@ extern "C" {
     fn header_upgrade_image(image: *mut u8, len: usize, old: *const u8, old_len: usize) -> u64;
     fn probe_restore(image: *const u8, image_len: usize, buffer: *mut u8, buffer_len: usize)
         -> u64;
+    fn probe_steal_list(image: *const u8, image_len: usize, list: *mut u16, room: usize) -> u64;
+    fn probe_fetch_list(image: *const u8, image_len: usize, list: *mut u16, room: usize) -> u64;
 }
 
 /// One call through the box's C entry of that name.
@@ -98,4 +101,18 @@ pub fn probe(image: &[u8], buffer: &mut [u8]) -> u64 {
     // SAFETY: it may read the image, and read and write the buffer, which is lent to
     // it alone.
     unsafe { probe_restore(image.as_ptr(), image.len(), at, len) }
+}
+
+/// The list of an order on an image, by the box.
+pub fn list(order: Order, image: &[u8], list: &mut [u16]) -> u64 {
+    let (at, len) = (image.as_ptr(), image.len());
+    let (list, room) = (list.as_mut_ptr(), list.len());
+    // SAFETY: it may read the image, and read and write `room` numbers from `list`,
+    // which are lent to it alone.
+    unsafe {
+        match order {
+            Order::Steal => probe_steal_list(at, len, list, room),
+            Order::Fetch => probe_fetch_list(at, len, list, room),
+        }
+    }
 }

@@ -9,12 +9,12 @@
 //!   first; this is what everything else is held to.
 //! * [`quick`]: the same rules on flat arrays, the yardstick of the benchmarks.
 //! * `ffi` (feature `box`): the box itself, through its C entries, its header, and
-//!   Restore and Save by themselves.
+//!   Restore, Save and the two lists by themselves.
 //! * [`process`]: the program `quay` itself, as a process that gets a [`feed`].
 //! * [`scene`]: random valid states, random calls and random streams of lines,
 //!   from [`random`] dice.
 //! * [`cases`]: what a call meets that its answer does not tell.
-//! * [`trial`]: what holds an [`Entry`](call::Entry) or a
+//! * [`trial`]: what holds an [`Entry`](call::Entry), a [`Lister`](call::Lister) or a
 //!   [`Program`](feed::Program) to the model.
 //! * [`explain`]: a state as a picture and two tables, for people to read.
 

@@ -16,6 +16,7 @@ mod state;
 
 pub use answer::{Answer, Refusal};
 pub use entry::{entry, first_image};
+pub use lists::list;
 pub use older::{probe, upgrade_image};
 pub use orders::UseKey;
 pub use program::{follow, respond, run_program};

@@ -2,16 +2,19 @@
 //!
 //! This is the yardstick of the benchmarks: plain, good Rust without tricks. A
 //! decision walks every reader's look-ahead once into an array of use keys and
-//! then scans the pages. Nothing is allocated. Tests hold it to the model.
+//! then scans the pages; a list sorts them. Nothing is allocated. Tests hold it to the model.
 //!
-//! [`entry`] takes calls on an image, [`Lines`] takes the program's lines.
+//! [`entry`] takes calls on an image, [`list`] lists an order of one, [`Lines`] takes
+//! the program's lines.
 
 mod calls;
 mod decide;
 mod image;
 mod lines;
+mod lists;
 
 pub use lines::Lines;
+pub use lists::list;
 
 use crate::call::Call;
 use std::ops::Range;

@@ -1,6 +1,6 @@
-//! Trials: each holds an [`Entry`](crate::call::Entry) or a
-//! [`Program`](crate::feed::Program) to the model or to the paper, and counts in a
-//! [`Report`] what passed and what failed.
+//! Trials: each holds an [`Entry`](crate::call::Entry), a
+//! [`Lister`](crate::call::Lister) or a [`Program`](crate::feed::Program) to the model
+//! or to the paper, and counts in a [`Report`] what passed and what failed.
 
 pub mod calls;
 pub mod damage;
@@ -8,6 +8,7 @@ pub mod fewest;
 pub mod fields;
 pub mod first;
 mod hold;
+pub mod lists;
 pub mod named;
 pub mod older;
 mod options;
@@ -15,6 +16,7 @@ mod report;
 pub mod rules;
 pub mod soundings;
 pub mod streams;
+mod walks;
 
 pub use hold::{hold, CALL_OUTCOMES};
 pub use options::seed_and_rounds;

@@ -1,11 +1,13 @@
 //! The trials find faults: each of these stand-ins is wrong in one way only.
 
+#[path = "faults/lists.rs"]
+mod lists;
 #[path = "faults/measure.rs"]
 mod measure;
 #[path = "faults/older.rs"]
 mod older;
 
-use checker::call::{Call, Entry, First, Settings};
+use checker::call::{Call, Entry, First, Lister, Settings};
 use checker::cases::{CASES, MEASURE_CASES};
 use checker::feed::{Feed, Program};
 use checker::layout;
@@ -15,9 +17,11 @@ use checker::quick;
 use checker::random::Dice;
 use checker::trial::fields::{self, FIELD_OUTCOMES};
 use checker::trial::first::first_images;
+use checker::trial::lists::{built, random, LIST_OUTCOMES};
 use checker::trial::named::{self, Named};
 use checker::trial::older::{probed, upgraded, OLDER_OUTCOMES};
 use checker::trial::{calls, damage, fewest, rules, soundings, Report, CALL_OUTCOMES};
+use lists::LISTS;
 use measure::{marks_lost_by, older_taken, MEASURES};
 use older::{PROBES, UPGRADES};
 use std::collections::BTreeSet;
@@ -161,6 +165,18 @@ fn a_wrong_upgrade_is_found() {
 }
 
 #[test]
+fn a_wrong_list_or_report_is_found() {
+    for (name, by_chance, lister) in LISTS {
+        let fixed = [soundings::by_list, rules::by_list, built];
+        let is_found =
+            |trial: &fn(&mut Report, Lister)| failed(|report, _| trial(report, lister)) > 0;
+        assert!(fixed.iter().any(is_found), "{name}");
+        let found = found(|report, dice| random(report, lister, dice, 20));
+        assert_eq!(found, by_chance, "{name}");
+    }
+}
+
+#[test]
 fn a_run_past_the_last_pages_is_found() {
     let entry: Entry = |image, call| {
         if let (Call::Run { .. }, Some(mut state)) = (call, restored(image)) {
@@ -183,6 +199,7 @@ fn an_answer_never_met_is_found() {
         MEASURE_CASES,
         FIELD_OUTCOMES,
         OLDER_OUTCOMES,
+        LIST_OUTCOMES,
     ] {
         let unmet = failed(|report, dice| {
             calls::random_calls(report, quick::entry, dice, 1);

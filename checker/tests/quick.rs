@@ -1,10 +1,11 @@
-//! Quick against the model: equal numbers, equal images.
+//! Quick against the model: equal numbers, equal images, equal lists.
 
 use checker::cases::{CASES, MEASURE_CASES};
-use checker::quick::entry;
+use checker::quick::{entry, list};
 use checker::random::Dice;
 use checker::trial::fields::{self, FIELD_OUTCOMES};
-use checker::trial::{calls, damage, Report, CALL_OUTCOMES};
+use checker::trial::lists::{self, LIST_OUTCOMES};
+use checker::trial::{calls, damage, rules, soundings, Report, CALL_OUTCOMES};
 
 #[test]
 fn random_calls_at_bounds_and_beyond() {
@@ -19,5 +20,17 @@ fn random_calls_at_bounds_and_beyond() {
     let outcomes = [CALL_OUTCOMES, CASES, MEASURE_CASES, FIELD_OUTCOMES].concat();
     report.check_every_outcome_met(&outcomes);
     println!("{}", report.outcomes(&outcomes));
+    assert_eq!(report.failed(), 0);
+}
+
+#[test]
+fn lists_and_what_they_report() {
+    let (mut report, mut dice) = (Report::default(), Dice::new(24));
+    soundings::by_list(&mut report, list);
+    rules::by_list(&mut report, list);
+    lists::built(&mut report, list);
+    lists::random(&mut report, list, &mut dice, 3_000);
+    report.check_every_outcome_met(LIST_OUTCOMES);
+    println!("{}", report.outcomes(LIST_OUTCOMES));
     assert_eq!(report.failed(), 0);
 }

@@ -29,15 +29,19 @@ fn program_meets_the_listing() {
 }
 
 /// The model walks a look-ahead with a running count. The paper counts the
-/// pages from c + 1 to c + j − 1 anew for each j.
+/// pages from c + 1 to c + j − 1 anew for each j. The report is all their pages.
 #[test]
 fn look_ahead_is_the_definition() {
     let mut dice = Dice::new(1);
     for _ in 0..400 {
         let state = any_state(&mut dice);
+        let mut pages = 0;
         for reader in state.readers.values() {
-            assert_eq!(state.look_ahead_of(reader), by_definition(&state, reader));
+            let look_ahead = by_definition(&state, reader);
+            pages += look_ahead.len() as u64;
+            assert_eq!(state.look_ahead_of(reader), look_ahead);
         }
+        assert_eq!(state.pages_tested(), pages);
     }
 }
 

@@ -1,5 +1,5 @@
-//! Holds the box's C entries, the header's first image and upgrade, and Restore and
-//! Save by themselves to the model and to the papers.
+//! Holds the box's C entries, the header's first image and upgrade, and by themselves
+//! Restore, Save, Steal list and Fetch list to the model and to the papers.
 //!
 //!     QUAY_LIB=folder QUAY_PROBE=folder \
 //!         cargo run --release --features box --bin entries
@@ -9,11 +9,12 @@
 //! line is `entries: N passed, 0 failed`, or the exit status is not 0.
 
 use checker::cases::{CASES, MEASURE_CASES};
-use checker::ffi::{entry, first_image, probe, upgrade_image};
+use checker::ffi::{entry, first_image, list, probe, upgrade_image};
 use checker::model::run_program;
 use checker::random::Dice;
 use checker::trial::fields::{self, FIELD_OUTCOMES};
 use checker::trial::first::{first_images, FIRST_OUTCOMES};
+use checker::trial::lists::{self, LIST_OUTCOMES};
 use checker::trial::older::{self, OLDER_OUTCOMES};
 use checker::trial::{calls, damage, fewest, named, rules, seed_and_rounds, soundings};
 use checker::trial::{Report, CALL_OUTCOMES};
@@ -35,7 +36,11 @@ fn main() -> ExitCode {
     }
     let calls = [CALL_OUTCOMES, CASES, MEASURE_CASES].concat();
     let images = [FIELD_OUTCOMES, OLDER_OUTCOMES, FIRST_OUTCOMES].concat();
-    report.close("entries", "calls", &[calls, images].concat())
+    report.close(
+        "entries",
+        "calls",
+        &[&calls, &images, LIST_OUTCOMES].concat(),
+    )
 }
 
 /// What is the same for every seed.
@@ -43,6 +48,7 @@ fn fixed(report: &mut Report) {
     report.part("soundings and listing", |report| {
         soundings::by_model(report);
         soundings::by_entry(report, entry);
+        soundings::by_list(report, list);
         soundings::listing(report, run_program);
     });
     report.part("trials by name", |report| {
@@ -54,6 +60,10 @@ fn fixed(report: &mut Report) {
         rules::rules(report, entry);
         rules::by_probe(report, probe);
         rules::by_upgrade(report, upgrade_image, entry);
+        rules::by_list(report, list);
+    });
+    report.part("lists at their largest and about borders", |report| {
+        lists::built(report, list);
     });
 }
 
@@ -87,6 +97,9 @@ fn round(report: &mut Report, dice: &mut Dice) {
     });
     report.part("first images", |report| {
         first_images(report, first_image, entry, dice, 10_000);
+    });
+    report.part("lists and what they report", |report| {
+        lists::random(report, list, dice, 15_000);
     });
     report.part("fewest fetches of any schedule", |report| {
         let with_evictions = fewest::fewest(report, entry, dice, INSTANCES);

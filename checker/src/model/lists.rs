@@ -1,19 +1,36 @@
-//! The three calls that write into a lent list.
+//! The three calls that write into a lent list, and the number of two of them.
 
 use super::answer::Refusal;
 use super::state::{Page, State};
+use crate::call::Order;
+
+/// Restore of an image, then the list of an order, and "within the library" what
+/// making the order reports: 13, 12, or 4,294,967,296 + keys × 65,536 + pages
+/// tested. Gives the number and the list's numbers after it; a refusal leaves them.
+pub fn list(order: Order, image: &[u8], list: &[u16]) -> (u64, Vec<u16>) {
+    let (state, restored) = State::restore(image);
+    let mut after = list.to_vec();
+    let written = restored.and_then(|()| state.list(order, &mut after));
+    let number = match written {
+        Ok(count) => 4_294_967_296 + count as u64 * 65_536 + state.pages_tested(),
+        Err(refusal) => refusal.number(),
+    };
+    (number, after)
+}
 
 impl State {
     /// **Steal list**: the keys of the steal order. Returns their count.
     pub fn steal_list(&self, list: &mut [u16]) -> Result<usize, Refusal> {
-        let keys = keys_of(self.steal_order());
-        write(list, &keys)?;
-        Ok(keys.len())
+        self.list(Order::Steal, list)
     }
 
     /// **Fetch list**: the keys of the fetch order. Returns their count.
     pub fn fetch_list(&self, list: &mut [u16]) -> Result<usize, Refusal> {
-        let keys = keys_of(self.fetch_order());
+        self.list(Order::Fetch, list)
+    }
+
+    fn list(&self, order: Order, list: &mut [u16]) -> Result<usize, Refusal> {
+        let keys = keys_of(self.order(order));
         write(list, &keys)?;
         Ok(keys.len())
     }

@@ -1,6 +1,7 @@
-//! Use times and the two orders.
+//! Use times, the two orders, and what making one reports.
 
 use super::state::{Page, Reader, State};
+use crate::call::Order;
 use std::cmp::Reverse;
 use std::collections::BTreeMap;
 
@@ -66,9 +67,40 @@ impl State {
         keys
     }
 
-    /// "The steal order is all cached pages, each once, in three stretches".
+    /// What making an order reports: "how many pages its walks tested for being
+    /// cached: exactly the pages of the look-aheads, added over the attached
+    /// readers". A page counts once for each reader that has it.
+    pub fn pages_tested(&self) -> u64 {
+        let readers = self.readers.values();
+        let pages = readers.map(|reader| self.look_ahead_of(reader).len() as u64);
+        pages.sum()
+    }
+
+    /// The pages of an order.
+    pub fn order(&self, order: Order) -> Vec<Page> {
+        self.order_by(order, self.use_keys())
+    }
+
+    /// The pages of an order that goes by these use keys.
+    pub fn order_by(&self, order: Order, keys: BTreeMap<Page, UseKey>) -> Vec<Page> {
+        match order {
+            Order::Steal => self.steal_order_by(keys),
+            Order::Fetch => self.fetch_order_by(keys),
+        }
+    }
+
+    /// The steal order.
     pub fn steal_order(&self) -> Vec<Page> {
-        let keys = self.use_keys();
+        self.order(Order::Steal)
+    }
+
+    /// The fetch order.
+    pub fn fetch_order(&self) -> Vec<Page> {
+        self.order(Order::Fetch)
+    }
+
+    /// "The steal order is all cached pages, each once, in three stretches".
+    fn steal_order_by(&self, keys: BTreeMap<Page, UseKey>) -> Vec<Page> {
         let (mut past, mut far, mut near) = (Vec::new(), Vec::new(), Vec::new());
         for &page in &self.cached {
             if let Some(&key) = keys.get(&page) {
@@ -91,9 +123,8 @@ impl State {
 
     /// "The fetch order is the pages in a look-ahead that are neither cached
     /// nor in fetch, smaller use key first."
-    pub fn fetch_order(&self) -> Vec<Page> {
-        let mut order: Vec<(UseKey, Page)> = self
-            .use_keys()
+    fn fetch_order_by(&self, keys: BTreeMap<Page, UseKey>) -> Vec<Page> {
+        let mut order: Vec<(UseKey, Page)> = keys
             .into_iter()
             .filter(|(page, _)| !self.cached.contains(page) && !self.in_fetch.contains(page))
             .map(|(page, key)| (key, page))

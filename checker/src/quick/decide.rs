@@ -1,9 +1,10 @@
-//! The two decisions: the page to give up and the next page to fetch.
+//! The two decisions: the page to give up and the next page to fetch; and the walk
+//! that they, and the lists, go by.
 
 use super::{has, put_stretch, Flat, Reader, EMPTY, PAGES, SLOTS, WORDS};
 
 /// The use key of a page in no look-ahead.
-const NONE: u32 = u32::MAX;
+pub(super) const NONE: u32 = u32::MAX;
 
 impl Flat {
     /// The head of the steal order.
@@ -42,26 +43,30 @@ impl Flat {
     }
 
     /// Walks every reader's look-ahead once and leaves each page's smallest use
-    /// key.
-    fn walk(&self, use_keys: &mut [u32; PAGES]) {
+    /// key. Gives how many pages were tested for being cached.
+    pub(super) fn walk(&self, use_keys: &mut [u32; PAGES]) -> u64 {
+        let mut tested = 0;
         for (slot, reader) in self.readers.iter().enumerate() {
             if reader.condition != EMPTY {
                 let seat = (slot + SLOTS - self.turn) % SLOTS;
-                self.walk_ahead_of(reader, seat as u32, use_keys);
+                tested += self.walk_ahead_of(reader, seat as u32, use_keys);
             }
         }
+        tested
     }
 
-    /// Walks one look-ahead. A use key is time × 16 + seat distance; a time is
-    /// below 4,000,001, so the key fits.
-    fn walk_ahead_of(&self, reader: &Reader, seat: u32, use_keys: &mut [u32; PAGES]) {
+    /// Walks one look-ahead, and gives its pages. A use key is time × 16 + seat
+    /// distance; a time is below 4,000,001, so the key fits.
+    fn walk_ahead_of(&self, reader: &Reader, seat: u32, use_keys: &mut [u32; PAGES]) -> u64 {
         let most_missing = self.most_missing();
         let left = reader.last - reader.position;
         let reach = left.min(self.look_ahead / reader.pace) as usize;
         let first = reader.next();
+        let mut end = first + reach;
         let (mut time, mut missing) = (0, 0);
         for (key, smallest) in (first..).zip(&mut use_keys[first..first + reach]) {
             if missing >= most_missing {
+                end = key;
                 break;
             }
             time += reader.pace;
@@ -71,6 +76,7 @@ impl Flat {
                 time += self.fetch_time;
             }
         }
+        (end - first) as u64
     }
 
     /// m, the pages not cached that end a look-ahead. With T 0 none do.
@@ -80,7 +86,7 @@ impl Flat {
     }
 
     /// The pages that some reader still has before it.
-    fn pages_ahead(&self) -> [u64; WORDS] {
+    pub(super) fn pages_ahead(&self) -> [u64; WORDS] {
         let mut ahead = [0; WORDS];
         for reader in self.readers.iter().filter(|r| r.condition != EMPTY) {
             put_stretch(&mut ahead, reader.next()..reader.end());
@@ -91,7 +97,7 @@ impl Flat {
 
 /// A page's place in the steal order, the head highest: the stretch above, the
 /// order within it below.
-fn rank(key: usize, use_key: u32, is_ahead: bool) -> u64 {
+pub(super) fn rank(key: usize, use_key: u32, is_ahead: bool) -> u64 {
     const PAST: u64 = 2 << 32;
     const FAR: u64 = 1 << 32;
     if use_key != NONE {

@@ -34,6 +34,23 @@ fn above(size: u32, word: usize) -> u64 {
     u64::MAX.checked_shl(below).unwrap_or(0)
 }
 
+/// An older image with the last pages and marks that it stands for.
+fn filled_in(older: &[u8; MARKS]) -> [u8; END] {
+    let mut image = [0; END];
+    image[..MARKS].copy_from_slice(older);
+    for slot in 0..SLOTS {
+        let at = READERS + READER_BYTES * slot;
+        let (condition, file) = (older[at], usize::from(older[at + 1]));
+        let mark = MARKS + 2 * slot;
+        image.copy_within(at + 4..at + 6, mark);
+        if condition != EMPTY && file < FILES && u16_at(older, at + 6) == 0 {
+            let size = SIZES + 2 * file;
+            image.copy_within(size..size + 2, at + 6);
+        }
+    }
+    image
+}
+
 impl Flat {
     /// Nothing for an image that Restore refuses, and for an older one: "the C
     /// buffer use[s] the new length".
@@ -74,6 +91,14 @@ impl Flat {
             flat.readers[slot] = flat.reader_from(&image[at..at + READER_BYTES], mark)?;
         }
         Some(flat)
+    }
+
+    /// The same for an image of either length.
+    pub(super) fn restore_either(image: &[u8]) -> Option<Flat> {
+        match <&[u8; MARKS]>::try_from(image) {
+            Ok(older) => Flat::restore(&filled_in(older)),
+            Err(_) => Flat::restore(image),
+        }
     }
 
     /// Counts the cached pages, if the maps may stand beside each other.

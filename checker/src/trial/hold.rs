@@ -20,9 +20,10 @@ pub const CALL_OUTCOMES: &Outcomes = &[
     ("Measure", &["O", "E,2", "E,6", "E,16", "E,13"]),
 ];
 
-/// Bytes around the buffer that no call may touch.
+/// Bytes around the buffer, or numbers around a list, that no call may touch.
 const GUARD: usize = 96;
 const GUARD_BYTE: u8 = 0xA5;
+const GUARD_NUMBER: u16 = 0xA5A5;
 
 /// Makes the call on a copy of the image. Returns number and image by the model.
 pub fn hold(report: &mut Report, entry: Entry, image: &[u8], call: Call) -> (u64, Vec<u8>) {
@@ -48,37 +49,59 @@ pub fn hold(report: &mut Report, entry: Entry, image: &[u8], call: Call) -> (u64
     expected
 }
 
-/// Acts on a copy of the bytes, with guard bytes on both sides and at every
-/// alignment in turn. Number and bytes must be the expected ones, and the guards
-/// must stand.
+/// Acts on a copy of the bytes. Number and bytes must be the expected ones.
 pub(super) fn hold_buffer(
     report: &mut Report,
     bytes: &[u8],
-    (expected_number, expected_bytes): &(u64, Vec<u8>),
+    expected: &(u64, Vec<u8>),
     act: impl FnOnce(&mut [u8]) -> u64,
     what: impl FnOnce() -> String,
 ) {
+    hold_lent(report, GUARD_BYTE, bytes, expected, act, what);
+}
+
+/// The same for a list of 16-bit numbers.
+pub(super) fn hold_list(
+    report: &mut Report,
+    list: &[u16],
+    expected: &(u64, Vec<u16>),
+    act: impl FnOnce(&mut [u16]) -> u64,
+    what: impl FnOnce() -> String,
+) {
+    hold_lent(report, GUARD_NUMBER, list, expected, act, what);
+}
+
+/// Acts on a copy of what is lent, with guards on both sides and at every alignment
+/// in turn. Number and copy must be the expected ones, and the guards must stand.
+fn hold_lent<T: Copy + PartialEq>(
+    report: &mut Report,
+    guard: T,
+    lent: &[T],
+    (expected_number, expected_copy): &(u64, Vec<T>),
+    act: impl FnOnce(&mut [T]) -> u64,
+    what: impl FnOnce() -> String,
+) {
     let shift = report.compared() as usize % 8;
-    let inside = GUARD + shift..GUARD + shift + bytes.len();
-    let mut memory = vec![GUARD_BYTE; inside.end + GUARD];
-    memory[inside.clone()].copy_from_slice(bytes);
+    let inside = GUARD + shift..GUARD + shift + lent.len();
+    let mut memory = vec![guard; inside.end + GUARD];
+    memory[inside.clone()].copy_from_slice(lent);
     let number = act(&mut memory[inside.clone()]);
 
     report.count(1);
-    let wrong_byte = (0..bytes.len()).find(|&at| memory[inside.start + at] != expected_bytes[at]);
-    let guarded = guards_stand(&memory, &inside);
-    let good = number == *expected_number && wrong_byte.is_none() && guarded;
+    let wrong = (0..lent.len()).find(|&at| memory[inside.start + at] != expected_copy[at]);
+    let guarded = guards_stand(&memory, guard, &inside);
+    let good = number == *expected_number && wrong.is_none() && guarded;
     report.check(good, || {
         format!(
             "{}: {number}, the model {expected_number}; \
-             first wrong byte of the buffer: {wrong_byte:?}; guards stand: {guarded}",
+             first wrong place of the buffer: {wrong:?}; guards stand: {guarded}",
             what()
         )
     });
 }
 
-fn guards_stand(memory: &[u8], inside: &Range<usize>) -> bool {
-    let stands = |guard: &[u8]| guard.iter().all(|&byte| byte == GUARD_BYTE);
+fn guards_stand<T: PartialEq>(memory: &[T], guard: T, inside: &Range<usize>) -> bool {
+    let stands = |around: &[T]| around.iter().all(|number| *number == guard);
     stands(&memory[..inside.start]) && stands(&memory[inside.end..])
 }
 

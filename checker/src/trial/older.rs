@@ -159,7 +159,7 @@ pub fn older_image(dice: &mut Dice, state: &State) -> Vec<u8> {
 }
 
 /// An image of either length, sound or damaged, random bytes, or another length.
-fn any_image(dice: &mut Dice) -> Vec<u8> {
+pub(super) fn any_image(dice: &mut Dice) -> Vec<u8> {
     let length = dice.pick(&[IMAGE_BYTES, OLDER_IMAGE_BYTES, OLDER_IMAGE_BYTES]);
     let mut image = sound_image(dice, length);
     match dice.below(8) {

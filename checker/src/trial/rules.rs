@@ -2,9 +2,10 @@
 //!
 //! It changes images byte by byte, and so tries the model's reading of them too.
 
+use super::lists::hold_list;
 use super::older::{hold_probe, hold_upgrade};
 use super::{hold, Report};
-use crate::call::{Call, Entry, Older, Probe, Upgrade};
+use crate::call::{Call, Entry, Lister, Older, Order, Probe, Upgrade};
 use crate::layout::{
     CACHED, FETCH_TIME, FOUR_ZEROS, FRAMES, IN_FETCH, LAST, LOOK_AHEAD, MARKS, READERS,
     READER_BYTES, SIZES, TURN, ZERO_BYTE,
@@ -33,23 +34,42 @@ pub fn rules(report: &mut Report, entry: Entry) {
     }
 }
 
-/// The same by Restore itself, in either length. In 2,208 bytes there are no marks,
-/// and a last page of 0 is the size.
+/// The same by Restore itself, in either length.
 pub fn by_probe(report: &mut Report, probe: Probe) {
-    for (length, broken, unbroken) in [
-        (IMAGE_BYTES, all_broken(), all_unbroken()),
-        (OLDER_IMAGE_BYTES, broken(), older_unbroken()),
-    ] {
-        for (rules, refused) in [(broken, true), (unbroken, false)] {
-            for (rule, changes) in rules {
-                let image = &changed(&changes)[..length];
-                let number = hold_probe(report, probe, image, &[7; IMAGE_BYTES + 1]);
-                report.check((number == 13) == refused, || {
-                    format!("{rule} {changes:?}, {length} bytes: {number}")
-                });
-            }
+    for (rule, image, refused) in in_both_lengths() {
+        let number = hold_probe(report, probe, &image, &[7; IMAGE_BYTES + 1]);
+        report.check((number == 13) == refused, || format!("{rule}: {number}"));
+    }
+}
+
+/// The same by both lists, in either length.
+pub fn by_list(report: &mut Report, lister: Lister) {
+    for (rule, image, refused) in in_both_lengths() {
+        for order in Order::BOTH {
+            let (number, _) = hold_list(report, lister, order, &image, &[7; 40]);
+            report.check((number == 13) == refused, || format!("{rule}: {number}"));
         }
     }
+}
+
+/// Every rule with the image that tries it, and whether this is refused. In 2,208
+/// bytes there are no marks, and a last page of 0 is the size.
+fn in_both_lengths() -> Vec<(String, Vec<u8>, bool)> {
+    let mut images = Vec::new();
+    for (length, refused, rules) in [
+        (IMAGE_BYTES, true, all_broken()),
+        (IMAGE_BYTES, false, all_unbroken()),
+        (OLDER_IMAGE_BYTES, true, broken()),
+        (OLDER_IMAGE_BYTES, false, older_unbroken()),
+    ] {
+        for (rule, changes) in rules {
+            let mut image = changed(&changes);
+            image.truncate(length);
+            let rule = format!("{rule} {changes:?}, {length} bytes");
+            images.push((rule, image, refused));
+        }
+    }
+    images
 }
 
 /// The same by the header's upgrade of 2,208 bytes and a call on what comes of it.

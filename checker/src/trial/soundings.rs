@@ -1,14 +1,16 @@
 //! The paper's "Soundings to check by (marked 1 to 12)" and its listing, and one
 //! more sounding, of a reader with a last page.
 
-use super::{hold, Report};
-use crate::call::{Call, Entry};
+use super::{hold, lists, Report};
+use crate::call::{Call, Entry, Lister, Order};
 use crate::model::{Answer, Page, Reader, State};
 
 /// One sounding: a state and what the paper says of it.
 struct Sounding {
     mark: &'static str,
     state: State,
+    /// How many pages are in look-ahead, counted by hand.
+    tested: u64,
     says: Says,
 }
 
@@ -80,38 +82,55 @@ fn all() -> Vec<Sounding> {
 
     let mut two_files = unread(&[five_of(0), five_of(1)]);
     two_files.sizes[1] = 16;
+    let higher_first = Says::Steal(vec![five_of(1), five_of(0)]);
     let mut larger = unread(&pages(&[64, 65]));
     larger.sizes[0] = 1_024;
 
     let table = [
-        ("1", usual(20), steal(&[3, 2, 1, 7, 5])),
-        ("2", usual(20), fetch(&[4, 6])),
-        ("2", usual(20), times(&[(4, 10), (6, 50)])),
-        ("3", usual(40), steal(&[3, 2, 1, 7, 5])),
-        ("3", usual(40), fetch(&[4])),
-        ("4", usual(41), fetch(&[])),
-        ("5", usual(0), steal(&[3, 2, 1, 7, 5])),
-        ("5", usual(0), fetch(&[4, 6])),
-        ("6", seat(usual(0), 0, 3, 40), fetch(&[4])),
-        ("6", seat(usual(0), 0, 3, 41), fetch(&[])),
-        ("7", seat(usual(0), 1, 6, 10), steal(&[3, 2, 1, 5, 7])),
-        ("8", two_near(0), steal(&[7, 5])),
-        ("8", two_near(1), steal(&[5, 7])),
-        ("9", unread(&pages(&[2, 5])), steal(&[5, 2])),
-        ("10", two_files, Says::Steal(vec![five_of(1), five_of(0)])),
-        ("11", larger, Says::Clusters(vec![64, 65])),
-        ("12", unread(&[]), Says::Clusters(vec![])),
-        ("12", unread(&[]), steal(&[])),
-        ("A.1", shortened(), steal(&[7, 3, 2, 1, 5])),
-        ("A.1", shortened(), fetch(&[4, 6])),
+        ("1", usual(20), 3, steal(&[3, 2, 1, 7, 5])),
+        ("2", usual(20), 3, fetch(&[4, 6])),
+        ("2", usual(20), 3, times(&[(4, 10), (6, 50)])),
+        ("3", usual(40), 1, steal(&[3, 2, 1, 7, 5])),
+        ("3", usual(40), 1, fetch(&[4])),
+        ("4", usual(41), 0, fetch(&[])),
+        ("5", usual(0), 4, steal(&[3, 2, 1, 7, 5])),
+        ("5", usual(0), 4, fetch(&[4, 6])),
+        ("6", seat(usual(0), 0, 3, 40), 1, fetch(&[4])),
+        ("6", seat(usual(0), 0, 3, 41), 0, fetch(&[])),
+        ("7", seat(usual(0), 1, 6, 10), 8, steal(&[3, 2, 1, 5, 7])),
+        ("8", two_near(0), 8, steal(&[7, 5])),
+        ("8", two_near(1), 8, steal(&[5, 7])),
+        ("9", unread(&pages(&[2, 5])), 0, steal(&[5, 2])),
+        ("10", two_files, 0, higher_first),
+        ("11", larger, 0, Says::Clusters(vec![64, 65])),
+        ("12", unread(&[]), 0, Says::Clusters(vec![])),
+        ("12", unread(&[]), 0, steal(&[])),
+        ("A.1", shortened(), 3, steal(&[7, 3, 2, 1, 5])),
+        ("A.1", shortened(), 3, fetch(&[4, 6])),
     ];
-    let sounding = |(mark, state, says)| Sounding { mark, state, says };
-    table.into_iter().map(sounding).collect()
+    table.into_iter().map(Sounding::of).collect()
+}
+
+impl Sounding {
+    fn of((mark, state, tested, says): (&'static str, State, u64, Says)) -> Sounding {
+        Sounding {
+            mark,
+            state,
+            tested,
+            says,
+        }
+    }
 }
 
 /// Holds the model to every sounding.
 pub fn by_model(report: &mut Report) {
-    for Sounding { mark, state, says } in all() {
+    for Sounding {
+        mark,
+        state,
+        tested,
+        says,
+    } in all()
+    {
         let good = match says {
             Says::Steal(order) => state.steal_order() == order,
             Says::Fetch(order) => state.fetch_order() == order,
@@ -125,6 +144,7 @@ pub fn by_model(report: &mut Report) {
                 count == Ok(numbers.len() / 2) && list[..numbers.len()] == numbers
             }
         };
+        let good = good && state.pages_tested() == tested;
         report.check(good, || format!("sounding {mark}, by the model"));
     }
 }
@@ -132,7 +152,10 @@ pub fn by_model(report: &mut Report) {
 /// Holds an entry to the heads of the soundings' orders: Steal and Prefetch
 /// answer them.
 pub fn by_entry(report: &mut Report, entry: Entry) {
-    for Sounding { mark, state, says } in all() {
+    for Sounding {
+        mark, state, says, ..
+    } in all()
+    {
         let (call, answer) = match says {
             Says::Steal(order) => (Call::Steal, order.first().copied().map(Answer::Stolen)),
             Says::Fetch(order) => (Call::Prefetch, order.first().copied().map(Answer::Fetch)),
@@ -142,6 +165,31 @@ pub fn by_entry(report: &mut Report, entry: Entry) {
         let (number, _) = hold(report, entry, &state.image(), call);
         report.check(number == expected, || {
             format!("sounding {mark}: {call:?} answered {number}, not {expected}")
+        });
+    }
+}
+
+/// Holds both lists to the soundings' orders, whole, and to what they report.
+pub fn by_list(report: &mut Report, lister: Lister) {
+    for Sounding {
+        mark,
+        state,
+        tested,
+        says,
+    } in all()
+    {
+        lists::hold_state(report, lister, &state);
+        let (order, pages) = match says {
+            Says::Steal(pages) => (Order::Steal, pages),
+            Says::Fetch(pages) => (Order::Fetch, pages),
+            Says::Times(_) | Says::Clusters(_) => continue,
+        };
+        let (image, room) = (state.image(), vec![0; pages.len()]);
+        let (number, list) = lists::hold_list(report, lister, order, &image, &room);
+        let keys = pages.iter().map(|page| page.key() as u16);
+        let expected = 4_294_967_296 + pages.len() as u64 * 65_536 + tested;
+        report.check(number == expected && keys.eq(list), || {
+            format!("sounding {mark}: {} has {number}", order.name())
         });
     }
 }

@@ -49,7 +49,7 @@ put-is : (words : List ℕ) (k v : ℕ) → putBit words k v ≡ set words (k / 
 unfolding putBit bit
 put-is words k v = refl
 
--- what `has_bit` looks at
+-- the bit of a key, as a word shifted down has it
 pub and-is : (words : List ℕ) (k : ℕ) → bitAnd (getD words (k / 64) 0 / 2 ^ (k % 64)) 1 ≡ bit words k
 unfolding bit
 and-is words k = and-mask (getD words (k / 64) 0 / 2 ^ (k % 64)) 1

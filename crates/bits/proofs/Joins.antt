@@ -2,12 +2,12 @@
 use mathlib.Core.Path.{_≡_, refl, sym, ap, _∙_}
 use mathlib.Core.Bool.{_&&_}
 use mathlib.Core.List.{List, [], _∷_}
-use Prim.Native.Nat.{ℕ, zero, suc, _/_, _%_, _^_, _≤_}
-use native.Mathlib.Omega.{arith}
-use lib.Bits.{bitOr, or-zero-l, or-zero-r, or-shr, or-mod}
+use Prim.Native.Nat.{ℕ, zero, suc, _/_, _%_, _≤_}
+use lib.Bits.{bitOr, or-zero-l, or-zero-r}
 use lib.Dec.{eqb}
 use lib.ListN.{getD}
 use Rattle.bits.specs.Map.{digit, bit}
+use Rattle.bits.proofs.Words.{by-digits, digit-or}
 use Rattle.bits.proofs.Bits.{bit-le}
 
 -- two maps joined, word by word
@@ -23,21 +23,12 @@ joined-at (x ∷ xs) [] i = sym (or-zero-r (getD (x ∷ xs) i 0))
 joined-at (x ∷ xs) (y ∷ ys) zero = refl
 joined-at (x ∷ xs) (y ∷ ys) (suc i) = joined-at xs ys i
 
-digit-or : (x y i : ℕ) → digit (bitOr x y) i ≡ bitOr (digit x i) (digit y i)
-digit-or x y i = ap (λ (w : ℕ). w % 2) (or-shr x y i) ∙ or-mod (x / 2 ^ i) (y / 2 ^ i) 1
-
 bit-joined : (xs ys : List ℕ) (k : ℕ) → bit (joined xs ys) k ≡ bitOr (bit xs k) (bit ys k)
 unfolding bit
 bit-joined xs ys k = ap (λ (w : ℕ). digit w (k % 64)) (joined-at xs ys (k / 64)) ∙ digit-or (getD xs (k / 64) 0) (getD ys (k / 64) 0) (k % 64)
 
 clear-both : (a b : ℕ) → a ≤ 1 → b ≤ 1 → eqb (bitOr a b) 0 ≡ (eqb a 0 && eqb b 0)
-clear-both zero zero p q = refl
-clear-both zero (suc zero) p q = refl
-clear-both (suc zero) zero p q = refl
-clear-both (suc zero) (suc zero) p q = refl
-clear-both (suc (suc a)) b p q = absurd (omega arith)
-clear-both zero (suc (suc b)) p q = absurd (omega arith)
-clear-both (suc zero) (suc (suc b)) p q = absurd (omega arith)
+clear-both = by-digits (λ a b. eqb (bitOr a b) 0 ≡ (eqb a 0 && eqb b 0)) refl refl refl refl
 
 -- a bit is 0 in the joined map where it is 0 in both
 pub joined-clear : (xs ys : List ℕ) (k : ℕ) → eqb (bit (joined xs ys) k) 0 ≡ (eqb (bit xs k) 0 && eqb (bit ys k) 0)

@@ -4,7 +4,8 @@ use Prim.Native.Nat.{ℕ, zero, suc, _+_, _-_, _*_, _/_, _%_, _^_, _≤_, _<_}
 use native.Mathlib.Nat.{pow-suc, one-mul, zero-mul, div-eq-of-lt, lt-of-lt-of-le}
 use native.Mathlib.Numerals.{one-add}
 use native.Mathlib.Omega.{arith}
-use lib.Bits.{bitAnd, bitOr, bitXor, and-high, and-le-l, and-zero-r, or-add-and, xor-add-and, shifted-half, shifted-even}
+use lib.Bits.{bitAnd, bitOr, bitXor, and-high, and-le-l, and-zero-r, and-shr, and-mod, or-add-and, or-shr, or-mod, xor-add-and, xor-shr, xor-mod}
+use lib.Bits.{shifted-half, shifted-even}
 use lib.Count.{under, trailingZeros, leadingZeros, leading-length}
 use lib.Dec.{lit<}
 use lib.Pow.{pow-add, pow-mono, field, mod-mod-pow, shl-exact, shl-shr, shr-shr}
@@ -29,6 +30,28 @@ digit-not (suc n) w zero h p = rw pow-suc (omega (arith, pow-suc 2 n))
 digit-not (suc n) w (suc i) h p =
     let e : (2 ^ suc n - 1 - w) / 2 ≡ 2 ^ n - 1 - w / 2 = rw pow-suc (omega (arith, pow-suc 2 n)) in
     rw (digit-step (2 ^ suc n - 1 - w) i, digit-step w i, e) (digit-not n (w / 2) i (omega (arith, pow-suc 2 n)) (omega arith))
+
+-- ---- two words, digit by digit
+
+-- the digits of `x | y`
+pub digit-or : (x y i : ℕ) → digit (bitOr x y) i ≡ bitOr (digit x i) (digit y i)
+digit-or x y i = ap (λ (w : ℕ). w % 2) (or-shr x y i) ∙ or-mod (x / 2 ^ i) (y / 2 ^ i) 1
+
+-- the digits of `x ^ (x & y)`
+pub digit-without : (x y i : ℕ) → digit (bitXor x (bitAnd x y)) i ≡ bitXor (digit x i) (bitAnd (digit x i) (digit y i))
+digit-without x y i =
+    rw (xor-shr x (bitAnd x y) i, and-shr x y i) (
+    xor-mod (x / 2 ^ i) (bitAnd (x / 2 ^ i) (y / 2 ^ i)) 1 ∙ ap (bitXor (digit x i)) (and-mod (x / 2 ^ i) (y / 2 ^ i) 1))
+
+-- a law of two digits, shown for each two
+pub by-digits : (P : ℕ → ℕ → Type 0) → P 0 0 → P 0 1 → P 1 0 → P 1 1 → (a b : ℕ) → a ≤ 1 → b ≤ 1 → P a b
+by-digits P s t u v zero zero p q = s
+by-digits P s t u v zero (suc zero) p q = t
+by-digits P s t u v (suc zero) zero p q = u
+by-digits P s t u v (suc zero) (suc zero) p q = v
+by-digits P s t u v (suc (suc a)) b p q = let z : ⊥ = omega arith in absurd z
+by-digits P s t u v zero (suc (suc b)) p q = let z : ⊥ = omega arith in absurd z
+by-digits P s t u v (suc zero) (suc (suc b)) p q = let z : ⊥ = omega arith in absurd z
 
 -- ---- shifts to the left
 

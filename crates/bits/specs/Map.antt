@@ -1,9 +1,9 @@
 -- A page map: a page's key is file × 1,024 + page - 1, and its bit is digit key % 64 of word key / 64.
 use mathlib.Core.List.{List}
-use mathlib.Core.Bool.{Bool, cond}
+use mathlib.Core.Bool.{Bool, cond, _&&_}
 use Prim.Native.Nat.{ℕ, zero, suc, _+_, _-_, _*_, _/_, _%_, _^_}
 use lib.ListN.{getD, set}
-use lib.Dec.{eqb}
+use lib.Dec.{eqb, leb, ltb}
 
 -- digit i of the word w, 0 or 1
 abbrev pub digit : ℕ → ℕ → ℕ
@@ -16,6 +16,10 @@ bit words k = digit (getD words (k / 64) 0) (k % 64)
 -- the map has the page
 abbrev pub on : List ℕ → ℕ → Bool
 on words k = eqb (bit words k) 1
+
+-- k is one of the n keys from a on
+abbrev pub oneOf : ℕ → ℕ → ℕ → Bool
+oneOf a n k = leb a k && ltb k (a + n)
 
 -- the map with v, 0 or 1, for the bit of key k
 unfoldable pub putBit : List ℕ → ℕ → ℕ → List ℕ

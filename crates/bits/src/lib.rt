@@ -1,18 +1,27 @@
 // A map of pages: one bit a page in 64-bit words. Bits are counted by ones of words, and found by zeros of words.
 
 ghost use mathlib.Core.Path.{_≡_};
+ghost use mathlib.Core.Bool.{_&&_, _||_, not};
 ghost use mathlib.Core.List.{[], _∷_};
-ghost use Prim.Native.Nat.{_+_, _-_, _*_, _/_, _<_, _≤_, _%_};
-ghost use lib.ListN.{replicate};
+ghost use Prim.Native.Nat.{ℕ, _+_, _-_, _*_, _/_, _<_, _≤_, _%_};
+ghost use lib.ListN.{length, replicate};
 ghost use lib.Dec.{eqb};
-ghost use Rattle.bits.specs.Map.{bit, putBit, ones, nextBit, lastBit};
+ghost use Rattle.bits.specs.Map.{digit, bit, on, oneOf, putBit, ones, nextBit, lastBit};
+
+// Is digit i of the word set?
+pub fn has_digit(w: u64, i: usize) -> bool
+    requires { ⌜ i < 64 ⌝ }
+    ensures { λ r. ⌜ r ≡ eqb (digit w i) 1 ⌝ }
+{
+    (w >> i) & 1 == 1
+}
 
 // Is the bit of `key` set?
 pub fn has_bit(words: &[u64; 128], key: usize) -> bool
     requires { ⌜ key < 8192 ⌝ }
     ensures { λ r. ⌜ r ≡ eqb (bit (now (words .entry)) key) 1 ⌝ }
 {
-    (words[key / 64] >> (key % 64)) & 1 == 1
+    has_digit(words[key / 64], key % 64)
 }
 
 // Sets the bit of `key`.
@@ -192,4 +201,51 @@ pub fn clear_all(words: &mut [u64; 128])
     ensures { λ _. ⌜ now (words .exit) ≡ replicate 128 0 ⌝ }
 {
     *words = [0u64; 128];
+}
+
+// The word whose n digits from digit s on are set, and no other.
+fn mask(s: usize, n: usize) -> u64
+    requires { ⌜ (0 < n) × (s + n ≤ 64) ⌝ }
+    ensures { λ r. ⌜ ((i : ℕ) → eqb (digit r i) 1 ≡ oneOf s n i) ⌝ }
+{
+    (!0u64 >> (64 - n)) << s
+}
+
+// Sets the n bits from key `from` on, where they are of one word. The map is lent as a slice, whose length is told.
+fn set_part(words: &mut [u64], from: usize, n: usize)
+    requires { ⌜ (from / 64 < length (now words)) × (0 < n) × (from % 64 + n ≤ 64) ⌝ }
+    ensures { λ _. ⌜ ((k : ℕ) → on (now (words .exit)) k ≡ (oneOf from n k || on (now (words .entry)) k)) ⌝ }
+{
+    let w = words[from / 64];
+    words[from / 64] = w | mask(from % 64, n);
+}
+
+// Sets the n bits from key `from` on: a part of the first word, whole words, a part of the last.
+pub fn set_bits(words: &mut [u64; 128], from: usize, n: usize)
+    requires { ⌜ from + n ≤ 8192 ⌝ }
+    ensures { λ _. ⌜ ((k : ℕ) → on (now (words .exit)) k ≡ (oneOf from n k || on (now (words .entry)) k)) ⌝ }
+{
+    let end = from + n;
+    let mut at = from;
+    while at < end {
+        let mut m = 64 - at % 64;
+        if end - at < m {
+            m = end - at;
+        }
+        set_part(words, at, m);
+        at += m;
+    }
+}
+
+// Clears the bits that the other map has. The words are lent as a slice, whose length is told.
+pub fn clear_those(words: &mut [u64; 128], other: &[u64; 128])
+    ensures { λ _. ⌜ ((k : ℕ) → on (now (words .exit)) k ≡ (on (now (words .entry)) k && not (on (now (other .entry)) k))) ⌝ }
+{
+    let ws = &mut words[..];
+    let mut i = 0;
+    while i < 128 {
+        let w = ws[i];
+        ws[i] = w ^ (w & other[i]);
+        i += 1;
+    }
 }

@@ -14,8 +14,6 @@ use Rattle.rules.specs.Entries.{letter, carriedOut}
 use Rattle.rules.specs.Listings.{Written, listed}
 use Rattle.rules.specs.declared.State.{State}
 use Rattle.rules.specs.declared.Reply.{Reply}
-use Rattle.rules.specs.declared.Listing.{Listing}
-use Rattle.rules.specs.declared.Listing.the-variants.{Count}
 use Rattle.rules.specs.declared.Answer.{Answer}
 use Rattle.rules.specs.declared.Answer.the-variants.{Refused, Done, Hit, Wait, Fetch, End, Nothing, Stolen, Arrived, Replaced, Ran}
 use Rattle.rules.proofs.Answer.{the-type}
@@ -107,21 +105,21 @@ module _ (s : State) (r : Reply) (before after : List ℕ) (a : Answered) where
 -- ---- lists
 
 -- what was written into a list that is long enough
-pub record Filled (numbers : List ℕ) (count : ℕ) (r : Listing) (after : List ℕ) : Type 0 where
-  pub answer : r ≡ Count count
+pub record Filled {A : Type 0} (numbers : List ℕ) (done r : A) (after : List ℕ) : Type 0 where
+  pub answer : r ≡ done
   pub written : take (length numbers) after ≡ numbers
   pub room : length numbers ≤ length after
 
-pub filled : (numbers : List ℕ) (count : ℕ) (lent : List ℕ) (r : Listing) (after : List ℕ)
-    → _≡_ {A = Written} (record { answer = r; list = after }) (listed numbers count lent)
-    → length numbers ≤ length lent → Filled numbers count r after
+pub filled : {A : Type 0} (numbers : List ℕ) (done short : A) (lent : List ℕ) (r : A) (after : List ℕ)
+    → _≡_ {A = Written A} (record { answer = r; list = after }) (listed done short numbers lent)
+    → length numbers ≤ length lent → Filled numbers done r after
 unfolding listed
-filled numbers count lent r after e h =
-    let f : _≡_ {A = Written} (record { answer = r; list = after }) (record { answer = Count count; list = numbers ++ drop (length numbers) lent })
+filled {A} numbers done short lent r after e h =
+    let f : _≡_ {A = Written A} (record { answer = r; list = after }) (record { answer = done; list = numbers ++ drop (length numbers) lent })
     = rw (le-ltb (length lent) (length numbers) h) at e in
-    let l : after ≡ numbers ++ drop (length numbers) lent = ap (λ (w : Written). w .list) f in
+    let l : after ≡ numbers ++ drop (length numbers) lent = ap (λ (w : Written A). w .list) f in
     record {
-      answer = ap (λ (w : Written). w .answer) f;
+      answer = ap (λ (w : Written A). w .answer) f;
       written = ap (take (length numbers)) l ∙ take-at numbers _ _ refl;
       room = omega (arith, ap length l, length-append numbers (drop (length numbers) lent));
     }

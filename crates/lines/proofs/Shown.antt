@@ -6,14 +6,18 @@ use mathlib.Core.List.{List}
 use native.Mathlib.Omega.{arith}
 use lib.ListN.{length, take}
 use Rattle.rules.specs.Pages.{clusters}
+use Rattle.rules.specs.UseTimes.{tested}
 use Rattle.rules.specs.Orders.{stealOrder, fetchOrder}
 use Rattle.rules.specs.Valid.{Valid}
 use Rattle.rules.specs.Calls.{noFile, refused}
-use Rattle.rules.specs.Listings.{countIn, Written, listed, stealListOf, fetchListOf, clustersOf}
+use Rattle.rules.specs.Listings.{countIn, keysIn, Written, orderListed, stealListOf, fetchListOf, clustersOf}
 use Rattle.rules.specs.Lines.{orderLine, clustersLine, told}
 use Rattle.rules.specs.declared.State.{State}
 use Rattle.rules.specs.declared.Listing.{Listing}
 use Rattle.rules.specs.declared.Listing.the-variants.{Count, Refused}
+use Rattle.rules.specs.declared.Ordered.{Ordered}
+use Rattle.rules.specs.declared.Ordered.the-variants.{Keys}
+use Rattle.rules.specs.declared.Ordered.the-variants as ordered
 use Rattle.text.proofs.Pieces.{by-test}
 use Rattle.lists.proofs.Stretches.{clusters-low}
 use Rattle.lines.specs.Responses.{orderOf, Front, clustersShown}
@@ -21,39 +25,43 @@ use Rattle.lines.proofs.Bounds.{order-length, clusters-length, steal-fe
 use Rattle.lines.proofs.Pairs.{clusters-even}
 use Rattle.lines.proofs.Replies.{Filled, filled}
 
-front : (numbers list : List ℕ) (n count : ℕ) (r : Listing) → n ≡ length numbers → Filled numbers count r list → Front numbers list n
-front numbers list n count r e f = record { room = omega (arith, f .room); is = rw e (f .written) }
+front : {A : Type 0} (numbers list : List ℕ) (n : ℕ) (done r : A) → n ≡ length numbers → Filled numbers done r list → Front numbers list n
+front numbers list n done r e f = record { room = omega (arith, f .room); is = rw e (f .written) }
 
 -- an order that was written, and its length counted
-order-front : (order lent list : List ℕ) (n : ℕ) (r : Listing) → n ≡ countIn r
-    → _≡_ {A = Written} (record { answer = r; list = list }) (listed order (length order) lent)
+order-front : (pages : ℕ) (order lent list : List ℕ) (n : ℕ) (r : Ordered) → n ≡ keysIn r
+    → _≡_ {A = Written Ordered} (record { answer = r; list = list }) (orderListed pages order lent)
     → length order ≤ length lent → Front order list n
-order-front order lent list n r e w h =
-    let f = filled order (length order) lent r list w h in
-    front order list n (length order) r (e ∙ ap countIn (f .answer)) f
+unfolding orderListed
+order-front pages order lent list n r e w h =
+    let done : Ordered = Keys (length order) pages in
+    let f = filled order done (ordered.Refused 12) lent r list w h in
+    front order list n done r (e ∙ ap keysIn (f .answer)) f
 
-module _ (s : State) (v : Valid s) (lent list : List ℕ) (r : Listing) where
+module _ (s : State) (v : Valid s) (lent list : List ℕ) (r : Ordered) where
   -- the steal list
-  pub steal-front : (n : ℕ) → n ≡ countIn r → _≡_ {A = Written} (record { answer = r; list = list }) (stealListOf s lent) → 8192 ≤ length lent
+  pub steal-front : (n : ℕ) → n ≡ keysIn r → _≡_ {A = Written Ordered} (record { answer = r; list = list }) (stealListOf s lent) → 8192 ≤ length lent
       → Front (stealOrder s) list n
   unfolding stealListOf
-  steal-front n e l h = order-front (stealOrder s) lent list n r e l (omega (arith, steal-few s v))
+  steal-front n e l h = order-front (tested s) (stealOrder s) lent list n r e l (omega (arith, steal-few s v))
 
   -- the fetch list
-  pub fetch-front : (n : ℕ) → n ≡ countIn r → _≡_ {A = Written} (record { answer = r; list = list }) (fetchListOf s lent) → 8192 ≤ length lent
+  pub fetch-front : (n : ℕ) → n ≡ keysIn r → _≡_ {A = Written Ordered} (record { answer = r; list = list }) (fetchListOf s lent) → 8192 ≤ length lent
       → Front (fetchOrder s) list n
   unfolding fetchListOf
-  fetch-front n e l h = order-front (fetchOrder s) lent list n r e l (omega (arith, fetch-few s v))
+  fetch-front n e l h = order-front (tested s) (fetchOrder s) lent list n r e l (omega (arith, fetch-few s v))
 
-  module _ (f : ℕ) (l : _≡_ {A = Written} (record { answer = r; list = list }) (clustersOf s f lent)) (h : 2048 ≤ length lent) where
+module _ (s : State) (v : Valid s) (lent list : List ℕ) (r : Listing) where
+  module _ (f : ℕ) (l : _≡_ {A = Written Listing} (record { answer = r; list = list }) (clustersOf s f lent)) (h : 2048 ≤ length lent) where
     -- no such file
     no-clusters : noFile s f ≡ true → r ≡ Refused 3
     unfolding clustersOf
-    no-clusters t = ap (λ (x : Written). x .answer) (rw t at l)
+    no-clusters t = ap (λ (x : Written Listing). x .answer) (rw t at l)
 
-    all-clusters : noFile s f ≡ false → Filled (clusters s f) (length (clusters s f) / 2) r list
+    all-clusters : noFile s f ≡ false → Filled (clusters s f) (Count (length (clusters s f) / 2)) r list
     unfolding clustersOf
-    all-clusters t = filled (clusters s f) (length (clusters s f) / 2) lent r list (rw t at l) (omega (arith, clusters-few s f (v .sizes-high f)))
+    all-clusters t =
+        filled (clusters s f) (Count (length (clusters s f) / 2)) (Refused 12) lent r list (rw t at l) (omega (arith, clusters-few s f (v .sizes-high f)))
 
     -- so many clusters
     pub clusters-front : (n : ℕ) → r ≡ Count n → (noFile s f ≡ false) × Front (clusters s f) list (2 * n)
@@ -64,7 +72,7 @@ module _ (s : State) (v : Valid s) (lent list : List ℕ) (r : Listing) where
         let g = all-clusters t in
         let k : n ≡ length (clusters s f) / 2 = ap countIn (sym e ∙ g .answer) in
         let d : 2 * n ≡ length (clusters s f) = omega (arith, clusters-even s f) in
-        (t, front (clusters s f) list (2 * n) _ r d g))
+        (t, front (clusters s f) list (2 * n) (Count (length (clusters s f) / 2)) r d g))
 
     -- a refusal
     pub clusters-refused : (number : ℕ) → r ≡ Refused number → clustersShown s f ≡ told (refused s number)

@@ -3,6 +3,7 @@
 use crate::Said;
 use rules::Answer;
 use rules::Listing;
+use rules::Ordered;
 use rules::Outcome;
 use rules::View;
 ghost use Prim.Native.Nat.{ℕ, _+_, _≤_, _<_};
@@ -13,7 +14,7 @@ ghost use Rattle.rules.specs.Views.{stateOf, noPages, replyOf};
 ghost use Rattle.rules.specs.Lists.{each};
 ghost use Rattle.rules.specs.Valid.{Valid};
 ghost use Rattle.rules.specs.Calls.{refused};
-ghost use Rattle.rules.specs.Listings.{countIn};
+ghost use Rattle.rules.specs.Listings.{keysIn};
 ghost use Rattle.rules.specs.Lines.{lineOf, answerLine, orderLine, clustersLine, told, toldSetup, shown, fieldOf};
 ghost use Rattle.text.specs.Written.{Put};
 ghost use Rattle.lines.specs.Responses.{Roomy, lineEnd, orderOf, Front, clustersShown, saidOf, Gives};
@@ -161,13 +162,13 @@ pub(crate) fn say_setup(
     }
 }
 
-// How many were written; the lists lent here are never too short.
-fn count_in(listing: Listing) -> u16
-    ensures { λ r. ⌜ r ≡ countIn listing ⌝ }
+// How many keys were written; the lists lent here are never too short. A line does not show how many pages were tested.
+fn keys_in(order: Ordered) -> u16
+    ensures { λ r. ⌜ r ≡ keysIn order ⌝ }
 {
-    match listing {
-        Listing::Count(n) => n,
-        Listing::Refused(_) => 0,
+    match order {
+        Ordered::Keys { count, tested: _ } => count,
+        Ordered::Refused(_) => 0,
     }
 }
 
@@ -184,9 +185,9 @@ fn list_order<'a>(
     ensures { λ r. ⌜ Front (orderOf stealing (stateOf v (now (cached .entry)) (now (fetching .entry)))) (now (keys .exit)) r ⌝ }
 {
     if stealing {
-        return count_in(lists::steal_list(v, cached, fetching, keys));
+        return keys_in(lists::steal_list(v, cached, fetching, keys));
     }
-    count_in(lists::fetch_list(v, cached, fetching, keys))
+    keys_in(lists::fetch_list(v, cached, fetching, keys))
 }
 
 // The steal list or the fetch list.

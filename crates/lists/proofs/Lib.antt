@@ -1,7 +1,6 @@
--- What the code of the three lists rests on: ranges of keys, packed numbers, their order, the wanted pages, the clusters and the writing.
-pub mod Keys
+-- What the code of the three lists rests on: packed numbers, their order, ranks by the table, the clusters and the writing.
 pub mod Packing
+pub mod Ranking
 pub mod Directions
-pub mod Wants
 pub mod Stretches
 pub mod Writing

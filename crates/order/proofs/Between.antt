@@ -1,5 +1,5 @@
 -- The pages not present are those that the set bits of their map leave. Assumes nothing.
-use mathlib.Core.Path.{_≡_, refl}
+use mathlib.Core.Path.{_≡_}
 use mathlib.Core.Bool.{cond}
 use mathlib.Core.List.{List}
 use Prim.Native.Nat.{ℕ, zero, suc, _+_, _-_, _*_, _≤_}
@@ -8,7 +8,7 @@ use lib.Dec.{eqb}
 use Rattle.bits.specs.Map.{bit, ones}
 use Rattle.bits.proofs.Bits.{bit-le}
 use Rattle.bits.proofs.Counts.{ones-none, ones-more}
-use Rattle.rules.specs.UseTimes.{present, missing}
+use Rattle.rules.specs.UseTimes.{missing}
 use Rattle.rules.specs.Ranks.{Presents}
 use Rattle.rules.specs.declared.State.{State}
 
@@ -34,8 +34,3 @@ module _ (s : State) (words : List ℕ) (shows : Presents s words) where
   -- so those not present are the keys less the set bits
   pub missing-ones : (f c n : ℕ) → missing s f c n ≡ n - ones words (f * 1024 + c) n
   missing-ones f c n = omega (arith, missing-and-ones f c n)
-
--- today the cached map is the one that q looks at
-pub cached-presents : (s : State) → Presents s (s .cached)
-unfolding present
-cached-presents s k = refl

@@ -6,35 +6,26 @@ use Prim.Native.Nat.{ℕ, min, _+_, _*_, _≤_, _<_}
 use native.Mathlib.Decide.{decLt}
 use native.Mathlib.Omega.{arith}
 use borrow.Author.Tests.{eq-eqb}
-use lib.Dec.{T, not-T, ltb}
+use lib.Dec.{T}
 use Rattle.rules.specs.Pages.{fileOf}
 use Rattle.rules.specs.Readers.{readerAt, attached}
 use Rattle.rules.specs.UseTimes.{before, sees, never, useFor, useKey, ahead, seen}
 use Rattle.rules.specs.Orders.{place}
-use Rattle.rules.proofs.laws.Tests.{less, side, is-true, is-false, and-both}
+use Rattle.rules.proofs.laws.Tests.{side, is-true, is-false, and-both}
 use Rattle.rules.proofs.laws.Cases.{passed}
-use Rattle.rules.proofs.laws.Leasts.{some-at, some-in, least-far, least-met}
-use Rattle.rules.proofs.orders.LookAheads.{before-is, sees-before, seen-by, use-sees, use-least}
+use Rattle.rules.proofs.laws.Leasts.{some-at, some-in}
+use Rattle.rules.proofs.orders.LookAheads.{before-is, sees-before, seen-by, use-high, used-by, use-least}
 use Rattle.rules.specs.Ranks.{rank}
 use Rattle.rules.proofs.orders.Ranks.{seen-small, rank-behind, rank-unseen, rank-seen}
 use Rattle.rules.specs.declared.State.{State}
 use Rattle.rules.specs.declared.Reader.{Reader}
 use Rattle.order.specs.Seats.{lastSeat}
-use Rattle.order.specs.Searches.{lower, Over}
+use Rattle.order.specs.Searches.{lower}
 use Rattle.order.proofs.Seating.{seat-is}
 
 -- ---- ranks
 
 module _ (s : State) (k : ℕ) where
-  use-far : useKey s k ≤ never
-  unfolding useKey
-  use-far = least-far 16 (useFor s k) never
-
-  -- the slot that a use key is of
-  used-by : useKey s k < never → (j : ℕ) × (j < 16) × T (sees s (readerAt s j) k) × (useKey s k ≡ useFor s k j)
-  unfolding useKey
-  used-by l = let m = least-met 16 (useFor s k) never l in (m .0, m .1, use-sees s k (m .0) (omega (arith, m .2)), m .2)
-
   ahead-by : (j : ℕ) → j < 16 → T (before (readerAt s j) k) → T (ahead s k)
   unfolding ahead
   ahead-by j l h = some-in 16 j (λ j. before (readerAt s j) k) l h
@@ -48,7 +39,7 @@ module _ (s : State) (k : ℕ) where
   rank-ahead a = go (side (seen s k))
     where
       go : T (seen s k) ⊎ T (not (seen s k)) → rank s k ≤ never + place k
-      go (inl h) = omega (arith, rank-seen s k h, use-far)
+      go (inl h) = omega (arith, rank-seen s k h, use-high s k)
       go (inr h) = omega (arith, rank-unseen s k a h)
 
   -- any page
@@ -58,34 +49,6 @@ module _ (s : State) (k : ℕ) where
       go : T (ahead s k) ⊎ T (not (ahead s k)) → rank s k ≤ 2 * never + place k
       go (inl h) = omega (arith, rank-ahead h)
       go (inr h) = omega (arith, rank-behind s k h)
-
-  used-seen : useKey s k < never → T (seen s k)
-  used-seen l = let a = used-by l in seen-by s k (a .0) (a .1) (a .2)
-
-  unused : s .«look_ahead» ≤ 2000000 → never ≤ useKey s k → T (not (seen s k))
-  unused w l = not-T (seen s k) (λ h. omega (arith, seen-small s k w h))
-
-  -- a page is in a look-ahead where its use key is below `never`
-  pub seen-used : s .«look_ahead» ≤ 2000000 → seen s k ≡ ltb (useKey s k) never
-  seen-used w = less (useKey s k) never (λ b. seen s k ≡ b) (λ l. is-true (seen s k) (used-seen l)) (λ l. is-false (seen s k) (unused w l))
-
-  -- the use key from the rank
-  pub use-ranked : s .«look_ahead» ≤ 2000000 → min (rank s k) never ≡ useKey s k
-  use-ranked w =
-      less (useKey s k) never (λ _. min (rank s k) never ≡ useKey s k) (λ l. omega (arith, rank-seen s k (used-seen l)))
-      (λ l. go l (side (ahead s k)))
-    where
-      go : never ≤ useKey s k → T (ahead s k) ⊎ T (not (ahead s k)) → min (rank s k) never ≡ useKey s k
-      go l (inl a) = omega (arith, rank-unseen s k a (unused w l), use-far)
-      go l (inr a) = omega (arith, rank-behind s k a, use-far)
-
-  -- no rank is below a floor of 0
-  pub over-none : (r : ℕ) → Over s k 0 r → r ≡ rank s k
-  over-none r o = by (decLt 0 r)
-    where
-      by : Dec (0 < r) → r ≡ rank s k
-      by (yes h) = o .exact h
-      by (no h) = omega (arith, o .least)
 
 -- ---- a pass over the slots
 

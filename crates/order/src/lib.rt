@@ -1,21 +1,22 @@
-// The heads of the two orders, and a page's rank and use key, by which the lists are sorted. The orders themselves are not made here: of a few pages that
-// can come first, the searches keep the best. What q takes for cached is a map of its own, `present`: today the cached map, which the two heads lend for it.
+// The heads of the two orders. The orders themselves are not made here: of a few pages that can come first, the searches keep the best, by a page's rank
+// or its use key. What q takes for cached is a map of its own, `present`: today the cached map, which the two heads lend for it.
 
+use parts::NEVER;
 use rules::Reader;
 use rules::View;
 ghost use mathlib.Core.Path.{_≡_};
 ghost use mathlib.Core.Bool.{cond, _&&_};
 ghost use mathlib.Core.List.{List, [], _∷_};
-ghost use Prim.Native.Nat.{ℕ, min, _+_, _-_, _*_, _%_, _<_, _≤_};
+ghost use Prim.Native.Nat.{ℕ, _+_, _-_, _*_, _%_, _<_, _≤_};
 ghost use lib.Dec.{T, leb, ltb};
 ghost use Rattle.rules.specs.declared.State.{State};
 ghost use Rattle.rules.specs.Lists.{head};
 ghost use Rattle.rules.specs.Pages.{Page};
 ghost use Rattle.rules.specs.Readers.{readerIn, attached};
 ghost use Rattle.rules.specs.Valid.{Valid};
-ghost use Rattle.rules.specs.UseTimes.{missing, useKey};
+ghost use Rattle.rules.specs.UseTimes.{missing};
 ghost use Rattle.rules.specs.Orders.{fetchOrder, victim};
-ghost use Rattle.rules.specs.Ranks.{rank, victimAmong, Presents, Before};
+ghost use Rattle.rules.specs.Ranks.{victimAmong, Presents, Before};
 ghost use Rattle.rules.specs.Views.{stateOf};
 ghost use Rattle.order.specs.Choices.{chosen, inSet, Ranged, Housed};
 ghost use Rattle.order.specs.Seats.{Seated};
@@ -34,21 +35,8 @@ struct Pick {
     value: u64,
 }
 
-// Above every use key: the page is in no look-ahead.
-pub const NEVER: u64 = 67108864;
-
 // The set of the files 0 to 7.
 const ALL_FILES: u64 = 255;
-
-// The smaller of two numbers.
-fn lesser(a: u64, b: u64) -> u64
-    ensures { λ r. ⌜ r ≡ min a b ⌝ }
-{
-    if a < b {
-        return a;
-    }
-    b
-}
 
 // How many of the pages from + 1 to from + n of the file are not present.
 fn missing(present: &[u64; 128], file: usize, from: usize, n: usize) -> u64
@@ -57,14 +45,6 @@ fn missing(present: &[u64; 128], file: usize, from: usize, n: usize) -> u64
     ensures few { λ r. ⌜ r ≤ n ⌝ }
 {
     (n as u64) - (bits::count(present, file * 1024 + from, n) as u64)
-}
-
-// The seat distance of a slot.
-fn seat(turn: u8, slot: usize) -> u64
-    requires { ⌜ (turn < 16) × (slot < 16) ⌝ }
-    ensures { λ r. ⌜ r ≡ (slot + 16 - turn) % 16 ⌝ }
-{
-    ((slot + 16 - turn as usize) % 16) as u64
 }
 
 // The least number so far, or the slot's use key where that is less. The pages between are counted only if the reader can still come first.
@@ -90,7 +70,7 @@ fn lowered(
     if look < near {
         return low;
     }
-    let distance = seat(v.turn, slot);
+    let distance = parts::seat(v.turn, slot);
     let earliest = near * 16 + distance;
     if low <= earliest {
         return low;
@@ -103,13 +83,13 @@ fn lowered(
     if look < (q + 1) * time {
         return low;
     }
-    lesser((near + q * time) * 16 + distance, low)
+    parts::lesser((near + q * time) * 16 + distance, low)
 }
 
 // What the sweeps read of the readers, in one array that can be lent. At `slot`: its reader's position; at 16 + slot: the pace; at 32 + slot: the last
 // slot before it with a reader of the same file; at 48 + file: the last slot with a reader of the file; at 56 + slot: the last page. These slots count
 // from 1, and 0 is none.
-pub fn seats_of(readers: [Reader; 16]) -> [u16; 72]
+fn seats_of(readers: [Reader; 16]) -> [u16; 72]
     requires { ⌜ ((j : ℕ) → T (attached (readerIn readers j)) → readerIn readers j .file < 8) ⌝ }
     ensures { λ r. ⌜ Seated readers 16 r ⌝ }
 {
@@ -152,7 +132,7 @@ fn rank_over(v: View, seats: &[u16; 72], present: &[u64; 128], key: usize, floor
         let slot = at - 1;
         let position = seats[slot];
         if is_ahead(position, seats[56 + slot], page) {
-            let low = lesser(top, NEVER + place);
+            let low = parts::lesser(top, NEVER + place);
             top = lowered(v, present, slot, position, seats[16 + slot], key, low);
             if top <= floor {
                 return top;
@@ -161,24 +141,6 @@ fn rank_over(v: View, seats: &[u16; 72], present: &[u64; 128], key: usize, floor
         at = seats[32 + slot] as usize;
     }
     top
-}
-
-// A page's rank: the higher, the sooner it is given up. The seats are lent, so that a list of pages has them made once.
-pub fn rank(v: View, seats: &[u16; 72], present: &[u64; 128], key: usize) -> u64
-    requires { ⌜ Ranged v × Seated (v .readers) 16 (now seats) ⌝ }
-    requires { ⌜ Page (stateOf v [] []) key ⌝ }
-    ensures { λ r. ⌜ ((c f : List ℕ) → Presents (stateOf v c f) (now (present .entry)) → r ≡ rank (stateOf v c f) key) ⌝ }
-{
-    rank_over(v, seats, present, key, 0)
-}
-
-// A page's use key; NEVER where the page is in no look-ahead.
-pub fn use_key(v: View, seats: &[u16; 72], present: &[u64; 128], key: usize) -> u64
-    requires { ⌜ Ranged v × Seated (v .readers) 16 (now seats) ⌝ }
-    requires { ⌜ Page (stateOf v [] []) key ⌝ }
-    ensures { λ r. ⌜ ((c f : List ℕ) → Presents (stateOf v c f) (now (present .entry)) → r ≡ useKey (stateOf v c f) key) ⌝ }
-{
-    lesser(rank(v, seats, present, key), NEVER)
 }
 
 // So many pages of a file that is in the set; none of any other.

@@ -1,4 +1,4 @@
-// What the calls, the orders, the lists and the image all build and ask of readers, files and pages. A reader or a view is made here alone, by one
+// What the calls, the orders, the walks, the lists and the image all build and ask of readers, files and pages. A reader or a view is made here alone, by one
 // function for each kind of change.
 
 use rules::Condition;
@@ -6,13 +6,36 @@ use rules::Reader;
 use rules::View;
 ghost use mathlib.Core.Path.{_≡_};
 ghost use mathlib.Core.Bool.{false};
-ghost use Prim.Native.Nat.{_<_};
+ghost use Prim.Native.Nat.{min, _+_, _-_, _%_, _<_};
 ghost use Rattle.rules.specs.Views.{stateOf, noPages};
 ghost use Rattle.rules.specs.Lists.{within};
 ghost use Rattle.rules.specs.Pages.{fileOf, pageOf, keyOf};
 ghost use Rattle.rules.specs.Readers.{noReader, attached, nextKey, inCondition, onward, paced};
 ghost use Rattle.rules.specs.Calls.{fresh, idle, docked};
 ghost use Rattle.parts.specs.Files.{noFileIn, noPageIn, noRangeIn, Small};
+
+// ---- numbers
+
+// Above every use key: the page is in no look-ahead.
+pub const NEVER: u64 = 67108864;
+
+// The smaller of two numbers.
+pub fn lesser(a: u64, b: u64) -> u64
+    ensures { λ r. ⌜ r ≡ min a b ⌝ }
+{
+    if a < b {
+        return a;
+    }
+    b
+}
+
+// The seat distance of a slot.
+pub fn seat(turn: u8, slot: usize) -> u64
+    requires { ⌜ (turn < 16) × (slot < 16) ⌝ }
+    ensures { λ r. ⌜ r ≡ (slot + 16 - turn) % 16 ⌝ }
+{
+    ((slot + 16 - turn as usize) % 16) as u64
+}
 
 // ---- files and pages
 

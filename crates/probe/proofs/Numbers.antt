@@ -1,22 +1,25 @@
--- The numbers of Restore's and Save's answers are small enough to stand in one, and what Restore gives is valid. Assumes nothing.
-use mathlib.Core.Path.{_≡_, ap}
-use mathlib.Core.Bool.{_&&_}
+-- What Restore gives is valid; its number and Save's are small enough to stand in one; and a list of it. Assumes nothing.
+use mathlib.Core.Path.{_≡_, refl, sym, ap, _∙_}
+use mathlib.Core.Bool.{Bool, true, false, not, _&&_}
 use mathlib.Core.List.{List}
 use Prim.Native.Nat.{ℕ, _+_, _*_, _<_}
 use native.Mathlib.Omega.{arith}
 use mir.Syntax.{w8}
 use mir.Val.{Fits}
+use borrow.Author.Tests.{not-true, not-false}
 use lib.ListN.{getD, length}
 use lib.Dec.{ltb, eqb}
 use Rattle.rules.specs.Valid.{Valid}
 use Rattle.rules.specs.Image.{imageLength, imageNumbers, Saved, saveOf, accepts, restoreWhole, upgraded, restoreOf}
-use Rattle.rules.specs.Entries.{code, Entered}
+use Rattle.rules.specs.Listings.{Written}
+use Rattle.rules.specs.Entries.{code, carriedOut}
 use Rattle.rules.proofs.laws.Cases.{cond-all}
 use Rattle.rules.proofs.images.Images.{restored-valid}
-use Rattle.probe.specs.Probes.{restoreProbed}
+use Rattle.probe.specs.Probes.{restoreProbed, orderNumber, listOf, listProbed}
 use Rattle.rules.specs.declared.State.{State}
 use Rattle.rules.specs.declared.Reply.{Reply}
 use Rattle.rules.specs.declared.Answer.{Answer}
+use Rattle.rules.specs.declared.Ordered.{Ordered}
 
 -- Restore's
 pub restore-low : (image : List ℕ) (r : Reply) (n : ℕ) → r ≡ restoreOf image → n ≡ code (r .answer) → n < 4294967296
@@ -44,3 +47,20 @@ pub probed : (image buffer after : List ℕ) (r : Reply) (a : Answer) (m n : ℕ
     → record { number = m + 4294967296 * n; image = after } ≡ restoreProbed image buffer
 probed image buffer after r a m n e f g h =
     rw (g, h, e) (ap (λ q. record { number = code (restoreOf image .answer) + 4294967296 * code (q .answer); image = q .buffer }) (rw e at f))
+
+-- ---- a list of what Restore gives
+
+module _ (stealing : Bool) (image lent : List ℕ) (r : Reply) (e : r ≡ restoreOf image) (b : Bool) (f : b ≡ carriedOut (r .answer)) where
+  -- the image is refused
+  pub list-refused : (n : ℕ) → not b ≡ true → n ≡ code (r .answer) → record { number = n; list = lent } ≡ listProbed stealing image lent
+  list-refused n t g =
+      let no : carriedOut (restoreOf image .answer) ≡ false = ap (λ q. carriedOut (q .answer)) (sym e) ∙ sym f ∙ not-true b t in
+      rw (no, g, e) refl
+
+  -- the list is made
+  pub list-made : (n : ℕ) (a : Ordered) (after : List ℕ) (c : Bool) → not b ≡ false → stealing ≡ c
+      → _≡_ {A = Written Ordered} (record { answer = a; list = after }) (listOf c (r .state) lent) → n ≡ orderNumber a
+      → record { number = n; list = after } ≡ listProbed stealing image lent
+  list-made n a after c t u w g =
+      let yes : carriedOut (restoreOf image .answer) ≡ true = ap (λ q. carriedOut (q .answer)) (sym e) ∙ sym f ∙ not-false b t in
+      rw (yes, g, ← e, u) (ap (λ q. record { number = orderNumber (q .answer); list = q .list }) w)

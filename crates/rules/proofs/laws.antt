@@ -11,3 +11,4 @@ pub mod Counting
 pub mod Counts
 pub mod Indexed
 pub mod Numbers
+pub mod Keys

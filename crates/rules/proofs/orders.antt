@@ -4,3 +4,4 @@ pub mod Ranks
 pub mod Distinct
 pub mod Local
 pub mod Candidates
+pub mod Stretches

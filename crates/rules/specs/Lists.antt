@@ -36,6 +36,11 @@ unfoldable pub least : ℕ → (ℕ → ℕ) → ℕ → ℕ
 least zero g far = far
 least (suc m) g far = min (g m) (least m g far)
 
+-- the sum of g below m
+unfoldable pub total : ℕ → (ℕ → ℕ) → ℕ
+total zero g = 0
+total (suc m) g = g m + total m g
+
 -- the list with some others in it from a place on
 unfoldable pub written : List ℕ → ℕ → List ℕ → List ℕ
 written buffer at bytes = take at buffer ++ (bytes ++ drop (at + length bytes) buffer)

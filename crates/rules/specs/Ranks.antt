@@ -1,5 +1,5 @@
--- The two orders by numbers, and what a search for their heads keeps: the words in which the code's contracts speak of 01's orders.
--- proofs/orders/Ranks.antt and Candidates.antt show that these are the orders. Assumes nothing: these are definitions.
+-- The two orders by numbers, what a search for their heads keeps, and look-aheads by keys: the words in which the code's contracts speak of 01's orders.
+-- proofs/orders/Ranks.antt, Candidates.antt and Stretches.antt show that these are the orders and the look-aheads. Assumes nothing: these are definitions.
 use Prim.Native.Nat.{ℕ, _+_, _*_, _≤_, _<_}
 use mathlib.Core.Path.{_≡_}
 use mathlib.Core.Bool.{Bool, cond, _&&_}
@@ -9,13 +9,13 @@ use lib.Dec.{T}
 use Rattle.bits.specs.Map.{on, lastBit}
 use Rattle.rules.specs.Lists.{only, head}
 use Rattle.rules.specs.Pages.{fileOf, pageOf, keyOf, cached}
-use Rattle.rules.specs.Readers.{readerAt, attached}
+use Rattle.rules.specs.Readers.{readerAt, attached, nextKey}
 use Rattle.rules.specs.UseTimes.{before, present, sees, never, useFor, useKey, ahead, seen}
 use Rattle.rules.specs.Orders.{place, stealOrder, absent}
 use Rattle.rules.specs.declared.State.{State}
 use Rattle.rules.specs.declared.Reader.{Reader}
 
--- ---- what q takes for cached, and what a reader has before it
+-- ---- what q takes for cached, what a reader has before it, and what it sees
 
 -- the map has a bit for each page that q takes for cached
 abbrev pub Presents : State → List ℕ → Type 0
@@ -27,6 +27,11 @@ pub record Before (r : Reader) (k : ℕ) : Type 0 where
   pub of-file : r .file ≡ fileOf k
   pub past : r .position < pageOf k
   pub in-reach : pageOf k ≤ r .last
+
+-- the n keys from the reader's next page on are in its look-ahead, and the one after them is not. A look-ahead has no gaps, so it is these
+pub record Stretch (s : State) (r : Reader) (n : ℕ) : Type 0 where
+  pub inside : (i : ℕ) → i < n → T (sees s r (nextKey r + i))
+  pub outside : T (sees s r (nextKey r + n)) → ⊥
 
 -- ---- the steal order
 

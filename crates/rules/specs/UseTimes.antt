@@ -1,9 +1,12 @@
--- Look-aheads, times and use keys: 01, "Use times"; a look-ahead ends at the reader's last page (A.1). Assumes nothing: these are definitions.
+-- Look-aheads, times and use keys: 01, "Use times"; a look-ahead ends at the reader's last page (A.1), and its pages are counted (A.3). Assumes nothing:
+-- these are definitions.
 use Prim.Native.Nat.{ℕ, zero, suc, _+_, _*_, _-_, _/_, _%_}
 use mathlib.Core.Bool.{Bool, not, cond, _&&_}
+use mathlib.Core.List.{List}
+use lib.ListN.{length}
 use lib.Dec.{leb, ltb, eqb}
-use Rattle.rules.specs.Lists.{some-of, least}
-use Rattle.rules.specs.Pages.{fileOf, pageOf, keyOf, cached}
+use Rattle.rules.specs.Lists.{only, some-of, least, total}
+use Rattle.rules.specs.Pages.{fileOf, pageOf, keyOf, pages, cached}
 use Rattle.rules.specs.Readers.{readerAt, attached}
 use Rattle.rules.specs.declared.State.{State}
 use Rattle.rules.specs.declared.Reader.{Reader}
@@ -36,6 +39,15 @@ pruned s q = ltb 0 (s .«fetch_time») && leb (s .«look_ahead» / s .«fetch_ti
 -- page k is in the reader's look-ahead: j from 1 to K, K being L divided by w, rounded down; A.1: c + j at most the last page; not pruned
 unfoldable pub sees : State → Reader → ℕ → Bool
 sees s r k = before r k && (leb (steps r k) (s .«look_ahead» / r .pace) && not (pruned s (between s r k)))
+
+-- the pages of the reader's look-ahead; an empty slot's has none
+unfoldable pub lookAhead : State → Reader → List ℕ
+lookAhead s r = only (sees s r) (pages s)
+
+-- A.3, what making an order reports: "how many pages its walks tested for being cached: exactly the pages of the look-aheads, added over the attached
+-- readers"
+unfoldable pub tested : State → ℕ
+tested s = total 16 (λ slot. length (lookAhead s (readerAt s slot)))
 
 -- "Its time for that reader is j × w + q × T"
 unfoldable pub timeFor : State → Reader → ℕ → ℕ

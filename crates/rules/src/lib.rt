@@ -57,9 +57,15 @@ pub enum Answer {
     Ran { fetches: u16, reads: u16 },
 }
 
-// What a call that writes into a lent list answers: the count, or the refusal's number.
+// What Clusters answers: the count, or the refusal's number.
 pub enum Listing {
     Count(u16),
+    Refused(u8),
+}
+
+// What Steal list and Fetch list answer: the count of keys, with how many pages the walks along the look-aheads tested; or the refusal's number.
+pub enum Ordered {
+    Keys { count: u16, tested: u16 },
     Refused(u8),
 }
 

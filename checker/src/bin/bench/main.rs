@@ -1,16 +1,18 @@
-//! What the box's C entries cost beside quick's entry, and the program `quay`
-//! beside the checker's `lines`: one run, the same images and streams.
+//! What the box's C entries cost beside quick's entry, its lists beside quick's, and
+//! the program `quay` beside the checker's `lines`: one run, the same images and
+//! streams.
 //!
 //!     cargo build --release --bin lines
 //!     QUAY_LIB=folder QUAY_PROBE=folder QUAY_PROGRAM=path \
 //!         cargo run --release --features box --bin bench
 //!
-//! Both entries restore, call and save an image each time. Every number is the
-//! median of several samples, taken in turns, in nanoseconds a call; each
-//! includes one copy of the image into the buffer. Prints markdown tables.
-//! Without `QUAY_PROGRAM` the programs are left out.
+//! Both entries restore, call and save an image each time; a list restores one and
+//! saves nothing. Every number is the median of several samples, taken in turns, in
+//! nanoseconds a call; that of an entry includes one copy of the image into the
+//! buffer. Prints markdown tables. Without `QUAY_PROGRAM` the programs are left out.
 
 mod lines;
+mod lists;
 
 use checker::call::{Call, Entry};
 use checker::limits::{FILE_PAGES, MOST_TURNS};
@@ -42,7 +44,7 @@ fn main() {
     println!("## Calls, with a look-ahead that reaches the files' ends\n");
     table(&calls());
     println!("\n## The same, with a look-ahead that ends early\n");
-    println!("Quick's cost is its walk: with less to walk it comes nearer. The box walks no look-ahead, and costs what it did.\n");
+    println!("Quick's cost is its walk: with less to walk it comes nearer. For these calls the box walks no look-ahead, and costs what it did.\n");
     table(&short_calls());
     println!("\n## Arrive that steals, by frames (16 readers, 8 files, L 10240, T 0)\n");
     let by_frames = [64, 128, 256, 512, 1_024].map(|frames| {
@@ -72,6 +74,8 @@ fn main() {
         arrive(name, busy(quay))
     });
     table(&by_readers);
+    println!("\n## Lists\n");
+    lists::table();
     println!("\n## Lines through pipes\n");
     println!("The program `quay` beside the checker's own, built on quick, from start to end through the same pipes.\n");
     lines::table();
@@ -233,18 +237,26 @@ fn arrive(name: String, state: State) -> Case {
 }
 
 fn table(cases: &[Case]) {
+    print_head();
+    for case in cases {
+        print_row(&case.name, measure(case));
+    }
+}
+
+fn print_head() {
     println!("| call | quick ns | box ns | quick / box |");
     println!("|:-----|---------:|-------:|------------:|");
-    for case in cases {
-        let (quick, the_box) = measure(case);
-        let ratio = quick / the_box;
-        println!("| {} | {quick:.0} | {the_box:.0} | {ratio:.2} |", case.name);
-    }
+}
+
+fn print_row(name: &str, (quick, the_box): (f64, f64)) {
+    let ratio = quick / the_box;
+    println!("| {name} | {quick:.0} | {the_box:.0} | {ratio:.2} |");
 }
 
 /// Nanoseconds a call, by quick and by the box.
 fn measure(case: &Case) -> (f64, f64) {
-    let [by_quick, by_box] = [quick::entry as Entry, ffi::entry].map(|entry| {
+    let entries = [quick::entry as Entry, ffi::entry];
+    let [by_quick, by_box] = entries.map(|entry| {
         let mut image = case.image.clone();
         (entry(&mut image, case.call), image)
     });
@@ -253,24 +265,32 @@ fn measure(case: &Case) -> (f64, f64) {
         "quick and the box differ: {}",
         case.name
     );
+    in_turns(entries.map(|entry| {
+        let mut buffer = case.image.clone();
+        move || {
+            buffer.copy_from_slice(black_box(&case.image));
+            entry(black_box(&mut buffer), black_box(case.call))
+        }
+    }))
+}
 
-    let once = sample(quick::entry, case, 1).max(sample(ffi::entry, case, 1));
+/// Nanoseconds a call of quick's and of the box's, sampled in turns.
+fn in_turns([mut quick, mut the_box]: [impl FnMut() -> u64; 2]) -> (f64, f64) {
+    let once = sample(&mut quick, 1).max(sample(&mut the_box, 1));
     let calls = (SAMPLE.as_nanos() as f64 / once).ceil() as u32;
     let (mut quick_samples, mut box_samples) = (Vec::new(), Vec::new());
     for _ in 0..SAMPLES {
-        quick_samples.push(sample(quick::entry, case, calls));
-        box_samples.push(sample(ffi::entry, case, calls));
+        quick_samples.push(sample(&mut quick, calls));
+        box_samples.push(sample(&mut the_box, calls));
     }
     (median(quick_samples), median(box_samples))
 }
 
-/// Nanoseconds a call over so many calls, each on a fresh copy of the image.
-fn sample(entry: Entry, case: &Case, calls: u32) -> f64 {
-    let mut buffer = case.image.clone();
+/// Nanoseconds a call over so many calls.
+fn sample(call: &mut impl FnMut() -> u64, calls: u32) -> f64 {
     let start = Instant::now();
     for _ in 0..calls {
-        buffer.copy_from_slice(black_box(&case.image));
-        black_box(entry(black_box(&mut buffer), black_box(case.call)));
+        black_box(call());
     }
     start.elapsed().as_nanos() as f64 / f64::from(calls)
 }

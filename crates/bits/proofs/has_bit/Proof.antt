@@ -1,23 +1,22 @@
 -- The digit of the word is the bit of the map.
-use mathlib.Core.Path.{ap}
-use Prim.Native.Nat.{ℕ}
-use lib.Dec.{eqb}
 use borrow.Author.Needs.{needs}
-use Rattle.bits.proofs.Bits.{and-is}
+use Rattle.bits.specs.Map.{bit}
 use Rattle.bits.proofs.has_bit.Statement.{statement}
 use Rattle.bits.proofs.has_bit.Tie as tie
 
-mul-result : tie.Need-mul-result
-mul-result c = search needs
+mul-has-digit : tie.Need-mul-has-digit
+mul-has-digit c = search needs
 
-element-copy-out-result : tie.Need-element-copy-out-result
-element-copy-out-result c = search needs
+element-copy-out-has-digit : tie.Need-element-copy-out-has-digit
+element-copy-out-has-digit c = search needs
 
-shr-result : tie.Need-shr-result
-shr-result c = search needs
+has-digit-requires : tie.Need-has-digit-requires
+has-digit-requires c κs = search needs
 
 returns : tie.Need-returns
-returns c = ap (λ (x : ℕ). eqb x 1) (and-is (c .before .args .words .now) (c .before .args .key))
+unfolding bit
+returns c = c .has-digit .ensures
 
 pub has-bit-spec : {M : Type 1} → statement M
-has-bit-spec = tie.close (tie.spec mul-result element-copy-out-result shr-result returns)
+has-bit-spec =
+    tie.close (tie.spec mul-has-digit element-copy-out-has-digit has-digit-requires returns)

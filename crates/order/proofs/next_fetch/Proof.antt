@@ -5,7 +5,7 @@ use native.Mathlib.Omega.{arith}
 use borrow.Author.Needs.{needs}
 use Rattle.rules.specs.Views.{stateOf}
 use Rattle.order.specs.Searches.{Soonest}
-use Rattle.order.proofs.Between.{cached-presents}
+use Rattle.rules.proofs.orders.Local.{cached-presents}
 use Rattle.order.proofs.Searching.{soonest-none, soonest-fetch, soonest-nothing}
 use Rattle.order.proofs.next_fetch.Statement.{statement}
 use Rattle.order.proofs.next_fetch.Tie as tie

@@ -15,7 +15,7 @@ use Rattle.order.specs.Choices.{inSet}
 use Rattle.order.specs.Seats.{Seated}
 use Rattle.order.specs.Searches.{Highest}
 use Rattle.order.proofs.Ranges.{valid-ranged, valid-file, valid-behind, valid-housed}
-use Rattle.order.proofs.Between.{cached-presents}
+use Rattle.rules.proofs.orders.Local.{cached-presents}
 use Rattle.order.proofs.Searching.{highest-none, highest-more, highest-victim, highest-nothing}
 use Rattle.order.proofs.victim_among.Statement.{statement}
 use Rattle.order.proofs.victim_among.Tie as tie

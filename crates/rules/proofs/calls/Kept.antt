@@ -292,7 +292,8 @@ same-at (suc n) (suc j) a = same-at n j a
 blank-map : PageMap (replicate 128 0)
 blank-map = record { all = length-replicate {A = ℕ} 128 0; fit = λ i. rw (same-at {A = ℕ} 128 i 0) (omega arith) }
 
-blank-off : (k : ℕ) → on (replicate 128 0) k ≡ false
+-- no page is of an empty map
+pub blank-off : (k : ℕ) → on (replicate 128 0) k ≡ false
 unfolding bit
 blank-off k = rw (same-at {A = ℕ} 128 (k / 64) 0, zero-div)
 

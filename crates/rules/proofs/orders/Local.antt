@@ -13,7 +13,7 @@ use Rattle.rules.specs.Valid.{Valid}
 use Rattle.rules.specs.UseTimes.{before, steps, present, missing, between, pruned, sees, timeFor, never, useFor, useKey, ahead, seen}
 use Rattle.rules.specs.Orders.{stealOrder}
 use Rattle.rules.proofs.laws.Tests.{both, is-false, and-second}
-use Rattle.rules.specs.Ranks.{rank}
+use Rattle.rules.specs.Ranks.{rank, Presents}
 use Rattle.rules.proofs.orders.Ranks.{steal-ranked}
 use Rattle.rules.specs.declared.State.{State}
 use Rattle.rules.specs.declared.Reader.{Reader}
@@ -57,7 +57,12 @@ record SameSlot (s t : State) (k j : ℕ) : Type 0 where
   sees-alike : sees s (readerAt s j) k ≡ sees t (readerAt t j) k
   use-alike : useFor s k j ≡ useFor t k j
 
--- what q takes for cached goes by the cached map alone: the one place that knows it
+-- the cached map is the one that q looks at: here and in the law below, and nowhere else, it is known
+pub cached-presents : (s : State) → Presents s (s .cached)
+unfolding present
+cached-presents s k = refl
+
+-- so what q takes for cached goes by the cached map alone
 present-same : (s t : State) (k : ℕ) → bit (s .cached) k ≡ bit (t .cached) k → present s k ≡ present t k
 unfolding present
 present-same s t k e = ap (λ b. eqb b 1) e

@@ -6,14 +6,13 @@ use Prim.Native.Nat.{ℕ, zero, suc, _+_, _-_, _*_, _/_, _≤_, _<_}
 use native.Mathlib.Omega.{arith}
 use native.Mathlib.Nat.{mul-pos, mul-le-mul-right, mul-lt-mul-of-pos-right}
 use lib.Dec.{T, T-not, not-T, leb, ltb, eqb, leb→le, le→leb, lt→ltb, ltb→lt, eqb→eq, eqb-refl}
-use Rattle.rules.specs.Lists.{least}
 use Rattle.rules.specs.Pages.{size, fileOf, pageOf, Page}
 use Rattle.rules.specs.Readers.{readerAt, attached}
 use Rattle.rules.specs.Valid.{Valid}
 use Rattle.rules.specs.UseTimes.{before, steps, missing, between, pruned, sees, timeFor, seat, never, useFor, useKey, seen}
 use Rattle.rules.specs.Ranks.{Before}
-use Rattle.rules.proofs.laws.Tests.{side, is-true, is-false, and-both, and-first, and-second}
-use Rattle.rules.proofs.laws.Leasts.{some-at, some-in, least-le, least-met}
+use Rattle.rules.proofs.laws.Tests.{less, side, is-true, is-false, and-both, and-first, and-second}
+use Rattle.rules.proofs.laws.Leasts.{some-at, some-in, least-far, least-le, least-met}
 use Rattle.rules.proofs.calls.Valids.{placed-at}
 use Rattle.rules.proofs.orders.Ranks.{seen-small}
 use Rattle.rules.specs.declared.State.{State}
@@ -126,10 +125,27 @@ pub use-least : (s : State) (k j : ℕ) → j < 16 → useKey s k ≤ useFor s k
 unfolding useKey
 use-least s k j l = least-le 16 (useFor s k) never j l
 
+-- a use key is at most `never`
+pub use-high : (s : State) (k : ℕ) → useKey s k ≤ never
+unfolding useKey
+use-high s k = least-far 16 (useFor s k) never
+
+-- the slot that a use key is of
+pub used-by : (s : State) (k : ℕ) → useKey s k < never → (j : ℕ) × (j < 16) × T (sees s (readerAt s j) k) × (useKey s k ≡ useFor s k j)
+unfolding useKey
+used-by s k l = let m = least-met 16 (useFor s k) never l in (m .0, m .1, use-sees s k (m .0) (omega (arith, m .2)), m .2)
+
 -- a page that a slot sees is in a look-ahead
 pub seen-by : (s : State) (k j : ℕ) → j < 16 → T (sees s (readerAt s j) k) → T (seen s k)
 unfolding seen
 seen-by s k j l h = some-in 16 j (λ j. sees s (readerAt s j) k) l h
+
+-- a page is in a look-ahead where its use key is below `never`
+pub seen-used : (s : State) (k : ℕ) → s .«look_ahead» ≤ 2000000 → seen s k ≡ ltb (useKey s k) never
+seen-used s k w =
+    less (useKey s k) never (λ b. seen s k ≡ b)
+    (λ l. let a = used-by s k l in is-true (seen s k) (seen-by s k (a .0) (a .1) (a .2)))
+    (λ l. is-false (seen s k) (not-T (seen s k) (λ h. omega (arith, seen-small s k w h))))
 
 module _ (s : State) (w : Valid s) where
   -- a page in a look-ahead is a page of a file
@@ -142,13 +158,9 @@ module _ (s : State) (w : Valid s) where
       let p = placed-at s w (a .0) (b .here) in
       record { low = omega (arith, p .file-high, b .of-file); there = subst (λ f. pageOf k ≤ size s f) (b .of-file) (omega (arith, b .in-reach, p .last-high)) }
 
-  -- the slot that a use key is of
+  -- the slot that the use key of a page in a look-ahead is of
   pub met-by : (k : ℕ) → T (seen s k) → (j : ℕ) × (j < 16) × T (sees s (readerAt s j) k) × (useKey s k ≡ useFor s k j)
-  unfolding useKey
-  met-by k h =
-      let low : least 16 (useFor s k) never < never = seen-small s k (w .look-high) h in
-      let m = least-met 16 (useFor s k) never low in
-      (m .0, m .1, use-sees s k (m .0) (omega (arith, m .2)), m .2)
+  met-by k h = used-by s k (seen-small s k (w .look-high) h)
 
   -- a later page has a larger key for a reader that sees it
   pub use-rises : (j k i : ℕ) → T (before (readerAt s j) k) → pageOf k < pageOf i → T (sees s (readerAt s j) i) → useFor s k j < useFor s i j

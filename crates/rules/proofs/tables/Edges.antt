@@ -7,10 +7,10 @@ use mathlib.Core.List.{List, [], _∷_, _++_, map}
 use lib.ListN.{length, take, drop, replicate}
 use lib.Dec.{eqb}
 use Rattle.bits.specs.Map.{bit, putBit}
-use Rattle.rules.specs.Lists.{range, each, only, every, put, sorted, least, some-of}
+use Rattle.rules.specs.Lists.{range, each, only, every, put, sorted, least, some-of, total}
 use Rattle.rules.specs.Pages.{keyOf, pages, cachedPages, fetchingPages, held, ends, clusters}
 use Rattle.rules.specs.Readers.{noReader, readerAt, markAt}
-use Rattle.rules.specs.UseTimes.{before, present, missing, pruned, sees, timeFor, useFor, useKey, ahead, seen}
+use Rattle.rules.specs.UseTimes.{before, present, missing, pruned, sees, lookAhead, tested, timeFor, useFor, useKey, ahead, seen}
 use Rattle.rules.specs.Orders.{notAhead, notSeen, useTime, stealOrder, fetchOrder, victim}
 use Rattle.rules.specs.Calls.{
   withMarks,
@@ -33,7 +33,19 @@ use Rattle.rules.specs.Calls.{
   measureOf,
 }
 use Rattle.rules.specs.Run.{fetchOpen, readTurn, turnOf, turnsOf, runOf}
-use Rattle.rules.specs.Listings.{countIn, refusalIn, Written, listed, stealListOf, fetchListOf, clustersOf}
+use Rattle.rules.specs.Listings.{
+  countIn,
+  refusalIn,
+  keysIn,
+  testedIn,
+  refusedIn,
+  Written,
+  listed,
+  orderListed,
+  stealListOf,
+  fetchListOf,
+  clustersOf,
+}
 use Rattle.rules.specs.Image.{conditionNumber, layout, bytesOf, imageOf, Saved, saveOf, numberOf, numbersIn, filledSlot, upgraded}
 use Rattle.rules.specs.Entries.{code, Call, attach, detach, read, arrive, lost, run, measure, callOf}
 use Rattle.rules.specs.Lines.{
@@ -55,8 +67,11 @@ use Rattle.rules.specs.Schedules.{num}
 use Rattle.rules.proofs.tables.Soundings.{upTo, stateWith, reader, at, f0}
 use Rattle.rules.proofs.tables.Sample.{bytes}
 use Rattle.rules.specs.declared.State.{State}
+use Rattle.rules.specs.declared.Reader.{Reader}
 use Rattle.rules.specs.declared.Reply.{Reply}
 use Rattle.rules.specs.declared.Answer.{Answer}
+use Rattle.rules.specs.declared.Listing.{Listing}
+use Rattle.rules.specs.declared.Ordered.{Ordered}
 use Rattle.rules.specs.declared.Answer.the-variants.{Refused, Done, Hit, Wait, Fetch, End, Nothing, Stolen, Arrived, Replaced, Ran}
 use Rattle.rules.specs.declared.Condition.the-variants.{Running, Waiting}
 
@@ -151,18 +166,22 @@ abbrev sounded : State
 sounded = stateWith 16 0 40 20 (8 ∷ []) (upTo 8 3 10 ∷ []) (f0 (1 ∷ 2 ∷ 3 ∷ 5 ∷ 7 ∷ [])) []
 
 -- the refusal's number, the count, and the lent list after the call
-unfoldable pub written : Written → List ℕ
+unfoldable pub written : Written Listing → List ℕ
 written w = refusalIn (w .answer) ∷ countIn (w .answer) ∷ w .list
+
+-- of an order the pages tested too: A.3. A refusal carries neither
+unfoldable pub made : Written Ordered → List ℕ
+made w = refusedIn (w .answer) ∷ keysIn (w .answer) ∷ testedIn (w .answer) ∷ w .list
 
 -- a list too short by one, one with exactly enough room, and one with more
 unfoldable pub lists : List Row
 lists =
-    row (written (stealListOf sounded (replicate 4 9))) (12 ∷ 0 ∷ 9 ∷ 9 ∷ 9 ∷ 9 ∷ [])
-    ∷ row (written (stealListOf sounded (replicate 5 9))) (0 ∷ 5 ∷ 2 ∷ 1 ∷ 0 ∷ 6 ∷ 4 ∷ [])
-    ∷ row (written (stealListOf sounded (replicate 6 9))) (0 ∷ 5 ∷ 2 ∷ 1 ∷ 0 ∷ 6 ∷ 4 ∷ 9 ∷ [])
-    ∷ row (written (fetchListOf sounded (replicate 1 9))) (12 ∷ 0 ∷ 9 ∷ [])
-    ∷ row (written (fetchListOf sounded (replicate 2 9))) (0 ∷ 2 ∷ 3 ∷ 5 ∷ [])
-    ∷ row (written (fetchListOf sounded (replicate 3 9))) (0 ∷ 2 ∷ 3 ∷ 5 ∷ 9 ∷ [])
+    row (made (stealListOf sounded (replicate 4 9))) (12 ∷ 0 ∷ 0 ∷ 9 ∷ 9 ∷ 9 ∷ 9 ∷ [])
+    ∷ row (made (stealListOf sounded (replicate 5 9))) (0 ∷ 5 ∷ 3 ∷ 2 ∷ 1 ∷ 0 ∷ 6 ∷ 4 ∷ [])
+    ∷ row (made (stealListOf sounded (replicate 6 9))) (0 ∷ 5 ∷ 3 ∷ 2 ∷ 1 ∷ 0 ∷ 6 ∷ 4 ∷ 9 ∷ [])
+    ∷ row (made (fetchListOf sounded (replicate 1 9))) (12 ∷ 0 ∷ 0 ∷ 9 ∷ [])
+    ∷ row (made (fetchListOf sounded (replicate 2 9))) (0 ∷ 2 ∷ 3 ∷ 3 ∷ 5 ∷ [])
+    ∷ row (made (fetchListOf sounded (replicate 3 9))) (0 ∷ 2 ∷ 3 ∷ 3 ∷ 5 ∷ 9 ∷ [])
     ∷ row (written (clustersOf sounded 0 (replicate 5 9))) (12 ∷ 0 ∷ 9 ∷ 9 ∷ 9 ∷ 9 ∷ 9 ∷ [])
     ∷ row (written (clustersOf sounded 0 (replicate 6 9))) (0 ∷ 3 ∷ 1 ∷ 3 ∷ 5 ∷ 5 ∷ 7 ∷ 7 ∷ [])
     ∷ row (written (clustersOf sounded 0 (replicate 7 9))) (0 ∷ 3 ∷ 1 ∷ 3 ∷ 5 ∷ 5 ∷ 7 ∷ 7 ∷ 9 ∷ [])
@@ -170,13 +189,42 @@ lists =
     ∷ row (written (clustersOf sounded 1 [])) (3 ∷ 0 ∷ [])
     ∷ row (written (clustersOf sounded 8 (9 ∷ []))) (3 ∷ 0 ∷ 9 ∷ [])
     -- a list of no room for an order of no page
-    ∷ row (written (stealListOf idle [])) (0 ∷ 0 ∷ [])
+    ∷ row (made (stealListOf idle [])) (0 ∷ 0 ∷ 0 ∷ [])
     ∷ []
 
 pub lists-hold : Hold lists
-unfolding lists written bit putBit range each only put sorted least some-of pages held ends clusters before present missing pruned
-    sees timeFor useFor useKey ahead seen notAhead notSeen useTime stealOrder fetchOrder listed stealListOf fetchListOf clustersOf
+unfolding lists written made bit putBit range each only put sorted least some-of total pages held ends clusters before present missing pruned
+    sees lookAhead tested timeFor useFor useKey ahead seen notAhead notSeen useTime stealOrder fetchOrder listed orderListed
+    stealListOf fetchListOf clustersOf
 lists-hold = refl
+
+-- ---- A.3: "exactly the pages of the look-aheads, added over the attached readers"
+
+-- the pages tested: L 40, 8 pages, of which 1, 2, 3, 5 and 7 are cached; T and the readers are the row's
+abbrev tests : ℕ → List Reader → ℕ → Row
+tests time readers n = row (tested (stateWith 16 0 40 time (8 ∷ []) readers (f0 (1 ∷ 2 ∷ 3 ∷ 5 ∷ 7 ∷ [])) []) ∷ []) (n ∷ [])
+
+unfoldable pub reports : List Row
+reports =
+    -- L ÷ w is 4
+    tests 0 (upTo 8 3 10 ∷ []) 4
+    -- L ÷ T is 2, 1 or 0 pages not cached
+    ∷ tests 20 (upTo 8 3 10 ∷ []) 3
+    ∷ tests 40 (upTo 8 3 10 ∷ []) 1
+    ∷ tests 41 (upTo 8 3 10 ∷ []) 0
+    -- L is at the pace, and below it
+    ∷ tests 0 (upTo 8 3 40 ∷ []) 1
+    ∷ tests 0 (upTo 8 3 41 ∷ []) 0
+    -- the last page comes first, or is read
+    ∷ tests 0 (upTo 5 3 10 ∷ []) 2
+    ∷ tests 0 (upTo 5 5 10 ∷ []) 0
+    -- a page is counted for each reader that has it, running or waiting; an empty slot has none
+    ∷ tests 0 (upTo 8 3 10 ∷ noReader ∷ upTo 8 4 20 ∷ reader Waiting 0 10 5 8 ∷ []) 9
+    ∷ []
+
+pub reports-hold : Hold reports
+unfolding reports bit putBit range each only total pages before present missing pruned sees lookAhead tested
+reports-hold = refl
 
 -- ---- "The number returned is the refusal's, or the answer letter's ASCII code × 65,536 + (key + 1, or 0 without a page)"
 

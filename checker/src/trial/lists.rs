@@ -1,0 +1,231 @@
+//! Steal list and Fetch list by themselves, with what making their order reports:
+//! on images of any length and into lists of any length.
+
+use super::{hold, older, walks, Outcomes, Report};
+use crate::call::{Lister, Order};
+use crate::limits::{FILES, FILE_PAGES, IMAGE_BYTES, OLDER_IMAGE_BYTES, SLOTS};
+use crate::model::{self, Page, Reader, State};
+use crate::random::Dice;
+use crate::scene::any_state;
+
+/// What must be met, by each of the two: its answers, lists and images; and, where
+/// it was carried out, what its walks have met.
+pub const LIST_OUTCOMES: &Outcomes = &[
+    ("Steal list", ANSWERS),
+    ("Steal list", walks::ENDS),
+    ("Steal list", walks::WORDS),
+    ("Steal list", walks::READERS),
+    ("Fetch list", ANSWERS),
+    ("Fetch list", walks::ENDS),
+    ("Fetch list", walks::WORDS),
+    ("Fetch list", walks::READERS),
+];
+
+#[rustfmt::skip]
+const ANSWERS: &[&str] = &[
+    "13", "12", "carried out",
+    "2,240 bytes", "2,208 bytes",
+    "into just enough", "into more", "nothing into a list", "nothing into an empty list",
+    "12, one too short", "12, far too short", "12, an empty list",
+    "13, 2,240 bytes", "13, 2,208 bytes", "13, another length",
+    "13, a list", "13, an empty list",
+];
+
+/// A list that is never too short: every page of every file.
+const EVERY_PAGE: usize = (FILES * FILE_PAGES) as usize;
+
+/// Both lists of so many random images, sound or not, each into a list of any
+/// length that holds any numbers.
+pub fn random(report: &mut Report, lister: Lister, dice: &mut Dice, images: u64) {
+    for _ in 0..images {
+        let image = any_image(dice);
+        for order in Order::BOTH {
+            let list = any_list(dice, order, &image);
+            hold_list(report, lister, order, &image, &list);
+        }
+    }
+}
+
+/// Scenes that chance may miss: both lists of each, just long enough, longer and
+/// one too short.
+pub fn built(report: &mut Report, lister: Lister) {
+    for state in largest().into_iter().chain(at_borders()) {
+        hold_state(report, lister, &state);
+    }
+}
+
+/// Both lists of a state.
+pub(super) fn hold_state(report: &mut Report, lister: Lister, state: &State) {
+    let image = state.image();
+    for order in Order::BOTH {
+        let count = state.order(order).len();
+        for length in [count, count + 3, count.saturating_sub(1)] {
+            hold_list(report, lister, order, &image, &vec![0x5A5A; length]);
+        }
+    }
+}
+
+/// The list of an order on an image: the number and all that is lent must be the
+/// model's. Gives them.
+pub(super) fn hold_list(
+    report: &mut Report,
+    lister: Lister,
+    order: Order,
+    image: &[u8],
+    list: &[u16],
+) -> (u64, Vec<u16>) {
+    let expected = model::list(order, image, list);
+    let act = |list: &mut [u16]| lister(order, image, list);
+    hold::hold_list(report, list, &expected, act, || {
+        let (name, room) = (order.name(), list.len());
+        format!("{name} into {room} numbers, {}", hold::describe(image))
+    });
+    for case in met(order, image, list.len(), expected.0) {
+        report.note(order.name(), case.to_string());
+    }
+    expected
+}
+
+/// What was answered, and what was met.
+fn met(order: Order, image: &[u8], room: usize, number: u64) -> Vec<&'static str> {
+    let (state, _) = State::restore(image);
+    match number {
+        13 => refused_13(image.len(), room),
+        12 => refused_12(state.order(order).len(), room),
+        _ => {
+            let count = (number >> 16 & 0xFFFF) as usize;
+            let mut met = carried_out(image.len(), count, room);
+            met.extend(walks::met(&state, order));
+            met
+        }
+    }
+}
+
+fn refused_13(image: usize, room: usize) -> Vec<&'static str> {
+    let length = match image {
+        IMAGE_BYTES => "13, 2,240 bytes",
+        OLDER_IMAGE_BYTES => "13, 2,208 bytes",
+        _ => "13, another length",
+    };
+    let lent = match room {
+        0 => "13, an empty list",
+        _ => "13, a list",
+    };
+    vec!["13", length, lent]
+}
+
+fn refused_12(count: usize, room: usize) -> Vec<&'static str> {
+    let lent = match room {
+        0 => "12, an empty list",
+        _ if room + 1 == count => "12, one too short",
+        _ => "12, far too short",
+    };
+    vec!["12", lent]
+}
+
+fn carried_out(image: usize, count: usize, room: usize) -> Vec<&'static str> {
+    let length = match image {
+        IMAGE_BYTES => "2,240 bytes",
+        _ => "2,208 bytes",
+    };
+    let lent = match room {
+        0 => "nothing into an empty list",
+        _ if count == 0 => "nothing into a list",
+        _ if count == room => "into just enough",
+        _ => "into more",
+    };
+    vec!["carried out", length, lent]
+}
+
+/// An image of either length, mostly a sound one.
+fn any_image(dice: &mut Dice) -> Vec<u8> {
+    match dice.below(6) {
+        0 => older::any_image(dice),
+        1 => {
+            let state = any_state(dice);
+            older::older_image(dice, &state)
+        }
+        _ => any_state(dice).image(),
+    }
+}
+
+/// A list for an order on an image, mostly long enough, with any numbers in it.
+fn any_list(dice: &mut Dice, order: Order, image: &[u8]) -> Vec<u16> {
+    let count = match State::of_image(image) {
+        Ok(state) => state.order(order).len(),
+        Err(_) => dice.below(40) as usize,
+    };
+    let length = match dice.below(10) {
+        0..=3 => count,
+        4..=5 => count + dice.between(1, 40) as usize,
+        6 => EVERY_PAGE,
+        7 => count.saturating_sub(1),
+        8 => dice.between(0, count as u64) as usize,
+        _ => 0,
+    };
+    (0..length).map(|_| dice.bits() as u16).collect()
+}
+
+/// Two readers at the start of each file, whose look-aheads reach its end, late in
+/// time: with T 0 and above, with nothing cached and with every frame taken.
+fn largest() -> Vec<State> {
+    let mut states = Vec::new();
+    for fetch_time in [0, 1_953] {
+        for cached in [0, 1_024] {
+            let mut state = State::idle();
+            state.frames = 1_024;
+            state.look_ahead = 2_000_000;
+            state.fetch_time = fetch_time;
+            state.sizes = [FILE_PAGES; FILES as usize];
+            state.turn = 11;
+            for slot in 0..SLOTS {
+                let reader = Reader::running(slot % FILES, 1_000 - slot, 0, FILE_PAGES);
+                state.readers.insert(slot, reader);
+            }
+            let every_eighth = (0..cached).map(|nth| Page::of_key(8 * nth + 5));
+            state.cached = every_eighth.collect();
+            states.push(state);
+        }
+    }
+    states
+}
+
+/// Pages about the borders of words.
+const BORDERS: [u64; 12] = [1, 2, 63, 64, 65, 66, 127, 128, 129, 192, 193, 256];
+
+/// A reader of file 0, before which all is cached but two pages about borders: m is
+/// 2, so that the look-ahead ends with the second. Another reads file 1, of which all
+/// is cached, at times between those of the first.
+fn at_borders() -> Vec<State> {
+    let mut states = Vec::new();
+    for position in [0, 1, 62, 63, 64, 65] {
+        for (nth, &low) in BORDERS.iter().enumerate() {
+            for &high in &BORDERS[nth + 1..] {
+                if low > position {
+                    states.push(at_border(position, [low, high]));
+                }
+            }
+        }
+    }
+    states
+}
+
+fn at_border(position: u64, missing: [u64; 2]) -> State {
+    let mut state = State::idle();
+    state.frames = 512;
+    state.look_ahead = 1_000;
+    state.fetch_time = 500;
+    state.sizes[..2].fill(256);
+    state.readers = [
+        (4, Reader::running(0, 1, position, 256)),
+        (9, Reader::running(1, 3, 0, 256)),
+    ]
+    .into();
+    for number in 1..=256 {
+        if number > position && !missing.contains(&number) {
+            state.cached.insert(Page { file: 0, number });
+        }
+        state.cached.insert(Page { file: 1, number });
+    }
+    state
+}

@@ -1,0 +1,3 @@
+-- What the walks rest on: one walk page by page, and the slots one after the other.
+pub mod Alongs
+pub mod Slots
