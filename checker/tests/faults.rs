@@ -19,11 +19,11 @@ use checker::trial::fields::{self, FIELD_OUTCOMES};
 use checker::trial::first::first_images;
 use checker::trial::lists::{built, random, LIST_OUTCOMES};
 use checker::trial::named::{self, Named};
-use checker::trial::older::{probed, upgraded, OLDER_OUTCOMES};
+use checker::trial::older::{every_byte, probed, upgraded, OLDER_OUTCOMES};
 use checker::trial::{calls, damage, fewest, rules, soundings, Report, CALL_OUTCOMES};
 use lists::LISTS;
 use measure::{marks_lost_by, older_taken, MEASURES};
-use older::{PROBES, UPGRADES};
+use older::{BYTES, PROBES, UPGRADES};
 use std::collections::BTreeSet;
 use std::ops::Range;
 
@@ -147,6 +147,18 @@ fn a_wrong_restore_or_save_is_found() {
         assert!(by_chance, "{name}");
         let found = failed(|report, _| rules::by_probe(report, probe)) > 0;
         assert_eq!(found, by_rule, "{name}");
+    }
+}
+
+#[test]
+fn a_wrong_byte_is_found() {
+    for (name, seldom, probe) in BYTES {
+        let by_byte = failed(|report, dice| every_byte(report, probe, dice));
+        assert!(by_byte > 0, "{name}");
+        let by_rule = failed(|report, _| rules::by_probe(report, probe));
+        assert_eq!(by_rule, 0, "{name}");
+        let by_chance = failed(|report, dice| probed(report, probe, dice, 2_000));
+        assert_eq!(by_chance < 4, seldom, "{name}");
     }
 }
 

@@ -10,6 +10,9 @@ use std::ops::Range;
 /// The number of O at the C boundary.
 const O: u64 = 79 * 65_536;
 
+/// Where file 6 starts in a map.
+const FILE_6: usize = 128 * 6;
+
 /// Those of Restore and Save. True for one that a rule alone finds.
 #[rustfmt::skip]
 pub const PROBES: [(&str, bool, Probe); 19] = [
@@ -56,10 +59,10 @@ fn restored_as(
     saved(state, buffer)
 }
 
-/// Restore of an image of 2,240 bytes that is mended before.
-fn mended(image: &[u8], buffer: &mut [u8], mend: fn(&mut [u8])) -> u64 {
+/// Restore of an image that is mended before, if it has this length.
+fn mended(image: &[u8], buffer: &mut [u8], length: usize, mend: fn(&mut [u8])) -> u64 {
     let mut image = image.to_vec();
-    if image.len() == IMAGE_BYTES {
+    if image.len() == length {
         mend(&mut image);
     }
     saved(State::of_image(&image).ok(), buffer)
@@ -113,15 +116,15 @@ fn last_pages_as_sizes(image: &[u8], buffer: &mut [u8]) -> u64 {
 }
 
 fn zero_taken(image: &[u8], buffer: &mut [u8]) -> u64 {
-    mended(image, buffer, mend_zeros)
+    mended(image, buffer, IMAGE_BYTES, mend_zeros)
 }
 
 fn mark_taken(image: &[u8], buffer: &mut [u8]) -> u64 {
-    mended(image, buffer, mend_marks)
+    mended(image, buffer, IMAGE_BYTES, mend_marks)
 }
 
 fn empty_mark_taken(image: &[u8], buffer: &mut [u8]) -> u64 {
-    mended(image, buffer, mend_empty_marks)
+    mended(image, buffer, IMAGE_BYTES, mend_empty_marks)
 }
 
 fn older_refused(image: &[u8], buffer: &mut [u8]) -> u64 {
@@ -207,6 +210,63 @@ fn twelve_alone(image: &[u8], buffer: &mut [u8]) -> u64 {
         number if number >> 32 == 12 => (12 << 32) + O,
         number => number,
     }
+}
+
+/// Those of Restore that are wrong about a byte, which no rule finds. True for one that
+/// chance finds seldom: every byte has to be changed.
+#[rustfmt::skip]
+pub const BYTES: [(&str, bool, Probe); 6] = [
+    ("an older image's L of three bytes", true, three_bytes_of_l),
+    ("T of three bytes in 2,240", true, three_bytes_of_t),
+    ("a byte above the size overlooked in an older image", true, byte_overlooked),
+    ("the four 0 bytes told by their lowest bit", true, lowest_bit_told),
+    ("two bytes of an older image swapped", false, bytes_swapped),
+    ("a mark's high byte taken from the slot before", false, high_byte_of_another),
+];
+
+fn three_bytes_of_l(image: &[u8], buffer: &mut [u8]) -> u64 {
+    mended(image, buffer, OLDER_IMAGE_BYTES, |image| {
+        image[layout::LOOK_AHEAD + 3] = 0;
+    })
+}
+
+fn three_bytes_of_t(image: &[u8], buffer: &mut [u8]) -> u64 {
+    mended(image, buffer, IMAGE_BYTES, |image| {
+        image[layout::FETCH_TIME + 3] = 0;
+    })
+}
+
+/// Pages 1,009 to 1,016 of file 6, in either map, where it has no such pages.
+fn byte_overlooked(image: &[u8], buffer: &mut [u8]) -> u64 {
+    mended(image, buffer, OLDER_IMAGE_BYTES, |image| {
+        let size = &image[layout::size(6)];
+        if u16::from_le_bytes([size[0], size[1]]) < 1_009 {
+            image[layout::CACHED + FILE_6 + 126] = 0;
+            image[layout::IN_FETCH + FILE_6 + 126] = 0;
+        }
+    })
+}
+
+fn lowest_bit_told(image: &[u8], buffer: &mut [u8]) -> u64 {
+    mended(image, buffer, IMAGE_BYTES, |image| {
+        for byte in &mut image[layout::FOUR_ZEROS..layout::CACHED] {
+            *byte &= 1;
+        }
+    })
+}
+
+/// In the fetch map, the last byte of file 5 and the first of file 6.
+fn bytes_swapped(image: &[u8], buffer: &mut [u8]) -> u64 {
+    mended(image, buffer, OLDER_IMAGE_BYTES, |image| {
+        let first = layout::IN_FETCH + FILE_6;
+        image.swap(first - 1, first);
+    })
+}
+
+fn high_byte_of_another(image: &[u8], buffer: &mut [u8]) -> u64 {
+    mended(image, buffer, IMAGE_BYTES, |image| {
+        image[layout::mark(9).end - 1] = image[layout::mark(8).end - 1];
+    })
 }
 
 /// Those of the upgrade. True for one that a rule alone finds.

@@ -195,6 +195,11 @@ pub restore-save : (s : State) → Valid s → restoreOf (imageOf s) ≡ reply s
 unfolding restoreOf
 restore-save s v = ap restoreWhole (saved-same s v) ∙ whole-save s v
 
+-- a refused image, of any length and any bytes. 01: "13: .. The idle state comes back"
+pub restore-refused : (image : List ℕ) → (restoreOf image .answer ≡ Done → ⊥) → restoreOf image ≡ refused idle 13
+unfolding restoreOf
+restore-refused image n = whole-refused (upgraded image) n
+
 module _ (image : List ℕ) (bytes : Bytes image) where
   -- accepted or refused, the state is valid
   pub restored-valid : Valid (restoreOf image .state)
