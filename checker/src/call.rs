@@ -1,7 +1,7 @@
 //! The nine calls of the C boundary, the settings of a first image, what takes up
-//! an older one, and what lists an order.
+//! an older one, what lists an order, and what tells when pages will be read.
 
-use crate::limits::FILES;
+use crate::limits::{FILES, MOST_QUESTIONS};
 
 /// "The server is in C and calls the box on numbers and an image buffer:
 /// Attach, Detach, Read, Arrive, Lost, Prefetch, Steal, Run"; and Measure, "in a
@@ -105,6 +105,17 @@ impl Order {
 /// list: the box's Steal list and Fetch list, or what stands for them. It returns
 /// the refusal's number, or 4,294,967,296 + keys × 65,536 + pages tested.
 pub type Lister = fn(Order, &[u8], &mut [u16]) -> u64;
+
+/// Something that restores an image of any length and answers questions, each a file
+/// and a page; an odd last number is no question. It makes a record of every answer
+/// that is handed over, 0 for one that the call leaves, and writes their numbers
+/// back; but an image that is refused leaves the answers. It returns the refusal's
+/// number, or 4,294,967,296 + words.
+pub type WhenRead = fn(&[u8], &[u64], &mut [u64]) -> u64;
+
+/// How many questions, and how many answers, are handed over at most: one more than
+/// the call takes. More are not touched.
+pub const ROWS_HANDED: usize = MOST_QUESTIONS + 1;
 
 impl Call {
     /// The call's name in the paper.

@@ -1,10 +1,12 @@
-//! A state as a picture and two tables, for people to read.
+//! A state as a picture and two tables, and when pages will be read, for people to
+//! read.
 //!
 //! An aid outside the proofs: what it shows is the model's, and tests compare
 //! its orders with the program's own.
 
 mod labels;
 mod picture;
+mod questions;
 mod svg;
 mod tables;
 mod text;
@@ -18,6 +20,7 @@ use crate::model::{follow, Page, State};
 /// What both forms say.
 const TITLE: &str = "The quay box, explained";
 const NOTE: &str = "An aid outside the proofs.";
+const ASKED: &str = "Pages asked about";
 const TIES: &str = "The seat distance is shown where use times are equal: there it decides.";
 
 /// The ruler's part of a legend.
@@ -47,6 +50,9 @@ pub struct Explained {
     pub fetch: Vec<Row>,
     /// Whether every row is shown, of the files and of the orders.
     pub every_row: bool,
+    /// When the pages will be read that were asked about, a sentence for each.
+    pub asked: Vec<String>,
+    state: State,
 }
 
 impl Explained {
@@ -77,6 +83,8 @@ impl Explained {
             steal: tables::rows(state, state.steal_order()),
             fetch: tables::rows(state, state.fetch_order()),
             every_row: false,
+            asked: Vec::new(),
+            state: state.clone(),
         }
     }
 
@@ -108,6 +116,14 @@ impl Explained {
     pub fn with_every_row(self) -> Explained {
         Explained {
             every_row: true,
+            ..self
+        }
+    }
+
+    /// The same with these pages asked about, which may be any numbers.
+    pub fn asked_about(self, pages: &[Page]) -> Explained {
+        Explained {
+            asked: questions::sentences(&self.state, pages),
             ..self
         }
     }

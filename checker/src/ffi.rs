@@ -1,7 +1,7 @@
 //! The box itself, through its C entries: "calls the box on numbers and an
 //! image buffer"; the header's first image and its upgrade of an older one, through
-//! `ffi.c`; Restore and Save by themselves; and Steal list and Fetch list with what
-//! they report.
+//! `ffi.c`; Restore and Save by themselves; Steal list and Fetch list with what they
+//! report; and when pages will be read.
 
 #![allow(unsafe_code)]
 
@@ -38,6 +38,14 @@ extern "C" {
         -> u64;
     fn probe_steal_list(image: *const u8, image_len: usize, list: *mut u16, room: usize) -> u64;
     fn probe_fetch_list(image: *const u8, image_len: usize, list: *mut u16, room: usize) -> u64;
+    fn probe_when_read(
+        image: *const u8,
+        image_len: usize,
+        questions: *const u64,
+        numbers: usize,
+        answers: *mut u64,
+        room: usize,
+    ) -> u64;
 }
 
 /// One call through the box's C entry of that name.
@@ -115,4 +123,14 @@ pub fn list(order: Order, image: &[u8], list: &mut [u16]) -> u64 {
             Order::Fetch => probe_fetch_list(at, len, list, room),
         }
     }
+}
+
+/// When pages will be read, on an image, by the box.
+pub fn when_read(image: &[u8], questions: &[u64], answers: &mut [u64]) -> u64 {
+    let (at, len) = (image.as_ptr(), image.len());
+    let (asked, numbers) = (questions.as_ptr(), questions.len());
+    let (answers, room) = (answers.as_mut_ptr(), answers.len());
+    // SAFETY: it may read the image and `numbers` numbers from `asked`, and read and
+    // write `room` numbers from `answers`, which are lent to it alone.
+    unsafe { probe_when_read(at, len, asked, numbers, answers, room) }
 }

@@ -33,6 +33,9 @@ pub const MOST_TURNS: u64 = 16_384;
 /// Measure: "interval (1 to 1,000,000 ticks)".
 pub const INTERVAL: RangeInclusive<u64> = 1..=1_000_000;
 
+/// "the server puts up to 1,024 questions at a time".
+pub const MOST_QUESTIONS: usize = 1_024;
+
 /// "The image grows to 2,240 bytes", and "Saving and the C buffer use the new
 /// length".
 pub const IMAGE_BYTES: usize = 2_240;

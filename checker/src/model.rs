@@ -12,6 +12,7 @@ mod lists;
 mod older;
 mod orders;
 mod program;
+mod questions;
 mod state;
 
 pub use answer::{Answer, Refusal};
@@ -20,4 +21,5 @@ pub use lists::list;
 pub use older::{probe, upgrade_image};
 pub use orders::UseKey;
 pub use program::{follow, respond, run_program};
+pub use questions::{when_read, When};
 pub use state::{Page, Reader, State};

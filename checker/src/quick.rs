@@ -2,19 +2,23 @@
 //!
 //! This is the yardstick of the benchmarks: plain, good Rust without tricks. A
 //! decision walks every reader's look-ahead once into an array of use keys and
-//! then scans the pages; a list sorts them. Nothing is allocated. Tests hold it to the model.
+//! then scans the pages; a list sorts them. A question is worked out by itself.
+//! Nothing is allocated. Tests hold it to the model.
 //!
-//! [`entry`] takes calls on an image, [`list`] lists an order of one, [`Lines`] takes
-//! the program's lines.
+//! [`entry`] takes calls on an image, [`list`] lists an order of one, [`when_read`]
+//! answers questions about one and [`question`] a single one, [`Lines`] takes the
+//! program's lines.
 
 mod calls;
 mod decide;
 mod image;
 mod lines;
 mod lists;
+mod questions;
 
 pub use lines::Lines;
 pub use lists::list;
+pub use questions::{question, when_read};
 
 use crate::call::Call;
 use std::ops::Range;

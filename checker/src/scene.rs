@@ -1,12 +1,14 @@
-//! Random scenes: valid states of every kind, calls to make on them, and
-//! streams of the program's lines, sound and broken.
+//! Random scenes: valid states of every kind, calls to make on them, questions to
+//! ask of them, and streams of the program's lines, sound and broken.
 
 mod broken;
 mod calls;
+mod questions;
 mod states;
 mod streams;
 
 pub use broken::long_line;
 pub use calls::{any_call, calls_at_bounds};
+pub use questions::any_questions;
 pub use states::{any_state, long_run_state};
 pub use streams::{reads, Mood, Stream};

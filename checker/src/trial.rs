@@ -1,7 +1,9 @@
 //! Trials: each holds an [`Entry`](crate::call::Entry), a
-//! [`Lister`](crate::call::Lister) or a [`Program`](crate::feed::Program) to the model
-//! or to the paper, and counts in a [`Report`] what passed and what failed.
+//! [`Lister`](crate::call::Lister), a [`WhenRead`](crate::call::WhenRead) or a
+//! [`Program`](crate::feed::Program) to the model or to the paper, and counts in a
+//! [`Report`] what passed and what failed.
 
+mod answers;
 pub mod calls;
 pub mod damage;
 pub mod fewest;
@@ -12,11 +14,13 @@ pub mod lists;
 pub mod named;
 pub mod older;
 mod options;
+pub mod questions;
 mod report;
 pub mod rules;
 pub mod soundings;
 pub mod streams;
 mod walks;
+pub mod worked;
 
 pub use hold::{hold, CALL_OUTCOMES};
 pub use options::seed_and_rounds;

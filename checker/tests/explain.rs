@@ -69,6 +69,109 @@ fn an_idle_state_is_shown() {
     assert!(!text.contains("File"));
 }
 
+/// The pages of the short stream, each with what is said of it.
+const ASKED: [(&str, &str); 10] = [
+    ("0,1", "is behind: no reader has it before it."),
+    ("0,2", "will be read in 10 ticks, by slot 1."),
+    ("0,3", "will be read in 10 ticks, by slot 0."),
+    (
+        "0,6",
+        "is not seen: some reader has it before it, but in no look-ahead.",
+    ),
+    ("2,1", "will be read in 10 ticks, by slot 12."),
+    ("2,4", "is behind: no reader has it before it."),
+    ("2,5", ": there is no such page, the file has pages 1 to 4."),
+    ("0,0", ": there is no such page, the file has pages 1 to 9."),
+    ("1,1", ": there is no such file."),
+    (
+        "18446744073709551615,18446744073709551615",
+        ": there is no such file.",
+    ),
+];
+
+/// What the program is to say of them, without what it says in any case.
+fn asked() -> (Vec<Page>, Vec<String>) {
+    let mut pages = Vec::new();
+    let mut sentences = Vec::new();
+    for (page, words) in ASKED {
+        let Page { file, number } = page_of(page);
+        let space = if words.starts_with(':') { "" } else { " " };
+        sentences.push(format!("Page {number} of file {file}{space}{words}"));
+        pages.push(Page { file, number });
+    }
+    (pages, sentences)
+}
+
+#[test]
+fn pages_asked_about_are_shown() {
+    let (pages, sentences) = asked();
+    let explained = Explained::of_stream(STREAM).asked_about(&pages);
+    let lines: Vec<String> = sentences.iter().map(|line| format!("  {line}\n")).collect();
+    let shown = format!("{SHOWN}\nPages asked about\n{}", lines.concat());
+    assert_eq!(explained.text(), shown);
+    let svg = explained.svg();
+    assert_eq!(svg.matches(">Pages asked about</text>").count(), 1);
+    for sentence in sentences {
+        assert!(svg.contains(&format!(">{sentence}</text>\n")), "{sentence}");
+    }
+
+    let mut arguments = Vec::new();
+    for (page, _) in ASKED {
+        arguments.extend(["--page", page]);
+    }
+    let printed = explain(&arguments);
+    assert!(printed.status.success() && printed.stdout == shown.as_bytes());
+    let file = Kept::new("asked.svg", b"");
+    let written = explain(&[&["--svg", file.name()][..], &arguments].concat());
+    assert!(written.status.success() && written.stdout.is_empty());
+    assert_eq!(file.text(), svg);
+}
+
+/// One tick is no ticks; and the same page may be asked about twice.
+#[test]
+fn one_tick_is_shown_as_one() {
+    let state = long_file();
+    let image = Kept::new("asked-image", &state.image());
+    let printed = explain(&["--page", "0,65", "--image", image.name(), "--page", "0,65"]);
+    let said = String::from_utf8(printed.stdout).unwrap();
+    let sentence = "  Page 65 of file 0 will be read in 1 tick, by slot 0.\n";
+    let ending = format!("\n\nPages asked about\n{sentence}{sentence}");
+    assert!(said.ends_with(&ending), "{said}");
+    assert!(!Explained::of(&state)
+        .asked_about(&[])
+        .svg()
+        .contains("asked"));
+}
+
+#[test]
+fn a_page_that_is_none_gets_a_message() {
+    let needs = "quay-explain: \"--page\" needs a file and a page, as in 0,17";
+    let try_help = "\nTry: quay-explain --help\n";
+    for word in [
+        "",
+        "0",
+        "0,",
+        ",1",
+        "0,1,2",
+        "0, 1",
+        "+0,1",
+        "0,-1",
+        "a,1",
+        "0;1",
+        "0,18446744073709551616",
+    ] {
+        let output = explain(&["--page", "0,1", "--page", word]);
+        assert_eq!(output.status.code(), Some(2), "{word}");
+        assert!(output.stdout.is_empty());
+        let said = String::from_utf8(output.stderr).unwrap();
+        assert_eq!(said, format!("{needs}, and not {word:?}{try_help}"));
+    }
+    let output = explain(&["--page"]);
+    assert_eq!(output.status.code(), Some(2));
+    let said = String::from_utf8(output.stderr).unwrap();
+    assert_eq!(said, format!("{needs}{try_help}"));
+}
+
 /// A file of 500 pages: pages 1 to 70 cached, page 67 in fetch instead, readers
 /// before it, at the end of the first row and at the start of the second. They end
 /// in rows that would be alike without them, at the file's end, or where they are.
@@ -475,6 +578,13 @@ fn the_program_prints_the_text_or_writes_the_svg() {
     assert!(help.starts_with("usage: quay-explain ") && help.contains("outside the proofs"));
 }
 
+/// The page of an argument.
+fn page_of(word: &str) -> Page {
+    let (file, number) = word.split_once(',').unwrap();
+    let [file, number] = [file, number].map(|text| text.parse().unwrap());
+    Page { file, number }
+}
+
 /// The manual page shows what the program prints, and knows its options.
 #[test]
 fn the_manual_page_is_true() {
@@ -489,10 +599,18 @@ fn the_manual_page_is_true() {
     let lines = lines.replace("\\en", "\n");
     assert_eq!(Explained::of_stream(lines.as_bytes()).text(), shown);
 
+    let (_, example) = page.split_once(" quay-explain --page ").unwrap();
+    let (pages, shown) = example.split_once(" | tail -n 5\n").unwrap();
+    let (shown, _) = shown.split_once(".RE\n").unwrap();
+    let pages: Vec<Page> = pages.split(" --page ").map(page_of).collect();
+    let asked = Explained::of_stream(lines.as_bytes()).asked_about(&pages);
+    assert_eq!(shown.lines().count(), 5);
+    assert!(asked.text().ends_with(&format!("\n{shown}")), "{shown}");
+
     let help = String::from_utf8(explain(&["--help"]).stdout).unwrap();
     let options = help.lines().filter_map(|line| line.strip_prefix("  --"));
     let options: Vec<&str> = options.filter_map(|line| line.split(' ').next()).collect();
-    assert_eq!(options, ["image", "svg", "all", "help"]);
+    assert_eq!(options, ["image", "page", "svg", "all", "help"]);
     for option in options {
         let named = |line: &str| line.starts_with(".B") && line.contains(&format!("--{option}"));
         assert!(page.lines().any(named), "{option}");

@@ -6,8 +6,10 @@ mod lists;
 mod measure;
 #[path = "faults/older.rs"]
 mod older;
+#[path = "faults/questions.rs"]
+mod questions;
 
-use checker::call::{Call, Entry, First, Lister, Settings};
+use checker::call::{Call, Entry, First, Lister, Settings, WhenRead};
 use checker::cases::{CASES, MEASURE_CASES};
 use checker::feed::{Feed, Program};
 use checker::layout;
@@ -20,10 +22,13 @@ use checker::trial::first::first_images;
 use checker::trial::lists::{built, random, LIST_OUTCOMES};
 use checker::trial::named::{self, Named};
 use checker::trial::older::{every_byte, probed, upgraded, OLDER_OUTCOMES};
+use checker::trial::questions::{self as asked, QUESTION_OUTCOMES};
+use checker::trial::worked::worked;
 use checker::trial::{calls, damage, fewest, rules, soundings, Report, CALL_OUTCOMES};
 use lists::LISTS;
 use measure::{marks_lost_by, older_taken, MEASURES};
 use older::{BYTES, PROBES, UPGRADES};
+use questions::QUESTIONS;
 use std::collections::BTreeSet;
 use std::ops::Range;
 
@@ -189,6 +194,18 @@ fn a_wrong_list_or_report_is_found() {
 }
 
 #[test]
+fn a_wrong_answer_or_count_of_words_is_found() {
+    for (name, by_chance, when_read) in QUESTIONS {
+        let fixed = [worked, rules::by_question, asked::built];
+        let is_found =
+            |trial: &fn(&mut Report, WhenRead)| failed(|report, _| trial(report, when_read)) > 0;
+        assert!(fixed.iter().any(is_found), "{name}");
+        let found = found(|report, dice| asked::random(report, when_read, dice, 20));
+        assert_eq!(found, by_chance, "{name}");
+    }
+}
+
+#[test]
 fn a_run_past_the_last_pages_is_found() {
     let entry: Entry = |image, call| {
         if let (Call::Run { .. }, Some(mut state)) = (call, restored(image)) {
@@ -212,6 +229,7 @@ fn an_answer_never_met_is_found() {
         FIELD_OUTCOMES,
         OLDER_OUTCOMES,
         LIST_OUTCOMES,
+        QUESTION_OUTCOMES,
     ] {
         let unmet = failed(|report, dice| {
             calls::random_calls(report, quick::entry, dice, 1);

@@ -1,10 +1,14 @@
-//! Quick against the model: equal numbers, equal images, equal lists.
+//! Quick against the model: equal numbers, equal images, equal lists, equal answers.
 
 use checker::cases::{CASES, MEASURE_CASES};
-use checker::quick::{entry, list};
+use checker::model::{Page, State};
+use checker::quick::{entry, list, question, when_read};
 use checker::random::Dice;
+use checker::scene::{any_questions, any_state};
 use checker::trial::fields::{self, FIELD_OUTCOMES};
 use checker::trial::lists::{self, LIST_OUTCOMES};
+use checker::trial::questions::{self, QUESTION_OUTCOMES};
+use checker::trial::worked::worked;
 use checker::trial::{calls, damage, rules, soundings, Report, CALL_OUTCOMES};
 
 #[test]
@@ -33,4 +37,32 @@ fn lists_and_what_they_report() {
     report.check_every_outcome_met(LIST_OUTCOMES);
     println!("{}", report.outcomes(LIST_OUTCOMES));
     assert_eq!(report.failed(), 0);
+}
+
+#[test]
+fn questions_and_their_words() {
+    let (mut report, mut dice) = (Report::default(), Dice::new(27));
+    worked(&mut report, when_read);
+    rules::by_question(&mut report, when_read);
+    questions::built(&mut report, when_read);
+    questions::random(&mut report, when_read, &mut dice, 3_000);
+    report.check_every_outcome_met(QUESTION_OUTCOMES);
+    println!("{}", report.outcomes(QUESTION_OUTCOMES));
+    assert_eq!(report.failed(), 0);
+}
+
+#[test]
+fn a_single_question() {
+    let mut dice = Dice::new(28);
+    for _ in 0..300 {
+        let state = any_state(&mut dice);
+        let image = state.image();
+        for page in any_questions(&mut dice, &state, 8) {
+            let Page { file, number } = page;
+            let answer = state.when_read(page).number();
+            assert_eq!(question(&image, file, number), answer);
+            assert_eq!(question(&image[1..], file, number), 13);
+        }
+    }
+    assert_eq!(question(&State::idle().image(), 0, 1), 3);
 }

@@ -1,5 +1,6 @@
 //! Holds the box's C entries, the header's first image and upgrade, and by themselves
-//! Restore, Save, Steal list and Fetch list to the model and to the papers.
+//! Restore, Save, Steal list, Fetch list and "When will these be read?" to the model
+//! and to the papers.
 //!
 //!     QUAY_LIB=folder QUAY_PROBE=folder \
 //!         cargo run --release --features box --bin entries
@@ -9,13 +10,15 @@
 //! line is `entries: N passed, 0 failed`, or the exit status is not 0.
 
 use checker::cases::{CASES, MEASURE_CASES};
-use checker::ffi::{entry, first_image, list, probe, upgrade_image};
+use checker::ffi::{entry, first_image, list, probe, upgrade_image, when_read};
 use checker::model::run_program;
 use checker::random::Dice;
 use checker::trial::fields::{self, FIELD_OUTCOMES};
 use checker::trial::first::{first_images, FIRST_OUTCOMES};
 use checker::trial::lists::{self, LIST_OUTCOMES};
 use checker::trial::older::{self, OLDER_OUTCOMES};
+use checker::trial::questions::{self, QUESTION_OUTCOMES};
+use checker::trial::worked::worked;
 use checker::trial::{calls, damage, fewest, named, rules, seed_and_rounds, soundings};
 use checker::trial::{Report, CALL_OUTCOMES};
 use std::process::ExitCode;
@@ -36,19 +39,17 @@ fn main() -> ExitCode {
     }
     let calls = [CALL_OUTCOMES, CASES, MEASURE_CASES].concat();
     let images = [FIELD_OUTCOMES, OLDER_OUTCOMES, FIRST_OUTCOMES].concat();
-    report.close(
-        "entries",
-        "calls",
-        &[&calls, &images, LIST_OUTCOMES].concat(),
-    )
+    let lent = [LIST_OUTCOMES, QUESTION_OUTCOMES].concat();
+    report.close("entries", "calls", &[calls, images, lent].concat())
 }
 
 /// What is the same for every seed.
 fn fixed(report: &mut Report) {
-    report.part("soundings and listing", |report| {
+    report.part("soundings, worked questions and listing", |report| {
         soundings::by_model(report);
         soundings::by_entry(report, entry);
         soundings::by_list(report, list);
+        worked(report, when_read);
         soundings::listing(report, run_program);
     });
     report.part("trials by name", |report| {
@@ -61,9 +62,13 @@ fn fixed(report: &mut Report) {
         rules::by_probe(report, probe);
         rules::by_upgrade(report, upgrade_image, entry);
         rules::by_list(report, list);
+        rules::by_question(report, when_read);
     });
     report.part("lists at their largest and about borders", |report| {
         lists::built(report, list);
+    });
+    report.part("questions at every bound and about borders", |report| {
+        questions::built(report, when_read);
     });
 }
 
@@ -98,11 +103,19 @@ fn round(report: &mut Report, dice: &mut Dice) {
     report.part("first images", |report| {
         first_images(report, first_image, entry, dice, 10_000);
     });
-    report.part("lists and what they report", |report| {
-        lists::random(report, list, dice, 15_000);
-    });
+    lent(report, dice);
     report.part("fewest fetches of any schedule", |report| {
         let with_evictions = fewest::fewest(report, entry, dice, INSTANCES);
         println!("{with_evictions} of {INSTANCES} small instances had evictions");
+    });
+}
+
+/// The calls that write into a lent list.
+fn lent(report: &mut Report, dice: &mut Dice) {
+    report.part("lists and what they report", |report| {
+        lists::random(report, list, dice, 15_000);
+    });
+    report.part("questions and the words read", |report| {
+        questions::random(report, when_read, dice, 15_000);
     });
 }

@@ -1,21 +1,23 @@
 //! Shows the state that a stream of lines leads to, or that of a saved image: the
 //! files with their pages and readers, and both orders with the reason for each
-//! place.
+//! place; and when pages that are asked about will be read.
 //!
 //!     cargo run --release --bin quay-explain < stream
+//!     cargo run --release --bin quay-explain -- --page FILE,PAGE < stream
 //!     cargo run --release --bin quay-explain -- --image FILE --svg FILE
 //!
 //! An aid outside the proofs: it runs the checker's model, not the box.
 
 use checker::explain::Explained;
+use checker::model::Page;
 use std::ffi::OsString;
 use std::io::{self, ErrorKind, Read, Write};
 use std::path::PathBuf;
 use std::process::ExitCode;
 
 const HELP: &str = "\
-usage: quay-explain [--all] [--svg FILE] < stream
-       quay-explain [--all] [--svg FILE] --image FILE
+usage: quay-explain [--all] [--page FILE,PAGE].. [--svg FILE] < stream
+       quay-explain [--all] [--page FILE,PAGE].. [--svg FILE] --image FILE
 
 Shows a state of the quay box: the files with their pages (cached, in fetch,
 neither) in rows, and their readers; then the steal order and the fetch order,
@@ -23,12 +25,14 @@ each page with its stretch, its use time and the slot that reads it. The state i
 the one behind the last of the lines on standard input, which are lines of the
 program quay, or that of a saved image.
 
-  --image FILE  take the state from FILE, an image of the box or an older one;
-                read no lines
-  --svg FILE    write picture and tables to FILE as SVG; print nothing
-  --all         show every row: of an order, not its first 40, and of a file's
-                pages, also those that are alike
-  --help        print this
+  --image FILE      take the state from FILE, an image of the box or an older
+                    one; read no lines
+  --page FILE,PAGE  say at the end when this page will be read, and by which slot,
+                    or why not; for more pages give it again
+  --svg FILE        write all of it to FILE as SVG; print nothing
+  --all             show every row: of an order, not its first 40, and of a file's
+                    pages, also those that are alike
+  --help            print this
 
 It is an aid outside the proofs: what it shows is the checker's, not the box's.
 ";
@@ -40,6 +44,7 @@ struct Wish {
     all: bool,
     svg: Option<PathBuf>,
     image: Option<PathBuf>,
+    pages: Vec<Page>,
 }
 
 fn main() -> ExitCode {
@@ -67,6 +72,10 @@ fn wish(mut words: impl Iterator<Item = OsString>) -> Result<Wish, String> {
             Some("--all") => std::mem::replace(&mut wish.all, true),
             Some("--svg") => wish.svg.replace(file(&word, words.next())?).is_some(),
             Some("--image") => wish.image.replace(file(&word, words.next())?).is_some(),
+            Some("--page") => {
+                wish.pages.push(page(&word, words.next())?);
+                false
+            }
             _ => return Err(format!("{word:?} is no argument of quay-explain")),
         };
         if again {
@@ -82,6 +91,26 @@ fn file(option: &OsString, word: Option<OsString>) -> Result<PathBuf, String> {
     file.map(PathBuf::from)
 }
 
+/// A file and a page, each any number of 64 bits.
+fn page(option: &OsString, word: Option<OsString>) -> Result<Page, String> {
+    let needs = format!("{option:?} needs a file and a page, as in 0,17");
+    let word = word.ok_or(needs.clone())?;
+    let numbers = word.to_str().and_then(|word| word.split_once(','));
+    let page = numbers.and_then(|(file, page)| {
+        Some(Page {
+            file: number(file)?,
+            number: number(page)?,
+        })
+    });
+    page.ok_or_else(|| format!("{needs}, and not {word:?}"))
+}
+
+/// A number of digits alone.
+fn number(text: &str) -> Option<u64> {
+    let digits = text.bytes().all(|byte| byte.is_ascii_digit());
+    text.parse().ok().filter(|_| digits)
+}
+
 fn fulfil(wish: Wish) -> Result<(), String> {
     if wish.help {
         return print(HELP);
@@ -93,6 +122,7 @@ fn fulfil(wish: Wish) -> Result<(), String> {
     if wish.all {
         explained = explained.with_every_row();
     }
+    let explained = explained.asked_about(&wish.pages);
     match wish.svg {
         Some(file) => std::fs::write(&file, explained.svg())
             .map_err(|error| format!("{}: {error}", file.display())),

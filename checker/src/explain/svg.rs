@@ -3,7 +3,7 @@
 use super::picture::RULER;
 use super::text::strip_title;
 use super::{alike_words, labels, Explained, Mark, PageRow, ReaderMark, Row, Shown, Sign, Strip};
-use super::{NOTE, RULED, TIES, TITLE};
+use super::{ASKED, NOTE, RULED, TIES, TITLE};
 
 const WIDTH: usize = 1_040;
 const LEFT: usize = 30;
@@ -83,6 +83,7 @@ pub fn svg(explained: &Explained) -> String {
         sheet.legend(&explained.strips);
     }
     sheet.tables(explained);
+    sheet.asked(&explained.asked);
     let height = sheet.y + 2 * LINE;
     format!(
         "<svg xmlns=\"http://www.w3.org/2000/svg\" viewBox=\"0 0 {WIDTH} {height}\" \
@@ -240,6 +241,18 @@ impl Sheet {
         self.table(explained, FETCH_LEFT, "Fetch order", &FETCH_COLUMNS, fetch);
         self.y = self.y.max(steal_end) + 2 * LINE;
         self.text("soft", LEFT, TIES);
+    }
+
+    /// What becomes of the pages that were asked about.
+    fn asked(&mut self, sentences: &[String]) {
+        if !sentences.is_empty() {
+            self.y += 2 * LINE;
+            self.text("name", LEFT, ASKED);
+        }
+        for sentence in sentences {
+            self.y += LINE;
+            self.text("plain", LEFT, sentence);
+        }
     }
 
     fn table(

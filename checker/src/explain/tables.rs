@@ -1,6 +1,5 @@
 //! The two orders, row by row, with the reason for each place.
 
-use crate::limits::SLOTS;
 use crate::model::{Page, State, UseKey};
 use std::collections::{BTreeMap, BTreeSet};
 
@@ -64,7 +63,7 @@ pub fn rows(state: &State, order: Vec<Page>) -> Vec<Row> {
         };
         let read = key.map(|&UseKey { time, seat }| Use {
             time,
-            slot: (state.turn + seat) % SLOTS,
+            slot: state.slot_at(seat),
             seat_in_tie: tied.contains(&time).then_some(seat),
         });
         Row {

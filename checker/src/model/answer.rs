@@ -103,7 +103,7 @@ pub enum Refusal {
     FetchOpen = 10,
     /// Run: turns "above 16,384".
     Turns = 11,
-    /// "list too short", "buffer shorter".
+    /// "list too short", "buffer shorter", "More than 1,024 rows".
     TooShort = 12,
     /// Restore's rules.
     Image = 13,

@@ -184,14 +184,19 @@ impl State {
         Ok(())
     }
 
-    /// A page in fetch, or "3", "8: page 0 or above the size", "9: page not in
-    /// fetch".
-    fn open_fetch(&self, file: u64, number: u64) -> Result<Page, Refusal> {
-        self.check_file(file)?;
-        if number == 0 || number > self.size(file) {
+    /// "3", then "8: page 0 or above the size."
+    pub(super) fn check_page(&self, page: Page) -> Result<(), Refusal> {
+        self.check_file(page.file)?;
+        if page.number == 0 || page.number > self.size(page.file) {
             return Err(Refusal::Page);
         }
+        Ok(())
+    }
+
+    /// A page in fetch, or 3, 8, "9: page not in fetch".
+    fn open_fetch(&self, file: u64, number: u64) -> Result<Page, Refusal> {
         let page = Page { file, number };
+        self.check_page(page)?;
         if !self.in_fetch.contains(&page) {
             return Err(Refusal::NotInFetch);
         }

@@ -140,6 +140,11 @@ impl State {
         (slot + SLOTS - self.turn) % SLOTS
     }
 
+    /// The slot that has this seat distance.
+    pub fn slot_at(&self, seat: u64) -> u64 {
+        (self.turn + seat) % SLOTS
+    }
+
     /// Some reader still has the page before it.
     pub fn is_ahead_of_some_reader(&self, page: Page) -> bool {
         self.readers.values().any(|reader| reader.has_ahead(page))

@@ -57,7 +57,12 @@ impl Flat {
 
     /// Walks one look-ahead, and gives its pages. A use key is time × 16 + seat
     /// distance; a time is below 4,000,001, so the key fits.
-    fn walk_ahead_of(&self, reader: &Reader, seat: u32, use_keys: &mut [u32; PAGES]) -> u64 {
+    pub(super) fn walk_ahead_of(
+        &self,
+        reader: &Reader,
+        seat: u32,
+        use_keys: &mut [u32; PAGES],
+    ) -> u64 {
         let most_missing = self.most_missing();
         let left = reader.last - reader.position;
         let reach = left.min(self.look_ahead / reader.pace) as usize;
@@ -80,7 +85,7 @@ impl Flat {
     }
 
     /// m, the pages not cached that end a look-ahead. With T 0 none do.
-    fn most_missing(&self) -> u32 {
+    pub(super) fn most_missing(&self) -> u32 {
         let m = self.look_ahead.checked_div(self.fetch_time);
         m.unwrap_or(u32::MAX)
     }

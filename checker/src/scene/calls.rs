@@ -136,7 +136,7 @@ fn attaches_at(dice: &mut Dice, state: &State, file: u64, edge: u64) -> [Call; 5
 }
 
 /// The number itself, or now and then another in its place.
-fn seldom_wild(dice: &mut Dice, usual: u64) -> u64 {
+pub(super) fn seldom_wild(dice: &mut Dice, usual: u64) -> u64 {
     match dice.below(24) {
         0 => dice.pick(&EDGES),
         1 => usual.wrapping_add(dice.pick(&PAST_A_CUT)),
@@ -156,7 +156,7 @@ fn usual_slot(dice: &mut Dice, state: &State) -> u64 {
 
 /// A page, mostly one in fetch; else about the pages of a file, mostly one that
 /// there is.
-fn usual_page(dice: &mut Dice, state: &State) -> Page {
+pub(super) fn usual_page(dice: &mut Dice, state: &State) -> Page {
     let open = state.in_fetch.len() as u64;
     if open > 0 && !dice.once_in(6) {
         let nth = dice.below(open) as usize;

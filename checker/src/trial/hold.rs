@@ -24,6 +24,7 @@ pub const CALL_OUTCOMES: &Outcomes = &[
 const GUARD: usize = 96;
 const GUARD_BYTE: u8 = 0xA5;
 const GUARD_NUMBER: u16 = 0xA5A5;
+const GUARD_ANSWER: u64 = 0xA5A5_A5A5_A5A5_A5A5;
 
 /// Makes the call on a copy of the image. Returns number and image by the model.
 pub fn hold(report: &mut Report, entry: Entry, image: &[u8], call: Call) -> (u64, Vec<u8>) {
@@ -69,6 +70,17 @@ pub(super) fn hold_list(
     what: impl FnOnce() -> String,
 ) {
     hold_lent(report, GUARD_NUMBER, list, expected, act, what);
+}
+
+/// The same for a list of answers.
+pub(super) fn hold_answers(
+    report: &mut Report,
+    answers: &[u64],
+    expected: &(u64, Vec<u64>),
+    act: impl FnOnce(&mut [u64]) -> u64,
+    what: impl FnOnce() -> String,
+) {
+    hold_lent(report, GUARD_ANSWER, answers, expected, act, what);
 }
 
 /// Acts on a copy of what is lent, with guards on both sides and at every alignment

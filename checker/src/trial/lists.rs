@@ -138,7 +138,7 @@ fn carried_out(image: usize, count: usize, room: usize) -> Vec<&'static str> {
 }
 
 /// An image of either length, mostly a sound one.
-fn any_image(dice: &mut Dice) -> Vec<u8> {
+pub(super) fn any_image(dice: &mut Dice) -> Vec<u8> {
     match dice.below(6) {
         0 => older::any_image(dice),
         1 => {
@@ -168,7 +168,7 @@ fn any_list(dice: &mut Dice, order: Order, image: &[u8]) -> Vec<u16> {
 
 /// Two readers at the start of each file, whose look-aheads reach its end, late in
 /// time: with T 0 and above, with nothing cached and with every frame taken.
-fn largest() -> Vec<State> {
+pub(super) fn largest() -> Vec<State> {
     let mut states = Vec::new();
     for fetch_time in [0, 1_953] {
         for cached in [0, 1_024] {

@@ -4,8 +4,9 @@
 
 use super::lists::hold_list;
 use super::older::{hold_probe, hold_upgrade};
+use super::questions::hold_questions;
 use super::{hold, Report};
-use crate::call::{Call, Entry, Lister, Older, Order, Probe, Upgrade};
+use crate::call::{Call, Entry, Lister, Older, Order, Probe, Upgrade, WhenRead};
 use crate::layout::{
     CACHED, FETCH_TIME, FOUR_ZEROS, FRAMES, IN_FETCH, LAST, LOOK_AHEAD, MARKS, READERS,
     READER_BYTES, SIZES, TURN, ZERO_BYTE,
@@ -47,6 +48,17 @@ pub fn by_list(report: &mut Report, lister: Lister) {
     for (rule, image, refused) in in_both_lengths() {
         for order in Order::BOTH {
             let (number, _) = hold_list(report, lister, order, &image, &[7; 40]);
+            report.check((number == 13) == refused, || format!("{rule}: {number}"));
+        }
+    }
+}
+
+/// The same by questions, in either length.
+pub fn by_question(report: &mut Report, when_read: WhenRead) {
+    let questions = [0, 4, 0, 5, 1, 5, 6, 1, 0, 21];
+    for (rule, image, refused) in in_both_lengths() {
+        for answers in [&[7; 6][..], &[]] {
+            let (number, _) = hold_questions(report, when_read, &image, &questions, answers);
             report.check((number == 13) == refused, || format!("{rule}: {number}"));
         }
     }

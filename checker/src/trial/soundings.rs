@@ -25,7 +25,7 @@ enum Says {
 
 /// "File 0, size 16, L 40, turn 0, cached 1, 2, 3, 5, 7, reader in slot 0 at 3,
 /// w 10, unless said." T is said by each; frames, by none.
-fn usual(fetch_time: u64) -> State {
+pub(super) fn usual(fetch_time: u64) -> State {
     let mut state = State::idle();
     state.frames = 16;
     state.look_ahead = 40;
@@ -35,7 +35,7 @@ fn usual(fetch_time: u64) -> State {
     seat(state, 0, 3, 10)
 }
 
-fn seat(mut state: State, slot: u64, position: u64, pace: u64) -> State {
+pub(super) fn seat(mut state: State, slot: u64, position: u64, pace: u64) -> State {
     state
         .readers
         .insert(slot, Reader::running(0, pace, position, 16));

@@ -82,7 +82,7 @@ fn together(state: &State, order: Order) -> BTreeSet<&'static str> {
     ])
 }
 
-fn applying(cases: &[(bool, &'static str)]) -> BTreeSet<&'static str> {
+pub(super) fn applying(cases: &[(bool, &'static str)]) -> BTreeSet<&'static str> {
     let applying = cases.iter().filter(|(applies, _)| *applies);
     applying.map(|&(_, case)| case).collect()
 }

@@ -13,25 +13,9 @@ use Rattle.rules.specs.Readers.{byCondition}
 use Rattle.rules.specs.declared.Condition.{Condition}
 use Rattle.rules.specs.declared.Condition.the-variants.{Empty, Running, Waiting}
 use Rattle.rules.proofs.Condition.{the-type}
-use Rattle.rules.proofs.laws.Cases.{cond-yes, cond-no, condition-empty, condition-running, condition-waiting, outcomes}
+use Rattle.rules.proofs.laws.Cases.{is-yes, is-no, called-yes, called-no, condition-empty, condition-running, condition-waiting, tests}
 
 module _ {A : Type 0} where
-  -- the test passes
-  pub is-yes : (b : Bool) (r x y : A) → b ≡ true → r ≡ x → r ≡ cond b x y
-  is-yes b r x y = cond-yes (λ q. r ≡ q) b x y
-
-  -- the test fails
-  pub is-no : (b : Bool) (r x y : A) → b ≡ false → r ≡ y → r ≡ cond b x y
-  is-no b r x y = cond-no (λ q. r ≡ q) b x y
-
-  -- a call made the test, and its result q is true
-  pub called-yes : (q b : Bool) (r x y : A) → q ≡ b → q ≡ true → r ≡ x → r ≡ cond b x y
-  called-yes q b r x y e h = is-yes b r x y (sym e ∙ h)
-
-  -- it is false
-  pub called-no : (q b : Bool) (r x y : A) → q ≡ b → q ≡ false → r ≡ y → r ≡ cond b x y
-  called-no q b r x y e h = is-no b r x y (sym e ∙ h)
-
   -- the result was turned round, and the test that it is not so passes
   pub turned-yes : (q b : Bool) (r x y : A) → q ≡ b → not q ≡ true → r ≡ x → r ≡ cond (not b) x y
   turned-yes q b r x y e h = is-yes (not b) r x y (sym (ap not e) ∙ h)
@@ -75,7 +59,7 @@ module _ {A : Type 0} where
   is-attached Waiting r x y h e = e
 
 -- for a rule that goes by tests and by a slot's condition
-pub ruleset answers = (is-yes, is-no, called-yes, called-no, turned-yes, turned-no, is-empty, is-running, is-waiting, is-attached, outcomes, needs)
+pub ruleset answers = (tests, turned-yes, turned-no, is-empty, is-running, is-waiting, is-attached, needs)
 
 -- for one that looks up or compares a page's key too
 pub ruleset keyed = (bit-yes, bit-no, key-yes, key-no, answers)

@@ -111,15 +111,15 @@ pub record Filled {A : Type 0} (numbers : List ℕ) (done r : A) (after : List �
   pub room : length numbers ≤ length after
 
 pub filled : {A : Type 0} (numbers : List ℕ) (done short : A) (lent : List ℕ) (r : A) (after : List ℕ)
-    → _≡_ {A = Written A} (record { answer = r; list = after }) (listed done short numbers lent)
+    → _≡_ {A = Written A ℕ} (record { answer = r; list = after }) (listed done short numbers lent)
     → length numbers ≤ length lent → Filled numbers done r after
 unfolding listed
 filled {A} numbers done short lent r after e h =
-    let f : _≡_ {A = Written A} (record { answer = r; list = after }) (record { answer = done; list = numbers ++ drop (length numbers) lent })
+    let f : _≡_ {A = Written A ℕ} (record { answer = r; list = after }) (record { answer = done; list = numbers ++ drop (length numbers) lent })
     = rw (le-ltb (length lent) (length numbers) h) at e in
-    let l : after ≡ numbers ++ drop (length numbers) lent = ap (λ (w : Written A). w .list) f in
+    let l : after ≡ numbers ++ drop (length numbers) lent = ap (λ (w : Written A ℕ). w .list) f in
     record {
-      answer = ap (λ (w : Written A). w .answer) f;
+      answer = ap (λ (w : Written A ℕ). w .answer) f;
       written = ap (take (length numbers)) l ∙ take-at numbers _ _ refl;
       room = omega (arith, ap length l, length-append numbers (drop (length numbers) lent));
     }

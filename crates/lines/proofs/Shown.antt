@@ -30,7 +30,7 @@ front numbers list n done r e f = record { room = omega (arith, f .room); is = r
 
 -- an order that was written, and its length counted
 order-front : (pages : ℕ) (order lent list : List ℕ) (n : ℕ) (r : Ordered) → n ≡ keysIn r
-    → _≡_ {A = Written Ordered} (record { answer = r; list = list }) (orderListed pages order lent)
+    → _≡_ {A = Written Ordered ℕ} (record { answer = r; list = list }) (orderListed pages order lent)
     → length order ≤ length lent → Front order list n
 unfolding orderListed
 order-front pages order lent list n r e w h =
@@ -40,23 +40,23 @@ order-front pages order lent list n r e w h =
 
 module _ (s : State) (v : Valid s) (lent list : List ℕ) (r : Ordered) where
   -- the steal list
-  pub steal-front : (n : ℕ) → n ≡ keysIn r → _≡_ {A = Written Ordered} (record { answer = r; list = list }) (stealListOf s lent) → 8192 ≤ length lent
+  pub steal-front : (n : ℕ) → n ≡ keysIn r → _≡_ {A = Written Ordered ℕ} (record { answer = r; list = list }) (stealListOf s lent) → 8192 ≤ length lent
       → Front (stealOrder s) list n
   unfolding stealListOf
   steal-front n e l h = order-front (tested s) (stealOrder s) lent list n r e l (omega (arith, steal-few s v))
 
   -- the fetch list
-  pub fetch-front : (n : ℕ) → n ≡ keysIn r → _≡_ {A = Written Ordered} (record { answer = r; list = list }) (fetchListOf s lent) → 8192 ≤ length lent
+  pub fetch-front : (n : ℕ) → n ≡ keysIn r → _≡_ {A = Written Ordered ℕ} (record { answer = r; list = list }) (fetchListOf s lent) → 8192 ≤ length lent
       → Front (fetchOrder s) list n
   unfolding fetchListOf
   fetch-front n e l h = order-front (tested s) (fetchOrder s) lent list n r e l (omega (arith, fetch-few s v))
 
 module _ (s : State) (v : Valid s) (lent list : List ℕ) (r : Listing) where
-  module _ (f : ℕ) (l : _≡_ {A = Written Listing} (record { answer = r; list = list }) (clustersOf s f lent)) (h : 2048 ≤ length lent) where
+  module _ (f : ℕ) (l : _≡_ {A = Written Listing ℕ} (record { answer = r; list = list }) (clustersOf s f lent)) (h : 2048 ≤ length lent) where
     -- no such file
     no-clusters : noFile s f ≡ true → r ≡ Refused 3
     unfolding clustersOf
-    no-clusters t = ap (λ (x : Written Listing). x .answer) (rw t at l)
+    no-clusters t = ap (λ (x : Written Listing ℕ). x .answer) (rw t at l)
 
     all-clusters : noFile s f ≡ false → Filled (clusters s f) (Count (length (clusters s f) / 2)) r list
     unfolding clustersOf

@@ -12,6 +12,7 @@ ghost use Rattle.rules.specs.Lists.{within};
 ghost use Rattle.rules.specs.Pages.{fileOf, pageOf, keyOf};
 ghost use Rattle.rules.specs.Readers.{noReader, attached, nextKey, inCondition, onward, paced};
 ghost use Rattle.rules.specs.Calls.{fresh, idle, docked};
+ghost use Rattle.rules.specs.Questions.{slotAt};
 ghost use Rattle.parts.specs.Files.{noFileIn, noPageIn, noRangeIn, Small};
 
 // ---- numbers
@@ -35,6 +36,14 @@ pub fn seat(turn: u8, slot: usize) -> u64
     ensures { λ r. ⌜ r ≡ (slot + 16 - turn) % 16 ⌝ }
 {
     ((slot + 16 - turn as usize) % 16) as u64
+}
+
+// The slot at a seat distance.
+pub fn slot_at(turn: u8, distance: u32) -> u8
+    requires { ⌜ distance < 16 ⌝ }
+    ensures { λ r. ⌜ r ≡ slotAt turn distance ⌝ }
+{
+    ((distance + turn as u32) % 16) as u8
 }
 
 // ---- files and pages

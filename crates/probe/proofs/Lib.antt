@@ -1,2 +1,4 @@
 -- What the proofs of this crate rest on.
 pub mod Numbers
+pub mod Rows
+pub mod Lending

@@ -48,19 +48,27 @@ pub probed : (image buffer after : List ℕ) (r : Reply) (a : Answer) (m n : ℕ
 probed image buffer after r a m n e f g h =
     rw (g, h, e) (ap (λ q. record { number = code (restoreOf image .answer) + 4294967296 * code (q .answer); image = q .buffer }) (rw e at f))
 
+-- ---- what Restore gives is asked
+
+module _ (image : List ℕ) (r : Reply) (e : r ≡ restoreOf image) (b : Bool) (f : b ≡ carriedOut (r .answer)) where
+  -- the image is refused
+  pub image-refused : not b ≡ true → carriedOut (restoreOf image .answer) ≡ false
+  image-refused t = ap (λ q. carriedOut (q .answer)) (sym e) ∙ sym f ∙ not-true b t
+
+  -- or taken
+  pub image-taken : not b ≡ false → carriedOut (restoreOf image .answer) ≡ true
+  image-taken t = ap (λ q. carriedOut (q .answer)) (sym e) ∙ sym f ∙ not-false b t
+
 -- ---- a list of what Restore gives
 
 module _ (stealing : Bool) (image lent : List ℕ) (r : Reply) (e : r ≡ restoreOf image) (b : Bool) (f : b ≡ carriedOut (r .answer)) where
   -- the image is refused
   pub list-refused : (n : ℕ) → not b ≡ true → n ≡ code (r .answer) → record { number = n; list = lent } ≡ listProbed stealing image lent
-  list-refused n t g =
-      let no : carriedOut (restoreOf image .answer) ≡ false = ap (λ q. carriedOut (q .answer)) (sym e) ∙ sym f ∙ not-true b t in
-      rw (no, g, e) refl
+  list-refused n t g = rw (image-refused image r e b f t, g, e) refl
 
   -- the list is made
   pub list-made : (n : ℕ) (a : Ordered) (after : List ℕ) (c : Bool) → not b ≡ false → stealing ≡ c
-      → _≡_ {A = Written Ordered} (record { answer = a; list = after }) (listOf c (r .state) lent) → n ≡ orderNumber a
+      → _≡_ {A = Written Ordered ℕ} (record { answer = a; list = after }) (listOf c (r .state) lent) → n ≡ orderNumber a
       → record { number = n; list = after } ≡ listProbed stealing image lent
   list-made n a after c t u w g =
-      let yes : carriedOut (restoreOf image .answer) ≡ true = ap (λ q. carriedOut (q .answer)) (sym e) ∙ sym f ∙ not-false b t in
-      rw (yes, g, ← e, u) (ap (λ q. record { number = orderNumber (q .answer); list = q .list }) w)
+      rw (image-taken image r e b f t, g, ← e, u) (ap (λ q. record { number = orderNumber (q .answer); list = q .list }) w)

@@ -13,6 +13,7 @@ pub mod Run
 pub mod Schedules
 pub mod Third
 pub mod Listings
+pub mod Questions
 pub mod Image
 pub mod Entries
 pub mod Lines

@@ -1,4 +1,5 @@
--- Steal list, Fetch list and Clusters: 01, "Calls"; what making the two orders reports: A.3. Assumes nothing: these are definitions.
+-- Steal list, Fetch list and Clusters: 01, "Calls"; what making the two orders reports: A.3. What a call with a lent list gives, `Written`, is A.4's too.
+-- Assumes nothing: these are definitions.
 use Prim.Native.Nat.{ℕ, _/_}
 use mathlib.Core.Bool.{cond}
 use mathlib.Core.List.{List, _++_}
@@ -14,7 +15,7 @@ use Rattle.rules.specs.declared.Listing.the-variants.{Count, Refused}
 use Rattle.rules.specs.declared.Ordered.{Ordered}
 use Rattle.rules.specs.declared.Ordered.the-variants as ordered
 
--- the count of clusters; 0 where the call is refused
+-- the count, of clusters or, A.4, of words read; 0 where the call is refused
 abbrev pub countIn : Listing → ℕ
 countIn (Count n) = n
 countIn (Refused number) = 0
@@ -40,29 +41,29 @@ refusedIn (ordered.Keys count report) = 0
 refusedIn (ordered.Refused number) = number
 
 -- the answer, and the lent list after the call
-pub record Written (A : Type 0) : Type 0 where
+pub record Written (A B : Type 0) : Type 0 where
   pub answer : A
-  pub list : List ℕ
+  pub list : List B
 
--- 12: list too short; "Past what is written the list is unchanged"
-unfoldable pub listed : {A : Type 0} → A → A → List ℕ → List ℕ → Written A
+-- `short`, which each call makes 12: "list too short"; "Past what is written the list is unchanged"
+unfoldable pub listed : {A : Type 0} → A → A → List ℕ → List ℕ → Written A ℕ
 listed done short numbers lent =
     cond (ltb (length lent) (length numbers)) (record { answer = short; list = lent })
     (record { answer = done; list = numbers ++ drop (length numbers) lent })
 
 -- "The count of keys .. is returned"; A.3: "Making an order reports, within the library only, how many pages its walks tested": no line and no C entry
 -- shows it
-unfoldable pub orderListed : ℕ → List ℕ → List ℕ → Written Ordered
+unfoldable pub orderListed : ℕ → List ℕ → List ℕ → Written Ordered ℕ
 orderListed report order lent = listed (ordered.Keys (length order) report) (ordered.Refused 12) order lent
 
-unfoldable pub stealListOf : State → List ℕ → Written Ordered
+unfoldable pub stealListOf : State → List ℕ → Written Ordered ℕ
 stealListOf s lent = orderListed (tested s) (stealOrder s) lent
 
-unfoldable pub fetchListOf : State → List ℕ → Written Ordered
+unfoldable pub fetchListOf : State → List ℕ → Written Ordered ℕ
 fetchListOf s lent = orderListed (tested s) (fetchOrder s) lent
 
 -- 3; "low and high page by rising page", the count "of clusters (two numbers each)"
-unfoldable pub clustersOf : State → ℕ → List ℕ → Written Listing
+unfoldable pub clustersOf : State → ℕ → List ℕ → Written Listing ℕ
 clustersOf s file lent =
     cond (noFile s file) (record { answer = Refused 3; list = lent })
     (listed (Count (length (clusters s file) / 2)) (Refused 12) (clusters s file) lent)

@@ -26,6 +26,11 @@ unfoldable pub every : {A : Type 0} → (A → Bool) → List A → Bool
 every P [] = true
 every P (x ∷ xs) = P x && every P xs
 
+-- some member passes the test
+unfoldable pub any : {A : Type 0} → (A → Bool) → List A → Bool
+any P [] = false
+any P (x ∷ xs) = P x || any P xs
+
 -- some number below m passes the test
 unfoldable pub some-of : ℕ → (ℕ → Bool) → Bool
 some-of zero P = false

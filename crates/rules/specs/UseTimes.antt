@@ -57,7 +57,7 @@ timeFor s r k = steps r k * r .pace + between s r k * s .«fetch_time»
 abbrev pub seat : State → ℕ → ℕ
 seat s slot = (slot + 16 - s .turn) % 16
 
--- 2^26, above every use key: a time is at most 2 × L, so a key at most 4,000,000 × 16 + 15
+-- 2^26, above every use key of a valid state: a time is at most 2 × L, so a key at most 4,000,000 × 16 + 15
 abbrev pub never : ℕ
 never = 67108864
 

@@ -57,7 +57,8 @@ pub enum Answer {
     Ran { fetches: u16, reads: u16 },
 }
 
-// What Clusters answers: the count, or the refusal's number.
+// What Clusters answers: the count of clusters; and what questions get beside their answers: how many words of the cached map were read. Or the refusal's
+// number.
 pub enum Listing {
     Count(u16),
     Refused(u8),
@@ -67,6 +68,26 @@ pub enum Listing {
 pub enum Ordered {
     Keys { count: u16, tested: u16 },
     Refused(u8),
+}
+
+// A question: when will this page be read? Its numbers are any numbers.
+pub struct Question {
+    pub file: u64,
+    pub page: u64,
+}
+
+// When a page will be read: the time and the slot of its use key; or it is ahead of no reader of its file; or ahead of some, and in no look-ahead; or there is
+// no such file or page, and this is the refusal's number.
+pub enum When {
+    At { time: u32, slot: u8 },
+    Behind,
+    NotSeen,
+    Refused(u8),
+}
+
+// The record that answers a question.
+pub struct Forecast {
+    pub when: When,
 }
 
 // What a call gives by the rules: the state after it and the answer. A type of the rules: no function passes it.

@@ -11,16 +11,24 @@ use Rattle.bits.specs.Map.{on, oneOf}
 use Rattle.rules.specs.Lists.{some-of, least, total}
 use Rattle.rules.specs.Readers.{readerAt, attached, nextKey}
 use Rattle.rules.specs.UseTimes.{sees, lookAhead, tested, never, useFor, useKey, ahead, seen}
+use Rattle.rules.specs.Questions.{wordsOf, wordsRead}
 use Rattle.rules.specs.Valid.{Valid}
 use Rattle.rules.specs.Views.{noPages}
 use Rattle.rules.proofs.laws.Leasts.{least-far}
 use Rattle.rules.proofs.calls.Valids.{placed-at}
 use Rattle.rules.proofs.calls.Kept.{blank-off}
-use Rattle.rules.proofs.orders.Stretches.{before-stretch, sees-stretch, look-ahead-count, empty-before, empty-sees, empty-count}
+use Rattle.rules.proofs.orders.Stretches.{before-stretch, sees-stretch, look-ahead-keys, empty-before, empty-sees, empty-keys}
+use Rattle.rules.proofs.orders.Questions.{no-words}
+use Rattle.rules.proofs.laws.Indexed.{length-range}
 use Rattle.rules.specs.declared.State.{State}
 use Rattle.rules.specs.declared.Reader.{Reader}
-use Rattle.walk.specs.Walks.{InFile, Walked}
+use Rattle.walk.specs.Walks.{InFile, Walked, spanned}
 use Rattle.walk.specs.Tables.{KeyedBy, Keyed, InLookAhead}
+use Rattle.walk.proofs.Words.{words-spanned}
+
+-- what a walk along the reader's look-ahead counts: its pages, and the words that hold them
+abbrev Counted : State → Reader → ℕ → ℕ → Type 0
+Counted s r n words = (n ≡ length (lookAhead s r)) × (words ≡ wordsOf (lookAhead s r))
 
 -- one slot more
 module _ (s : State) (j : ℕ) where
@@ -70,26 +78,33 @@ module _ (s : State) (j : ℕ) where
       use-is = use-more;
     }
 
-    -- its pages are what was tested
-    keyed-count : j < 16 → readerAt s j .position + n ≤ readerAt s j .last → n ≡ length (lookAhead s (readerAt s j))
-    keyed-count l m = sym (look-ahead-count s w j n (k .stretch) l (omega (arith, f .file-high, f .last-high)))
+    -- its pages are what was tested, and their words what was read
+    counted : (words : ℕ) → j < 16 → readerAt s j .position + n ≤ readerAt s j .last → words ≡ spanned (nextKey (readerAt s j)) n
+        → Counted s (readerAt s j) n words
+    counted words l m e =
+        let high : nextKey (readerAt s j) + n ≤ 8192 = omega (arith, f .file-high, f .last-high) in
+        let keys = look-ahead-keys s w j n (k .stretch) l high in (
+          sym (ap length keys ∙ length-range (nextKey (readerAt s j)) n),
+          e ∙ sym (ap wordsOf keys ∙ words-spanned (nextKey (readerAt s j)) n high),
+        )
 
 -- a slot's reader as the code has it, walked along
-pub slot-more : (s : State) (j : ℕ) (w : Valid s) (n : ℕ) (a b t a′ b′ t′ : List ℕ) (r : Reader) (from : ℕ) → j < 16 → readerAt s j ≡ r → InFile r
-    → from ≡ nextKey r → r .position + n ≤ r .last → KeyedBy s j a b t → Walked s j t t′ n
+pub slot-more : (s : State) (j : ℕ) (w : Valid s) (n words : ℕ) (a b t a′ b′ t′ : List ℕ) (r : Reader) (from : ℕ) → j < 16 → readerAt s j ≡ r → InFile r
+    → from ≡ nextKey r → r .position + n ≤ r .last → words ≡ spanned (nextKey r) n → KeyedBy s j a b t → Walked s j t t′ n
     → ((i : ℕ) → on a′ i ≡ (oneOf from (r .last - r .position) i || on a i)) → ((i : ℕ) → on b′ i ≡ (oneOf from n i || on b i))
-    → KeyedBy s (j + 1) a′ b′ t′ × (n ≡ length (lookAhead s r))
-slot-more s j w n a b t a′ b′ t′ r from l e f g m h k x y =
+    → KeyedBy s (j + 1) a′ b′ t′ × (n ≡ length (lookAhead s r)) × (words ≡ wordsOf (lookAhead s r))
+slot-more s j w n words a b t a′ b′ t′ r from l e f g m c h k x y =
     let f′ : InFile (readerAt s j) = rw e f in
-    let m′ : readerAt s j .position + n ≤ readerAt s j .last = rw e m in (
-      keyed-more s j w n a b t a′ b′ t′ f′ h k (λ i. rw (e, ← g) (x i)) (λ i. rw (e, ← g) (y i)),
-      keyed-count s j w n a b t a′ b′ t′ f′ h k l m′ ∙ ap (λ q. length (lookAhead s q)) e,
-    )
+    let m′ : readerAt s j .position + n ≤ readerAt s j .last = rw e m in
+    let counts : Counted s r n words = rw e at (counted s j w n a b t a′ b′ t′ f′ h k words l m′ (rw e c)) in
+    (keyed-more s j w n a b t a′ b′ t′ f′ h k (λ i. rw (e, ← g) (x i)) (λ i. rw (e, ← g) (y i)), counts .0, counts .1)
 
 -- an empty slot's, which is none
 pub slot-empty : (s : State) (j : ℕ) → Valid s → (a b t : List ℕ) (r : Reader) → readerAt s j ≡ r → attached r ≡ false → KeyedBy s j a b t
-    → KeyedBy s (j + 1) a b t × (0 ≡ length (lookAhead s r))
-slot-empty s j w a b t r e none h = (keyed-empty s j a b t (rw e none) h, sym (empty-count s r none w))
+    → KeyedBy s (j + 1) a b t × (0 ≡ length (lookAhead s r)) × (0 ≡ wordsOf (lookAhead s r))
+slot-empty s j w a b t r e none h =
+    let keys = empty-keys s r none w in
+    (keyed-empty s j a b t (rw e none) h, sym (ap length keys), sym (ap wordsOf keys ∙ no-words))
 
 -- ---- all slots
 
@@ -104,21 +119,25 @@ module _ (s : State) where
   unfolding ahead seen useKey
   keyed-all a b t h = (record { ahead-is = h .ahead-is; use-is = h .use-is }, h .seen-is)
 
-  -- the pages tested: none, those of one slot more, all
+  -- the pages tested and the words read: none, those of one slot more, all
   abbrev pub testedBy : ℕ → ℕ
   testedBy m = total m (λ j. length (lookAhead s (readerAt s j)))
 
-  pub tested-none : 0 ≡ testedBy 0
-  unfolding total
-  tested-none = refl
+  abbrev pub wordsBy : ℕ → ℕ
+  wordsBy m = total m (λ j. wordsOf (lookAhead s (readerAt s j)))
 
-  pub tested-more : (j n m : ℕ) (r : Reader) → readerAt s j ≡ r → n ≡ testedBy j → m ≡ length (lookAhead s r) → n + m ≡ testedBy (j + 1)
-  unfolding total
-  tested-more j n m r e f g = rw (add-one j, e) (omega (arith, f, g))
+  pub counts-all : (n words : ℕ) → n ≡ testedBy 16 → words ≡ wordsBy 16 → (n ≡ tested s) × (words ≡ wordsRead s)
+  unfolding tested wordsRead
+  counts-all n words e f = (e, f)
 
-  pub tested-all : (n : ℕ) → n ≡ testedBy 16 → n ≡ tested s
-  unfolding tested
-  tested-all n e = e
+-- a sum: of none, and of one more
+pub total-none : (g : ℕ → ℕ) → 0 ≡ total 0 g
+unfolding total
+total-none g = refl
+
+pub total-more : (g : ℕ → ℕ) (j n m : ℕ) → n ≡ total j g → m ≡ g j → n + m ≡ total (j + 1) g
+unfolding total
+total-more g j n m e f = rw (add-one j) (omega (arith, e, f))
 
 -- an attached reader of a valid state can be walked along
 pub valid-in-file : (s : State) → Valid s → (j : ℕ) → T (attached (readerAt s j)) → InFile (readerAt s j)

@@ -1,5 +1,5 @@
 -- One walk along a look-ahead: what it keeps, page by page, and what it leaves in the table of use keys. Assumes nothing: these are definitions.
-use Prim.Native.Nat.{ℕ, min, _+_, _*_, _/_, _%_, _≤_, _<_}
+use Prim.Native.Nat.{ℕ, zero, suc, min, _+_, _-_, _*_, _/_, _%_, _≤_, _<_}
 use mathlib.Core.Path.{_≡_}
 use mathlib.Core.Bool.{Bool, cond}
 use mathlib.Core.List.{List}
@@ -42,6 +42,11 @@ pub record Further (go : Strides) (end : ℕ) (p q : Walk) : Type 0 where
   pub within : q .tested ≤ end
   pub gaps : q .missing + p .tested ≤ p .missing + q .tested
   pub ends : (q .tested ≡ end) ⊎ (go .most ≤ q .missing)
+
+-- how many words of a map hold the n keys from this one on
+unfoldable pub spanned : ℕ → ℕ → ℕ
+spanned from zero = 0
+spanned from (suc n) = (from + n) / 64 - from / 64 + 1
 
 -- the word has the bits of the keys from the one numbered `low` to before the one numbered `high`, counted from `from`
 abbrev pub Shown : State → ℕ → ℕ → ℕ → ℕ → Type 0

@@ -1,6 +1,7 @@
 // Along the look-aheads: one walk for each reader, which carries the count of the pages that are not present, tests each page of the look-ahead once and no
-// other, and lowers its number in a table of use keys. A page's number is its time for the reader × 16 + the seat distance. What a walk needs of a reader is
-// in its parameters; what q takes for cached is a map of its own, `present`: today the cached map.
+// other, reads each word of the map that holds one of these once and no other, and lowers the page's number in a table of use keys. A page's number is its
+// time for the reader × 16 + the seat distance. What a walk needs of a reader is in its parameters; what q takes for cached is a map of its own, `present`:
+// today the cached map.
 
 use rules::Reader;
 use rules::View;
@@ -11,12 +12,13 @@ ghost use lib.Dec.{T, leb, eqb};
 ghost use lib.ListN.{length, replicate};
 ghost use Rattle.bits.specs.Map.{digit};
 ghost use Rattle.rules.specs.declared.State.{State};
-ghost use Rattle.rules.specs.Readers.{attached};
+ghost use Rattle.rules.specs.Readers.{attached, nextKey};
 ghost use Rattle.rules.specs.UseTimes.{never, pruned, seat, lookAhead, tested};
+ghost use Rattle.rules.specs.Questions.{wordsOf, wordsRead};
 ghost use Rattle.rules.specs.Ranks.{Presents};
 ghost use Rattle.rules.specs.Valid.{Valid};
 ghost use Rattle.rules.specs.Views.{stateOf, noPages};
-ghost use Rattle.walk.specs.Walks.{onePage, atStart, Small, Further, Shown, Course, Along, InFile, Asked, Walked};
+ghost use Rattle.walk.specs.Walks.{onePage, atStart, Small, Further, Shown, Course, Along, InFile, Asked, Walked, spanned};
 ghost use Rattle.walk.specs.Tables.{KeyedBy, Keyed, InLookAhead};
 
 // How far a walk has come: the pages tested, how many of them are not present, and the number of the page after them.
@@ -24,6 +26,18 @@ struct Walk {
     tested: usize,
     missing: u64,
     number: u64,
+}
+
+// Where a walk ended, and how many words of the map it read.
+struct Tour {
+    end: Walk,
+    words: usize,
+}
+
+// What the walks count: the pages tested, and the words of the map that were read.
+pub struct Tally {
+    pub tested: usize,
+    pub words: usize,
 }
 
 // What a walk goes by: how many missing pages end it, and what the number grows by at each page and at each missing one.
@@ -104,7 +118,8 @@ fn reach_of(look: u32, r: Reader) -> usize
     parts::lesser(left as u64, near as u64) as usize
 }
 
-// Walks word by word from the key on, over as many pages as are in reach. A word of the map is read once for its pages.
+// Walks word by word from the key on, over as many pages as are in reach. A word of the map is read once for its pages: the count of the words is raised here
+// alone.
 fn walk_words(
     present: &[u64; 128],
     from: usize,
@@ -112,29 +127,32 @@ fn walk_words(
     go: Strides,
     distance: u64,
     table: &mut [u32],
-) -> Walk
+) -> Tour
     requires { ⌜ (go .page ≤ 16000) × (go .gap ≤ 32000000) × (distance < 16) ⌝ }
     requires { ⌜ (reach ≤ 1024) × (from + reach ≤ 8192) × (length (now table) ≡ 8192) ⌝ }
-    ensures far { λ r. ⌜ Small go r × Further go reach (atStart go distance) r ⌝ }
+    ensures far { λ r. ⌜ Small go (r .end) × Further go reach (atStart go distance) (r .end) ⌝ }
+    ensures words { λ r. ⌜ r .words ≡ spanned from (r .end .tested) ⌝ }
     ensures { λ r.
         ⌜ ((s : State) (j : ℕ) → Course s j go from reach → Presents s (now (present .entry)) → seat s j ≡ distance
-        → Along s j (now (table .entry)) (now (table .exit)) r) ⌝ }
+        → Along s j (now (table .entry)) (now (table .exit)) (r .end)) ⌝ }
 {
     let mut at = Walk {
         tested: 0,
         missing: 0,
         number: go.page + distance,
     };
+    let mut words: usize = 0;
     while at.tested < reach && at.missing < go.most {
         let key = from + at.tested;
         let border = at.tested + 64 - key % 64;
         let end = parts::lesser(reach as u64, border as u64) as usize;
+        words += 1;
         at = walk_word(present[key / 64], from, end, go, at, table);
     }
-    at
+    Tour { end: at, words }
 }
 
-// Walks along the look-ahead of the reader, at this seat distance, and returns how many pages it tested.
+// Walks along the look-ahead of the reader, at this seat distance, and returns how many pages it tested and how many words it read.
 fn walk_reader(
     present: &[u64; 128],
     look: u32,
@@ -142,21 +160,26 @@ fn walk_reader(
     distance: u64,
     r: Reader,
     table: &mut [u32],
-) -> usize
+) -> Tally
     requires { ⌜ InFile r × (look ≤ 2000000) × (time ≤ 2000000) × (distance < 16) ⌝ }
     requires { ⌜ length (now table) ≡ 8192 ⌝ }
-    ensures few { λ n. ⌜ r .position + n ≤ r .last ⌝ }
+    ensures few { λ n. ⌜ r .position + n .tested ≤ r .last ⌝ }
+    ensures words { λ n. ⌜ n .words ≡ spanned (nextKey r) (n .tested) ⌝ }
     ensures { λ n.
-        ⌜ ((s : State) (j : ℕ) → Asked s j (now (present .entry)) look time distance r → Walked s j (now (table .entry)) (now (table .exit)) n) ⌝ }
+        ⌜ ((s : State) (j : ℕ) → Asked s j (now (present .entry)) look time distance r → Walked s j (now (table .entry)) (now (table .exit)) (n .tested)) ⌝ }
 {
     let from = parts::next_key(r);
     let reach = reach_of(look, r);
     let go = strides_at(look, time, r.pace);
-    let at = walk_words(present, from, reach, go, distance, table);
-    at.tested
+    let tour = walk_words(present, from, reach, go, distance, table);
+    let end = tour.end;
+    Tally {
+        tested: end.tested,
+        words: tour.words,
+    }
 }
 
-// One slot's part: what its reader has before it, what it sees, and its numbers. Nothing where the slot is empty. Returns how many pages were tested.
+// One slot's part: what its reader has before it, what it sees, and its numbers. Nothing where the slot is empty. Returns what the walk counted.
 fn walk_slot(
     present: &[u64; 128],
     look: u32,
@@ -166,28 +189,32 @@ fn walk_slot(
     ahead: &mut [u64; 128],
     seen: &mut [u64; 128],
     table: &mut [u32],
-) -> usize
+) -> Tally
     requires { ⌜ (T (attached r) → InFile r) × (look ≤ 2000000) × (time ≤ 2000000) × (distance < 16) ⌝ }
     requires { ⌜ length (now table) ≡ 8192 ⌝ }
-    ensures few { λ n. ⌜ n ≤ 1024 ⌝ }
+    ensures few { λ n. ⌜ (n .tested ≤ 1024) × (n .words ≤ 16) ⌝ }
     ensures { λ n.
         ⌜ ((s : State) (j : ℕ) → Valid s → j < 16 → Asked s j (now (present .entry)) look time distance r
         → KeyedBy s j (now (ahead .entry)) (now (seen .entry)) (now (table .entry))
-        → KeyedBy s (j + 1) (now (ahead .exit)) (now (seen .exit)) (now (table .exit)) × (n ≡ length (lookAhead s r))) ⌝ }
+        → KeyedBy s (j + 1) (now (ahead .exit)) (now (seen .exit)) (now (table .exit))
+        × (n .tested ≡ length (lookAhead s r)) × (n .words ≡ wordsOf (lookAhead s r))) ⌝ }
 {
     if !parts::is_attached(r) {
-        return 0;
+        return Tally {
+            tested: 0,
+            words: 0,
+        };
     }
     let n = walk_reader(present, look, time, distance, r, table);
     let from = parts::next_key(r);
-    bits::set_bits(seen, from, n);
+    bits::set_bits(seen, from, n.tested);
     bits::set_bits(ahead, from, (r.last - r.position) as usize);
     n
 }
 
 // Walks along the look-ahead of each reader, running or waiting. The table then has every page's use key; one map has the pages that are ahead of a reader,
-// the other those that are in a look-ahead. Returns how many pages were tested. The fetch map is not read: it is lent so that the contract can speak of a
-// whole state.
+// the other those that are in a look-ahead. Returns how many pages were tested and how many words of the cached map were read. The fetch map is not read: it is
+// lent so that the contract can speak of a whole state.
 pub fn use_keys<'a>(
     v: View,
     cached: &'a [u64; 128],
@@ -195,19 +222,21 @@ pub fn use_keys<'a>(
     ahead: &mut [u64; 128],
     seen: &mut [u64; 128],
     table: &mut [u32],
-) -> usize
+) -> Tally
     requires { ⌜ Valid (stateOf v (now cached) (now fetching)) ⌝ }
     requires { ⌜ (now ahead ≡ noPages) × (now seen ≡ noPages) × (now table ≡ replicate 8192 never) ⌝ }
-    ensures few { λ n. ⌜ n ≤ 16384 ⌝ }
-    ensures report { λ n. ⌜ n ≡ tested (stateOf v (now (cached .entry)) (now (fetching .entry))) ⌝ }
+    ensures few { λ n. ⌜ (n .tested ≤ 16384) × (n .words ≤ 256) ⌝ }
+    ensures report { λ n. ⌜ n .tested ≡ tested (stateOf v (now (cached .entry)) (now (fetching .entry))) ⌝ }
+    ensures words { λ n. ⌜ n .words ≡ wordsRead (stateOf v (now (cached .entry)) (now (fetching .entry))) ⌝ }
     ensures keyed { λ n. ⌜ Keyed (stateOf v (now (cached .entry)) (now (fetching .entry))) (now (ahead .exit)) (now (table .exit)) ⌝ }
     ensures seen { λ n. ⌜ InLookAhead (stateOf v (now (cached .entry)) (now (fetching .entry))) (now (seen .exit)) ⌝ }
 {
-    let mut n: usize = 0;
+    let mut tested: usize = 0;
+    let mut words: usize = 0;
     let mut slot: usize = 0;
     while slot < 16 {
         let r = v.readers[slot];
-        n += walk_slot(
+        let n = walk_slot(
             cached,
             v.look_ahead,
             v.fetch_time,
@@ -217,7 +246,9 @@ pub fn use_keys<'a>(
             seen,
             table,
         );
+        tested += n.tested;
+        words += n.words;
         slot += 1;
     }
-    n
+    Tally { tested, words }
 }

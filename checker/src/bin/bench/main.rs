@@ -1,18 +1,20 @@
-//! What the box's C entries cost beside quick's entry, its lists beside quick's, and
-//! the program `quay` beside the checker's `lines`: one run, the same images and
-//! streams.
+//! What the box's C entries cost beside quick's entry, its lists and its answers to
+//! questions beside quick's, and the program `quay` beside the checker's `lines`: one
+//! run, the same images and streams.
 //!
 //!     cargo build --release --bin lines
 //!     QUAY_LIB=folder QUAY_PROBE=folder QUAY_PROGRAM=path \
 //!         cargo run --release --features box --bin bench
 //!
-//! Both entries restore, call and save an image each time; a list restores one and
-//! saves nothing. Every number is the median of several samples, taken in turns, in
-//! nanoseconds a call; that of an entry includes one copy of the image into the
-//! buffer. Prints markdown tables. Without `QUAY_PROGRAM` the programs are left out.
+//! Both entries restore, call and save an image each time; a list and a question
+//! restore one and save nothing. Every number is the median of several samples, taken
+//! in turns, in nanoseconds a call; that of an entry includes one copy of the image
+//! into the buffer. Prints markdown tables. Without `QUAY_PROGRAM` the programs are
+//! left out.
 
 mod lines;
 mod lists;
+mod questions;
 
 use checker::call::{Call, Entry};
 use checker::limits::{FILE_PAGES, MOST_TURNS};
@@ -46,6 +48,18 @@ fn main() {
     println!("\n## The same, with a look-ahead that ends early\n");
     println!("Quick's cost is its walk: with less to walk it comes nearer. For these calls the box walks no look-ahead, and costs what it did.\n");
     table(&short_calls());
+    arrive_tables();
+    println!("\n## Lists\n");
+    lists::table();
+    println!("\n## Questions\n");
+    questions::table();
+    println!("\n## Lines through pipes\n");
+    println!("The program `quay` beside the checker's own, built on quick, from start to end through the same pipes.\n");
+    lines::table();
+}
+
+/// An arrival that steals, by one setting each.
+fn arrive_tables() {
     println!("\n## Arrive that steals, by frames (16 readers, 8 files, L 10240, T 0)\n");
     let by_frames = [64, 128, 256, 512, 1_024].map(|frames| {
         let name = format!("frames: {frames}");
@@ -74,11 +88,6 @@ fn main() {
         arrive(name, busy(quay))
     });
     table(&by_readers);
-    println!("\n## Lists\n");
-    lists::table();
-    println!("\n## Lines through pipes\n");
-    println!("The program `quay` beside the checker's own, built on quick, from start to end through the same pipes.\n");
-    lines::table();
 }
 
 /// The processor and how many there are, as the system names them.

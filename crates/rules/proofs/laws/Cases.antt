@@ -80,6 +80,26 @@ module _ {A : Type 0} (P : A → Type 0) where
 -- the outcome of a test from what is known of its numbers
 pub ruleset outcomes = (lt-ltb, le-ltb, le-leb, lt-leb, eq-eqb, ne-eqb)
 
+-- a result is the one that a rule's tests lead to
+module _ {A : Type 0} where
+  -- the test passes
+  pub is-yes : (b : Bool) (r x y : A) → b ≡ true → r ≡ x → r ≡ cond b x y
+  is-yes b r x y = cond-yes (λ q. r ≡ q) b x y
+
+  -- the test fails
+  pub is-no : (b : Bool) (r x y : A) → b ≡ false → r ≡ y → r ≡ cond b x y
+  is-no b r x y = cond-no (λ q. r ≡ q) b x y
+
+  -- a call made the test, and its result q is true
+  pub called-yes : (q b : Bool) (r x y : A) → q ≡ b → q ≡ true → r ≡ x → r ≡ cond b x y
+  called-yes q b r x y e h = is-yes b r x y (sym e ∙ h)
+
+  -- it is false
+  pub called-no : (q b : Bool) (r x y : A) → q ≡ b → q ≡ false → r ≡ y → r ≡ cond b x y
+  called-no q b r x y e h = is-no b r x y (sym e ∙ h)
+
+pub ruleset tests = (is-yes, is-no, called-yes, called-no, outcomes)
+
 -- Arrive and Lost: the three refusals, and a page in fetch
 pub for-fetch-all : (P : Reply → Type 0) (s : State) (file page : ℕ) (done : Reply) → P (refused s 3) → P (refused s 8) → P (refused s 9)
     → (inFetch s (keyOf file page) ≡ true → P done) → P (forFetch s file page done)

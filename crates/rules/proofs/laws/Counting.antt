@@ -56,6 +56,11 @@ pub num-out : (b : Bool) → T (not b) → num b ≡ 0
 num-out true h = absurd h
 num-out false h = refl
 
+pub num-implies : (a b : Bool) → (T a → T b) → num a ≤ num b
+num-implies true true h = omega arith
+num-implies true false h = absurd (h tt)
+num-implies false b h = omega arith
+
 pub in-self : (x : ℕ) (b : Bool) → num (eqb x x || b) ≡ 1
 in-self x b = key x x (λ e. num (e || b) ≡ 1) (λ _. refl) (λ ne. absurd (ne refl))
 

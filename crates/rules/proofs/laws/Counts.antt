@@ -43,6 +43,14 @@ count-range P a (suc n) =
     go true e = omega (arith, count-one P a, ap num e)
     go false e = omega (arith, count-one P a, ap num e)
 
+count-none : (P : Set) → count 0 P ≡ 0
+unfolding count
+count-none P = refl
+
+-- a set's keys below n are those picked from the first n
+pub count-keys : (P : Set) (n : ℕ) → count n P ≡ length (only P (range 0 n))
+count-keys P n = let e : count (0 + n) P ≡ count n P = ap (λ m. count m P) (omega arith) in omega (arith, count-range P 0 n, count-none P)
+
 -- a set of pages of the files has as many keys as the pages in it, file by file
 module _ (s : State) (small : (f : ℕ) → size s f ≤ 1024) (P : Set) (inside : (k : ℕ) → T (P k) → Page s k) where
   absent : (k : ℕ) → (Page s k → ⊥) → T (not (P k))
@@ -76,10 +84,6 @@ module _ (s : State) (small : (f : ℕ) → size s f ≤ 1024) (P : Set) (inside
       ap length (only-append P here more) ∙ length-append (only P here) (only P more) in
       omega (arith, files-count (a + 1) n, file-count a)
 
-  none : count 0 P ≡ 0
-  unfolding count
-  none = refl
-
   pub pages-count : length (only P (pages s)) ≡ count 8192 P
   unfolding pages
-  pages-count = omega (arith, files-count 0 8, none)
+  pages-count = omega (arith, files-count 0 8, count-none P)

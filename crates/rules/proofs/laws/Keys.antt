@@ -40,19 +40,22 @@ module _ (a n k : ℕ) where
   pub one-is : T (oneOf a n k) → (a ≤ k) × (k < a + n)
   one-is h = (leb→le a k (and-first (leb a k) _ h), ltb→lt k (a + n) (and-second (leb a k) _ h))
 
--- there are n of them
-pub one-of-count : (a n b : ℕ) → a + n ≤ b → length (only (oneOf a n) (range 0 b)) ≡ n
-one-of-count a n b l =
+-- they are a range, of n keys
+pub one-of-keys : (a n b : ℕ) → a + n ≤ b → only (oneOf a n) (range 0 b) ≡ range a n
+one-of-keys a n b l =
     let P : ℕ → Bool = oneOf a n in
     let m : ℕ = b - (a + n) in
     let e : a + (n + m) ≡ b = omega arith in
     let before : only P (range 0 a) ≡ [] = only-none P 0 a (λ k _ u h. omega (arith, one-is a n k h)) in
     let here : only P (range a n) ≡ range a n = only-whole P a n (λ k v u. one-of a n k v u) in
     let after : only P (range (a + n) m) ≡ [] = only-none P (a + n) m (λ k v _ h. omega (arith, one-is a n k h)) in
-    ap (λ (i : ℕ). length (only P (range 0 i))) (sym e)
-    ∙ ap (λ l. length (only P l)) (range-add 0 a (n + m) ∙ rw (zero-add a) (ap (λ l. range 0 a ++ l) (range-add a n m)))
-    ∙ ap length (only-append P (range 0 a) (range a n ++ range (a + n) m) ∙ ap (λ l. only P (range 0 a) ++ l) (only-append P (range a n) (range (a + n) m)))
-    ∙ rw (before, here, after, append-nil (range a n)) (length-range a n)
+    ap (λ (i : ℕ). only P (range 0 i)) (sym e)
+    ∙ ap (only P) (range-add 0 a (n + m) ∙ rw (zero-add a) (ap (λ l. range 0 a ++ l) (range-add a n m)))
+    ∙ (only-append P (range 0 a) (range a n ++ range (a + n) m) ∙ ap (λ l. only P (range 0 a) ++ l) (only-append P (range a n) (range (a + n) m)))
+    ∙ rw (before, here, after, append-nil (range a n)) refl
+
+pub one-of-count : (a n b : ℕ) → a + n ≤ b → length (only (oneOf a n) (range 0 b)) ≡ n
+one-of-count a n b l = ap length (one-of-keys a n b l) ∙ length-range a n
 
 -- pages are picked from the keys as from the pages, file by file
 module _ (s : State) (small : (f : ℕ) → size s f ≤ 1024) (P : ℕ → Bool) (inside : (k : ℕ) → T (P k) → Page s k) where

@@ -1,13 +1,14 @@
 -- What holds of every member of a list, and of its parts. Assumes nothing.
 use mathlib.Core.Path.{_≡_, refl, ap, subst}
-use mathlib.Core.Bool.{Bool, true, false, cond, _&&_}
+use mathlib.Core.Bool.{Bool, true, false, cond, _&&_, _||_}
 use mathlib.Core.List.{List, [], _∷_, _++_}
 use mathlib.Core.Logic.{_≢_}
 use Prim.Native.Nat.{ℕ, zero, suc, _+_, _≤_, _<_}
+use native.Mathlib.Decide.{ℕ-discrete}
 use native.Mathlib.Omega.{arith}
 use lib.Dec.{T, eqb, eqb→eq, eqb-refl}
-use Rattle.rules.specs.Lists.{range, each, only}
-use Rattle.rules.proofs.laws.Tests.{both}
+use Rattle.rules.specs.Lists.{range, each, only, any}
+use Rattle.rules.proofs.laws.Tests.{both, or-left, or-right}
 
 abbrev pub All : (ℕ → Type 0) → List ℕ → Type 0
 All Q [] = Unit {0}
@@ -78,3 +79,24 @@ pub each-at : (Q : ℕ → Type 0) (g : ℕ → List ℕ) (l : List ℕ) → All
 unfolding each
 each-at Q g [] h = tt
 each-at Q g (x ∷ l) h = (all-left Q (g x) (each g l) h, each-at Q g l (all-right Q (g x) (each g l) h))
+
+-- ---- some member
+
+-- of a range
+pub any-of : (P : ℕ → Bool) (a n k : ℕ) → a ≤ k → k < a + n → T (P k) → T (any P (range a n))
+unfolding any range
+any-of P a zero k l u h = absurd (omega arith)
+any-of P a (suc n) k l u h = go (any-of P (a + 1) n k) (ℕ-discrete a k)
+  where
+    go : (a + 1 ≤ k → k < a + 1 + n → T (P k) → T (any P (range (a + 1) n))) → Dec (a ≡ k) → T (P a || any P (range (a + 1) n))
+    go ih (yes e) = or-left (P a) _ (rw e h)
+    go ih (no e) = or-right (P a) _ (ih (omega (arith, e)) (omega arith) h)
+
+-- of those that pass a test
+pub any-only : (P R : ℕ → Bool) (l : List ℕ) → T (any P (only R l)) → (k : ℕ) × T (P k) × T (R k)
+unfolding any only
+any-only P R [] h = absurd h
+any-only P R (x ∷ l) h₀ =
+    both (R x) (λ t. T (any P (cond t (x ∷ only R l) (only R l))) → (k : ℕ) × T (P k) × T (R k))
+    (λ r h₁. both (P x) (λ t. T (t || any P (only R l)) → (k : ℕ) × T (P k) × T (R k)) (λ p _. (x, p, r)) (λ _ h. any-only P R l h) h₁)
+    (λ _ h. any-only P R l h) h₀

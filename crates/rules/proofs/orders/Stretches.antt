@@ -1,11 +1,11 @@
 -- What a reader has before it and what it sees are stretches of keys, from its next page on. Assumes nothing.
 use mathlib.Core.Path.{_≡_, refl, sym, ap, _∙_, subst, fun-ext}
 use mathlib.Core.Bool.{false}
+use mathlib.Core.List.{[]}
 use Prim.Native.Nat.{ℕ, _+_, _-_, _≤_, _<_}
 use native.Mathlib.Decide.{decLt}
 use native.Mathlib.Omega.{arith}
 use lib.Dec.{T, T-not, not-T}
-use lib.ListN.{length}
 use Rattle.bits.specs.Map.{oneOf}
 use Rattle.rules.specs.Lists.{range, only}
 use Rattle.rules.specs.Pages.{fileOf, pageOf}
@@ -14,7 +14,7 @@ use Rattle.rules.specs.UseTimes.{before, sees, lookAhead}
 use Rattle.rules.specs.Valid.{Valid}
 use Rattle.rules.specs.Ranks.{Before, Stretch}
 use Rattle.rules.proofs.laws.Tests.{both, is-true, is-false}
-use Rattle.rules.proofs.laws.Keys.{only-none, one-of, one-is, one-of-count, only-keys}
+use Rattle.rules.proofs.laws.Keys.{only-none, one-of, one-is, one-of-keys, only-keys}
 use Rattle.rules.proofs.laws.Cases.{failed}
 use Rattle.rules.proofs.calls.Valids.{placed-at}
 use Rattle.rules.proofs.orders.LookAheads.{before-is, is-before, sees-before, sees-earlier, seen-by, seen-page}
@@ -68,13 +68,13 @@ module _ (s : State) (w : Valid s) (j n : ℕ) (p : Stretch s (readerAt s j) n) 
       let e : nextKey r + (k - nextKey r) ≡ k = omega (arith, l .0) in
       T-not (sees s r k) h (subst (λ i. T (sees s r i)) e (p .inside (k - nextKey r) (omega (arith, l .1))))))))
 
-  -- so its pages are n
-  pub look-ahead-count : j < 16 → nextKey r + n ≤ 8192 → length (lookAhead s r) ≡ n
+  -- so its pages are these n
+  pub look-ahead-keys : j < 16 → nextKey r + n ≤ 8192 → lookAhead s r ≡ range (nextKey r) n
   unfolding lookAhead
-  look-ahead-count l m =
-      ap length (sym (only-keys s (w .sizes-high) (sees s r) (λ k h. seen-page s w k (seen-by s k j l h))))
-      ∙ ap (λ P. length (only P (range 0 8192))) (fun-ext sees-stretch)
-      ∙ one-of-count (nextKey r) n 8192 m
+  look-ahead-keys l m =
+      sym (only-keys s (w .sizes-high) (sees s r) (λ k h. seen-page s w k (seen-by s k j l h)))
+      ∙ ap (λ P. only P (range 0 8192)) (fun-ext sees-stretch)
+      ∙ one-of-keys (nextKey r) n 8192 m
 
 -- an empty slot has nothing before it, sees nothing and has no look-ahead
 module _ (s : State) (r : Reader) (e : attached r ≡ false) where
@@ -86,8 +86,8 @@ module _ (s : State) (r : Reader) (e : attached r ≡ false) where
   unfolding sees
   empty-sees k = rw (empty-before k) refl
 
-  pub empty-count : Valid s → length (lookAhead s r) ≡ 0
+  pub empty-keys : Valid s → lookAhead s r ≡ []
   unfolding lookAhead
-  empty-count w =
+  empty-keys w =
       let none : (k : ℕ) → T (sees s r k) → ⊥ = λ k. failed (sees s r k) (empty-sees k) in
-      ap length (sym (only-keys s (w .sizes-high) (sees s r) (λ k h. absurd (none k h))) ∙ only-none (sees s r) 0 8192 (λ k _ _. none k))
+      sym (only-keys s (w .sizes-high) (sees s r) (λ k h. absurd (none k h))) ∙ only-none (sees s r) 0 8192 (λ k _ _. none k)

@@ -166,11 +166,11 @@ abbrev sounded : State
 sounded = stateWith 16 0 40 20 (8 ∷ []) (upTo 8 3 10 ∷ []) (f0 (1 ∷ 2 ∷ 3 ∷ 5 ∷ 7 ∷ [])) []
 
 -- the refusal's number, the count, and the lent list after the call
-unfoldable pub written : Written Listing → List ℕ
+unfoldable pub written : Written Listing ℕ → List ℕ
 written w = refusalIn (w .answer) ∷ countIn (w .answer) ∷ w .list
 
 -- of an order the pages tested too: A.3. A refusal carries neither
-unfoldable pub made : Written Ordered → List ℕ
+unfoldable pub made : Written Ordered ℕ → List ℕ
 made w = refusedIn (w .answer) ∷ keysIn (w .answer) ∷ testedIn (w .answer) ∷ w .list
 
 -- a list too short by one, one with exactly enough room, and one with more

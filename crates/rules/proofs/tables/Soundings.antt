@@ -19,12 +19,12 @@ abbrev pub mapOf : List ℕ → List ℕ
 mapOf [] = replicate 128 0
 mapOf (k ∷ ks) = putBit (mapOf ks) k 1
 
--- what a sounding asks: an order, the times of the fetch order, or the clusters of file 0
-pub data Question : Type 0 where
-  steal : Question
-  fetch : Question
-  times : Question
-  runs : Question
+-- what a sounding looks for: an order, the times of the fetch order, or the clusters of file 0
+pub data Sought : Type 0 where
+  steal : Sought
+  fetch : Sought
+  times : Sought
+  runs : Sought
 
 pub record Row : Type 0 where
   pub sounding : ℕ
@@ -33,7 +33,7 @@ pub record Row : Type 0 where
   pub sizes : List ℕ
   pub readers : List Reader
   pub cached : List ℕ
-  pub question : Question
+  pub sought : Sought
   pub answer : List ℕ
 
 -- a state, of frames, turn, L, T, sizes, readers, cached pages and pages in fetch: no further files and readers, and all marks 0
@@ -55,11 +55,11 @@ stateWith frames turn look time sizes readers cached fetching =
 abbrev pub stateOf : Row → State
 stateOf r = stateWith 16 (r .turn) 40 (r .time) (r .sizes) (r .readers) (r .cached) []
 
-abbrev pub asked : Question → State → List ℕ
-asked steal s = stealOrder s
-asked fetch s = fetchOrder s
-asked times s = map (λ k. useKey s k / 16) (fetchOrder s)
-asked runs s = clusters s 0
+abbrev pub find : Sought → State → List ℕ
+find steal s = stealOrder s
+find fetch s = fetchOrder s
+find times s = map (λ k. useKey s k / 16) (fetchOrder s)
+find runs s = clusters s 0
 
 -- a reader's record
 abbrev pub reader : Condition → ℕ → ℕ → ℕ → ℕ → Reader
@@ -76,12 +76,12 @@ at = upTo 16
 abbrev pub f0 : List ℕ → List ℕ
 f0 ps = map (keyOf 0) ps
 
--- a row: its mark, T, the turn, sizes, readers, cached pages, the question and the answer
-abbrev row : ℕ → ℕ → ℕ → List ℕ → List Reader → List ℕ → Question → List ℕ → Row
-row n t u zs rs cs q a = record { sounding = n; time = t; turn = u; sizes = zs; readers = rs; cached = cs; question = q; answer = a }
+-- a row: its mark, T, the turn, sizes, readers, cached pages, what is sought and the answer
+abbrev row : ℕ → ℕ → ℕ → List ℕ → List Reader → List ℕ → Sought → List ℕ → Row
+row n t u zs rs cs q a = record { sounding = n; time = t; turn = u; sizes = zs; readers = rs; cached = cs; sought = q; answer = a }
 
 -- unless said: file 0, size 16, cached 1, 2, 3, 5, 7, reader in slot 0 at 3, w 10
-abbrev usual : ℕ → ℕ → Question → List ℕ → Row
+abbrev usual : ℕ → ℕ → Sought → List ℕ → Row
 usual n t q a = row n t 0 (16 ∷ []) (at 3 10 ∷ []) (f0 (1 ∷ 2 ∷ 3 ∷ 5 ∷ 7 ∷ [])) q a
 
 unfoldable pub table : List Row
@@ -115,7 +115,7 @@ shortened =
 
 -- the answers of some rows, by the rules and as they stand
 abbrev Told : List Row → Type 0
-Told rows = map (λ r. asked (r .question) (stateOf r)) rows ≡ map (λ r. r .answer) rows
+Told rows = map (λ r. find (r .sought) (stateOf r)) rows ≡ map (λ r. r .answer) rows
 
 -- every row holds, computed from the rules
 pub soundings : Told table

@@ -25,7 +25,7 @@ same-length c = search needs
 
 returns : tie.Need-returns
 returns c =
-    let after-walk-words = c .before .before in
+    let after-walk-words = c .before .before .before in
     let after-strides-at = after-walk-words .before .before in
     let after-reach-of = after-strides-at .before in
     let after-next-key = after-reach-of .before in
@@ -37,15 +37,18 @@ returns c =
     let far = w .ensures .0 in
     let f = at-start .pre .0 .0 in (
       omega (arith, n .ensures, far .1 .within, f .position-in),
-      λ s j asked.
-          let i = asked .reader-is in
-          let course =
-          course-of s j (a .present .now) (a .look) (a .time) (a .distance) (a .r) (go .result) (after-next-key .next-key .result) (n .result) asked f
-          (go .ensures .0) (λ q. go .ensures .1 s q (asked .look-is) (asked .time-is)) (after-next-key .next-key .ensures) (n .ensures) in
-          let most : n .result ≡ min (readerAt s j .last - readerAt s j .position) (s .«look_ahead» / readerAt s j .pace) =
-          rw (i, asked .look-is) (n .ensures) in
-          walk-ends s j (go .result) (after-next-key .next-key .result) (n .result) course most (a .table .now) _ (w .result)
-          (w .ensures .1 s j course (asked .shows) (asked .seat-is)) (omega (arith, far .0 .missing-high, far .0 .tested-high)) (far .1 .ends),
+      (
+        rw (← after-next-key .next-key .ensures) (w .ensures .1 .0),
+        λ s j asked.
+            let i = asked .reader-is in
+            let course =
+            course-of s j (a .present .now) (a .look) (a .time) (a .distance) (a .r) (go .result) (after-next-key .next-key .result) (n .result) asked f
+            (go .ensures .0) (λ q. go .ensures .1 s q (asked .look-is) (asked .time-is)) (after-next-key .next-key .ensures) (n .ensures) in
+            let most : n .result ≡ min (readerAt s j .last - readerAt s j .position) (s .«look_ahead» / readerAt s j .pace) =
+            rw (i, asked .look-is) (n .ensures) in
+            walk-ends s j (go .result) (after-next-key .next-key .result) (n .result) course most (a .table .now) _ (w .result .end)
+            (w .ensures .1 .1 s j course (asked .shows) (asked .seat-is)) (omega (arith, far .0 .missing-high, far .0 .tested-high)) (far .1 .ends),
+      ),
     )
 
 pub walk-reader-spec : {M : Type 1} → statement M

@@ -6,6 +6,7 @@ use borrow.Author.Needs.{needs}
 use Rattle.rules.proofs.laws.Cases.{passed}
 use Rattle.walk.specs.Walks.{InFile}
 use Rattle.walk.proofs.Slots.{slot-more, slot-empty}
+use Rattle.walk.proofs.Words.{spanned-few}
 use Rattle.walk.proofs.walk_slot.Statement.{statement}
 use Rattle.walk.proofs.walk_slot.Tie as tie
 
@@ -24,7 +25,7 @@ returns c =
     let after-is-attached = c .before in
     let at-start = after-is-attached .before .before in
     let a = at-start .args in (
-      omega arith,
+      (omega arith, omega arith),
       λ s j w l asked h.
           slot-empty s j w (a .ahead .now) (a .seen .now) (a .table .now) (a .r) (asked .reader-is)
           (sym (after-is-attached .is-attached .ensures) ∙ not-true _ (c .if1 .taken)) h,
@@ -72,10 +73,14 @@ returns-2 c =
     let a = start else-1 .args in
     let f = in-file else-1 in
     let n = after-walk-reader .walk-reader in (
-      omega (arith, n .ensures .0, f .last-high),
+      (
+        omega (arith, n .ensures .0, f .last-high),
+        omega (arith, n .ensures .1 .0, spanned-few (a .r) (n .result .tested) (omega (arith, n .ensures .0, f .last-high))),
+      ),
       λ s j w l asked h.
-          slot-more s j w (n .result) (a .ahead .now) (a .seen .now) (a .table .now) _ _ _ (a .r) (after-next-key .next-key .result) l (asked .reader-is) f
-          (after-next-key .next-key .ensures) (n .ensures .0) h (n .ensures .1 s j asked) (c .set-bits2 .ensures) (after-set-bits .set-bits .ensures),
+          slot-more s j w (n .result .tested) (n .result .words) (a .ahead .now) (a .seen .now) (a .table .now) _ _ _ (a .r)
+          (after-next-key .next-key .result) l (asked .reader-is) f (after-next-key .next-key .ensures) (n .ensures .0) (n .ensures .1 .0) h
+          (n .ensures .1 .1 s j asked) (c .set-bits2 .ensures) (after-set-bits .set-bits .ensures),
     )
 
 pub walk-slot-spec : {M : Type 1} → statement M

@@ -1,5 +1,6 @@
--- Invariant: the walk has come as far as its progress says. Measure: the pages that are left in reach.
-use mathlib.Core.Path.{_≡_, _∙_}
+-- Invariant: the walk has come as far as its progress says, the words counted are those of the pages tested, and where it goes on a word begins. Measure: the
+-- pages that are left in reach.
+use mathlib.Core.Path.{_≡_, refl, _∙_}
 use mathlib.Core.Logic.{_⊎_, inl, inr, ⊎-elim}
 use Prim.Native.Nat.{ℕ, _+_, _-_, _%_, _≤_, _<_}
 use native.Mathlib.Omega.{arith}
@@ -9,18 +10,20 @@ use lib.ListN.{length}
 use Rattle.rules.specs.UseTimes.{seat}
 use Rattle.rules.specs.Ranks.{Presents}
 use Rattle.rules.specs.declared.State.{State}
-use Rattle.walk.specs.Walks.{atStart, Small, Further, Course, Along}
+use Rattle.walk.specs.Walks.{atStart, Small, Further, Course, Along, spanned}
 use Rattle.walk.proofs.Alongs.{along-none, course-less, word-shown}
+use Rattle.walk.proofs.Words.{Fresh, spanned-none, spanned-small, spanned-more}
 use Rattle.walk.proofs.walk_words.Statement.{statement}
 use Rattle.walk.proofs.walk_words.Tie as tie
 
 abbrev Inv-loop : tie.InvT-loop
-Inv-loop present from reach go distance table₀ at₀ table at =
+Inv-loop present from reach go distance table₀ at₀ words₀ table at words =
     (Small go at × (at .tested ≤ reach) × (length table ≡ 8192))
+    × ((words ≡ spanned from (at .tested)) × (at .tested < reach → at .missing < go .most → Fresh from (at .tested)))
     × ((s : State) (j : ℕ) → Course s j go from reach → Presents s present → seat s j ≡ distance → Along s j table₀ table at)
 
 abbrev μ-loop : tie.MeasureT-loop
-μ-loop present from reach go distance table₀ at₀ table at = reach - at .tested
+μ-loop present from reach go distance table₀ at₀ words₀ table at words = reach - at .tested
 
 abbrev start : tie.At-loop Inv-loop μ-loop → tie.Start Inv-loop μ-loop
 start c = c .before .before .before
@@ -57,14 +60,38 @@ further c =
     let m = ltb-true (at-loop .loop .at .missing) (start at-loop .args .go .most) (then-2 .if2 .taken) in
     (⊎-elim (λ e. omega (arith, e, l)) (λ e. omega (arith, e, f .gaps, f .on, m)) (f .ends), omega (arith, f .within, l))
 
+-- the words of the pages that are tested now are one more; and where the walk goes on, it has come to the border
+counted : (c : tie.After-walk-word Inv-loop μ-loop) →
+    let after-lesser = c .before .before .before in
+    let at-loop = turn after-lesser in
+    let a = start at-loop .args in
+    let r = c .walk-word .result in
+    (at-loop .loop .words + 1 ≡ spanned (a .from) (r .tested)) × (r .tested < a .reach → r .missing < a .go .most → Fresh (a .from) (r .tested))
+counted c =
+    let after-lesser = c .before .before .before in
+    let then-2 = after-lesser .before .before .before in
+    let at-loop = turn after-lesser in
+    let a = start at-loop .args in
+    let at = at-loop .loop .at in
+    let i = at-loop .loop .inv .1 in
+    let p = end-low after-lesser in
+    let f = c .walk-word .ensures .0 .1 in
+    let fresh = i .1 (omega (arith, p)) (ltb-true (at .missing) (a .go .most) (then-2 .if2 .taken)) in (
+      spanned-more (a .from) (at .tested) (c .walk-word .result .tested) (at-loop .loop .words) fresh (further c .0)
+          (omega (arith, f .within, p .border)) (i .0),
+      λ l m.
+          let e : c .walk-word .result .tested ≡ after-lesser .lesser .result = ⊎-elim (λ e. e) (λ e. absurd (omega (arith, e, m))) (f .ends) in
+          inr (omega (arith, e, after-lesser .lesser .ensures, l)),
+    )
+
 -- it went on from the start
 from-start : (c : tie.At-loop Inv-loop μ-loop) →
     (c .loop .at .tested ≡ start c .args .reach) ⊎ (start c .args .go .most ≤ c .loop .at .missing)
     → Further (start c .args .go) (start c .args .reach) (atStart (start c .args .go) (start c .args .distance)) (c .loop .at)
 from-start c ends = record { on = omega arith; within = c .loop .inv .0 .1; gaps = omega (arith, c .loop .inv .0 .0 .missing-high); ends = ends }
 
-add-t11 : tie.Need-add-t11 Inv-loop μ-loop
-add-t11 c = search needs
+add-t12 : tie.Need-add-t12 Inv-loop μ-loop
+add-t12 c = search needs
 
 loop-holds : tie.Need-loop-holds Inv-loop μ-loop
 loop-holds c =
@@ -81,6 +108,7 @@ loop-holds c =
         omega arith,
         at-start .pre .1 .2,
       ),
+      (spanned-none (a .from), λ _ _. inl refl),
       λ s j course _ seat-is. along-none s j (a .table .now) (a .go .page + a .distance) (omega (arith, course .page-is)),
     )
 
@@ -95,6 +123,12 @@ sub-border c = search needs
 
 lesser-requires : tie.Need-lesser-requires Inv-loop μ-loop
 lesser-requires c κs = search needs
+
+add-words : tie.Need-add-words Inv-loop μ-loop
+add-words c =
+    let at-loop = turn c in
+    let i = at-loop .loop .inv in
+    omega (arith, i .1 .0, spanned-small (start at-loop .args .from) (at-loop .loop .at .tested), i .0 .0 .tested-high)
 
 mul-walk-word : tie.Need-mul-walk-word Inv-loop μ-loop
 mul-walk-word c = search needs
@@ -127,10 +161,11 @@ loop-again c =
     let e = after-walk-word .walk-word .ensures in
     let l = end-low after-lesser in (
       (e .0 .0, omega (arith, e .0 .1 .within, l), after-walk-word .walk-word .kept .1 .1 .1 .1 .1 .0 ∙ at-loop .loop .inv .0 .2),
+      counted after-walk-word,
       λ s j course shows seat-is.
           e .1 s j (a .table .now) (course-less s j (a .go) (a .from) (a .reach) (after-lesser .lesser .result) course (omega (arith, l)))
           (word-shown s (a .present .now) (a .from) (at .tested) (after-lesser .lesser .result) shows (omega (arith, l)))
-          (at-loop .loop .inv .1 s j course shows seat-is),
+          (at-loop .loop .inv .2 s j course shows seat-is),
     )
 
 same-length : tie.Need-same-length Inv-loop μ-loop
@@ -140,7 +175,7 @@ returns : tie.Need-returns Inv-loop μ-loop
 returns c =
     let at-loop = c .before .before .before .before .before in
     let i = at-loop .loop .inv in
-    ((i .0 .0, from-start at-loop (inr (ltb-false _ _ (c .if2 .left)))), i .1)
+    ((i .0 .0, from-start at-loop (inr (ltb-false _ _ (c .if2 .left)))), (i .1 .0, i .2))
 
 same-length-2 : tie.Need-same-length-2 Inv-loop μ-loop
 same-length-2 c = search needs
@@ -149,7 +184,7 @@ returns-2 : tie.Need-returns-2 Inv-loop μ-loop
 returns-2 c =
     let at-loop = c .before .before in
     let i = at-loop .loop .inv in
-    ((i .0 .0, from-start at-loop (inl (omega (arith, i .0 .1, c .if1 .left)))), i .1)
+    ((i .0 .0, from-start at-loop (inl (omega (arith, i .0 .1, c .if1 .left)))), (i .1 .0, i .2))
 
 pub walk-words-spec : {M : Type 1} → statement M
 walk-words-spec =
@@ -157,12 +192,13 @@ walk-words-spec =
     (tie.spec
     Inv-loop
     μ-loop
-    add-t11
+    add-t12
     loop-holds
     add-key
     add-border
     sub-border
     lesser-requires
+    add-words
     mul-walk-word
     element-copy-out-walk-word
     walk-word-requires
