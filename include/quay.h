@@ -11,6 +11,10 @@
  * touches no byte outside it. A refusal leaves the buffer byte for byte as it was; after any other answer all of it is the new
  * image. So it may be copied, kept in a file and taken up again by another process.
  *
+ * Decisions. Which page is fetched early and which is dropped goes by when the readers come to it. With a fetch time above 0 a reader
+ * comes to a page the later, the more pages it lacks on the way there. A page in fetch is not one of these: the link carries it already.
+ * So a fetch that is opened, or closed by quay_lost, may change which page is chosen next; it is worked out afresh each time.
+ *
  * Threads. A call touches its image and its own stack; there is no other state, no lock and no global. Threads may make calls on
  * different images at the same time. Two threads that share one image need a lock of the caller's, held for the whole of each
  * call. */
@@ -27,11 +31,11 @@ extern "C" {
 /* ---- the version --------------------------------------------------------------------------------------------------------
  *
  * MAJOR grows when a server has to change or its images do: a call takes other numbers, an answer or a refusal means something
- * else, or the image is longer. MINOR grows when something is added, a call for instance, and all that was stays. PATCH grows
- * when this header says the same as before. */
-#define QUAY_VERSION "3.0.0"
+ * else, or the image is longer. MINOR grows when something is added, a call for instance, or other pages are chosen, and a server
+ * need not change. PATCH grows when this header says the same as before. */
+#define QUAY_VERSION "3.1.0"
 #define QUAY_VERSION_MAJOR 3
-#define QUAY_VERSION_MINOR 0
+#define QUAY_VERSION_MINOR 1
 #define QUAY_VERSION_PATCH 0
 
 /* ---- the image ---------------------------------------------------------------------------------------------------------

@@ -1,5 +1,10 @@
 //! What a call meets that its answer alone does not tell: where a reader starts
-//! and ends, and what its pace is measured by.
+//! and ends, what its pace is measured by, and what pages in fetch change.
+
+mod link;
+
+pub use link::{by_cached_map, listed_on_the_link, on_the_link, order_by_cached_map};
+pub use link::{LINK_CASES, LIST_LINK_CASES};
 
 use crate::call::Call;
 use crate::limits::{INTERVAL, PACE};

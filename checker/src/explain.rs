@@ -23,6 +23,10 @@ const NOTE: &str = "An aid outside the proofs.";
 const ASKED: &str = "Pages asked about";
 const TIES: &str = "The seat distance is shown where use times are equal: there it decides.";
 
+/// What both forms say of q, where it counts.
+const TIMES: &str =
+    "A use time has T for each page on the way to it that is neither cached nor in fetch.";
+
 /// The ruler's part of a legend.
 const RULED: &str = "+8 over rows: 8 pages after the first of its row";
 
@@ -139,6 +143,14 @@ impl Explained {
         let rest = rows.len() - shown;
         let words = (rest > 0).then(|| format!(".. and {rest} more; --all shows them"));
         (&rows[..shown], words)
+    }
+
+    /// What is said under the orders. Without a fetch time q does not count.
+    fn notes(&self) -> Vec<&'static str> {
+        match self.state.fetch_time {
+            0 => vec![TIES],
+            _ => vec![TIMES, TIES],
+        }
     }
 
     /// The pages of the steal order.

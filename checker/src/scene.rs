@@ -10,5 +10,5 @@ mod streams;
 pub use broken::long_line;
 pub use calls::{any_call, calls_at_bounds};
 pub use questions::any_questions;
-pub use states::{any_state, long_run_state};
+pub use states::{any_state, link_state, long_run_state};
 pub use streams::{reads, Mood, Stream};

@@ -61,6 +61,33 @@ fn a_short_stream_is_shown() {
     assert_eq!(Explained::of_stream(STREAM).text(), SHOWN);
 }
 
+/// Sounding 1 with page 4 in fetch: page 7 has page 6 alone on the way to it.
+#[test]
+fn use_times_by_pages_in_fetch_are_shown() {
+    let page = |number| Page { file: 0, number };
+    let (mut state, _) = State::setup(16, 40, 20, [16, 0, 0, 0, 0, 0, 0, 0]);
+    state.cached = [1, 2, 3, 5, 7].map(page).into();
+    state.in_fetch = [page(4)].into();
+    state.readers.insert(0, Reader::running(0, 10, 3, 16));
+    let explained = Explained::of(&state);
+    let said =
+        "A use time has T for each page on the way to it that is neither cached nor in fetch.";
+    let text = explained.text();
+    for shown in [
+        "  |###~#.#.........|\n",
+        "      4     0     7  use time: in a look-ahead               60     0\n",
+        "      5     0     5  use time: in a look-ahead               20     0\n",
+        "      1     0     6  use time: in a look-ahead               30     0\n",
+        &format!("\n\n{said}\nThe seat distance is shown "),
+    ] {
+        assert!(text.contains(shown), "{shown}{text}");
+    }
+    assert!(explained.svg().contains(said));
+    state.fetch_time = 0;
+    let without = Explained::of(&state);
+    assert!(!without.text().contains(said) && !without.svg().contains(said));
+}
+
 #[test]
 fn an_idle_state_is_shown() {
     let text = Explained::of_stream(b"").text();

@@ -1,5 +1,7 @@
 //! The trials find faults: each of these stand-ins is wrong in one way only.
 
+#[path = "faults/link.rs"]
+mod link;
 #[path = "faults/lists.rs"]
 mod lists;
 #[path = "faults/measure.rs"]
@@ -10,7 +12,7 @@ mod older;
 mod questions;
 
 use checker::call::{Call, Entry, First, Lister, Settings, WhenRead};
-use checker::cases::{CASES, MEASURE_CASES};
+use checker::cases::{CASES, LINK_CASES, LIST_LINK_CASES, MEASURE_CASES};
 use checker::feed::{Feed, Program};
 use checker::layout;
 use checker::limits::{IMAGE_BYTES, INTERVAL, LINE_BYTES, MOST_TURNS, PACE, SLOTS};
@@ -24,7 +26,9 @@ use checker::trial::named::{self, Named};
 use checker::trial::older::{every_byte, probed, upgraded, OLDER_OUTCOMES};
 use checker::trial::questions::{self as asked, QUESTION_OUTCOMES};
 use checker::trial::worked::worked;
-use checker::trial::{calls, damage, fewest, rules, soundings, Report, CALL_OUTCOMES};
+use checker::trial::{calls, damage, fewest, rules, soundings, streams};
+use checker::trial::{Report, CALL_OUTCOMES};
+use link::{in_fetch_listed, listed_by_cached, LINKS};
 use lists::LISTS;
 use measure::{marks_lost_by, older_taken, MEASURES};
 use older::{BYTES, PROBES, UPGRADES};
@@ -145,6 +149,19 @@ fn a_wrong_measure_is_found() {
     }
 }
 
+/// Random calls find it too, where pages in fetch decide.
+#[test]
+fn a_page_in_fetch_counted_wrongly_is_found() {
+    for (name, entry) in LINKS {
+        let found = found(|report, dice| calls::on_the_link(report, entry, dice, 20));
+        assert!(found, "{name}, {entry:?}");
+    }
+    for program in [listed_by_cached, in_fetch_listed] {
+        let found = found(|report, dice| streams::on_the_link(report, &program, dice, 5));
+        assert!(found, "{program:?}");
+    }
+}
+
 #[test]
 fn a_wrong_restore_or_save_is_found() {
     for (name, by_rule, probe) in PROBES {
@@ -226,6 +243,8 @@ fn an_answer_never_met_is_found() {
         CALL_OUTCOMES,
         CASES,
         MEASURE_CASES,
+        LINK_CASES,
+        LIST_LINK_CASES,
         FIELD_OUTCOMES,
         OLDER_OUTCOMES,
         LIST_OUTCOMES,
@@ -287,7 +306,7 @@ fn a_first_image_that_no_call_takes_is_found() {
 }
 
 /// Stand-ins for the C entries, each with the trial that finds it.
-const ENTRIES: [(&str, Entry); 61] = [
+const ENTRIES: [(&str, Entry); 60] = [
     ("each refusal has its number", another_number::<2>),
     ("each refusal has its number", another_number::<3>),
     ("each refusal has its number", another_number::<4>),
@@ -325,7 +344,6 @@ const ENTRIES: [(&str, Entry); 61] = [
     ("Lost closes the fetch", lost_left_open),
     ("an ended fetch wakes its waiters", whole_file_woken),
     ("an ended fetch wakes its waiters", every_file_woken),
-    ("no page is fetched twice", fetched_twice),
     ("Arrive steals before it caches", cached_first),
     ("Run's order is worked out afresh", run_by_one_list),
     ("15 has three reasons", attach_0_as_size),
@@ -355,7 +373,7 @@ const ENTRIES: [(&str, Entry); 61] = [
 ];
 
 /// Stand-ins for the program.
-const PROGRAMS: [(&str, Program); 7] = [
+const PROGRAMS: [(&str, Program); 9] = [
     ("no line measures", &m_lines_read),
     ("14 comes before all else", &zeros_read),
     ("an A line has five fields", &a_of_three_read),
@@ -363,12 +381,14 @@ const PROGRAMS: [(&str, Program); 7] = [
     ("a last line lacks its end", &last_line_lost),
     ("a cluster ends with its file", &clusters_run_on),
     ("Steal's order is worked out afresh", &steals_by_one_list),
+    ("a page in fetch counts as cached", &listed_by_cached),
+    ("no page in fetch is stolen", &in_fetch_listed),
 ];
 
 #[test]
 fn each_trial_by_name_finds_its_faults() {
     let mut faultless: BTreeSet<&str> = named::all().iter().map(|trial| trial.name).collect();
-    for (name, entry) in ENTRIES.into_iter().chain(MEASURES) {
+    for (name, entry) in ENTRIES.into_iter().chain(MEASURES).chain(LINKS) {
         faultless.remove(name);
         let trial = trial(name);
         assert!(
@@ -613,11 +633,6 @@ fn decided_on(image: &mut [u8], call: Call, change: impl FnOnce(&mut State)) -> 
     (state.cached, state.in_fetch) = (changed.cached, changed.in_fetch);
     image.copy_from_slice(&state.image());
     answer.number()
-}
-
-/// Prefetch of a page that may be in fetch.
-fn fetched_twice(image: &mut [u8], call: Call) -> u64 {
-    decided_on(image, call, |state| state.in_fetch.clear())
 }
 
 /// A seat distance of (turn − slot) modulo 16.

@@ -71,6 +71,25 @@ fn the_sounding_is_answered() {
     assert_eq!(state.words_read(), 1);
 }
 
+/// Page 4 in fetch counts as cached: page 7 is seen then.
+#[test]
+fn a_page_in_fetch_is_not_missing() {
+    let mut state = sounding();
+    state.in_fetch.insert(page(4));
+    for (number, when) in [
+        (4, read(10, 0)),
+        (5, read(20, 0)),
+        (6, read(30, 0)),
+        (7, read(60, 0)),
+        (8, When::NotSeen),
+    ] {
+        assert_eq!(state.when_read(page(number)), when);
+    }
+    assert_eq!(state.words_read(), 1);
+    assert_eq!(state.fetch_order(), [page(6)]);
+    assert_eq!(state.steal_order(), [3, 2, 1, 7, 5].map(page));
+}
+
 /// The same as numbers, with a number left over. Page 1 of file 1, which has none, is
 /// no page either: 3 is first.
 #[test]

@@ -1,6 +1,6 @@
 //! Quick against the model: equal numbers, equal images, equal lists, equal answers.
 
-use checker::cases::{CASES, MEASURE_CASES};
+use checker::cases::{CASES, LINK_CASES, MEASURE_CASES};
 use checker::model::{Page, State};
 use checker::quick::{entry, list, question, when_read};
 use checker::random::Dice;
@@ -15,13 +15,15 @@ use checker::trial::{calls, damage, rules, soundings, Report, CALL_OUTCOMES};
 fn random_calls_at_bounds_and_beyond() {
     let (mut report, mut dice) = (Report::default(), Dice::new(6));
     calls::random_calls(&mut report, entry, &mut dice, 600);
+    calls::on_the_link(&mut report, entry, &mut dice, 400);
     calls::bounds(&mut report, entry, &mut dice, 3);
     calls::long_runs(&mut report, entry, &mut dice);
     damage::every_byte(&mut report, entry, &mut dice);
     damage::noise(&mut report, entry, &mut dice, 300);
     damage::lengths(&mut report, entry, &mut dice);
     fields::changed(&mut report, entry, &mut dice, 4_000);
-    let outcomes = [CALL_OUTCOMES, CASES, MEASURE_CASES, FIELD_OUTCOMES].concat();
+    let calls = [CALL_OUTCOMES, CASES, MEASURE_CASES, LINK_CASES].concat();
+    let outcomes = [&calls[..], FIELD_OUTCOMES].concat();
     report.check_every_outcome_met(&outcomes);
     println!("{}", report.outcomes(&outcomes));
     assert_eq!(report.failed(), 0);

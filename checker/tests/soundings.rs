@@ -50,8 +50,11 @@ fn by_definition(state: &State, reader: &Reader) -> Vec<(Page, u64)> {
     let (l, t) = (state.look_ahead, state.fetch_time);
     let k = l / w;
     let q = |j| {
-        let not_cached = |&number: &u64| !state.cached.contains(&Page { file, number });
-        (c + 1..=c + j - 1).filter(not_cached).count() as u64
+        let counts = |&number: &u64| {
+            let page = Page { file, number };
+            !state.cached.contains(&page) && !state.in_fetch.contains(&page)
+        };
+        (c + 1..=c + j - 1).filter(counts).count() as u64
     };
     (1..=k.min(reader.last))
         .filter(|j| c + j <= reader.last)

@@ -1,13 +1,13 @@
 //! Streams of lines: the checker's own program against the model, in this
 //! process and as one of its own.
 
-use checker::cases::CASES;
+use checker::cases::{CASES, LINK_CASES, LIST_LINK_CASES};
 use checker::feed::Feed;
 use checker::model::{follow, run_program};
 use checker::process::Process;
 use checker::quick::Lines;
 use checker::random::Dice;
-use checker::scene::{reads, Mood, Stream};
+use checker::scene::{link_state, reads, Mood, Stream};
 use checker::trial::streams::LINE_OUTCOMES;
 use checker::trial::{named, soundings, streams, Report};
 
@@ -41,6 +41,17 @@ fn streams_have_the_answers_of_the_whole() {
 }
 
 #[test]
+fn lines_lead_to_a_state() {
+    let mut dice = Dice::new(29);
+    for _ in 0..200 {
+        let wanted = link_state(&mut dice);
+        let mut stream = Stream::default();
+        stream.lead_to(&wanted);
+        assert_eq!(stream.state, wanted);
+    }
+}
+
+#[test]
 fn quick_answers_as_the_model_does() {
     let (mut report, mut dice) = (Report::default(), Dice::new(10));
     for trial in named::all() {
@@ -50,10 +61,11 @@ fn quick_answers_as_the_model_does() {
     streams::at_borders(&mut report, &by_quick);
     streams::long_lists(&mut report, &by_quick);
     streams::random_streams(&mut report, &by_quick, &mut dice, 40);
+    streams::on_the_link(&mut report, &by_quick, &mut dice, 300);
     streams::cut_everywhere(&mut report, &by_quick, &mut dice, 3);
     streams::long_lines(&mut report, &by_quick, &mut dice);
     streams::explained(&mut report, &by_quick, &mut dice, 50);
-    let outcomes = [LINE_OUTCOMES, CASES].concat();
+    let outcomes = [LINE_OUTCOMES, CASES, LINK_CASES, LIST_LINK_CASES].concat();
     report.check_every_outcome_met(&outcomes);
     println!("{}", report.outcomes(&outcomes));
     assert_eq!(report.failed(), 0);

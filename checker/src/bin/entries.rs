@@ -9,7 +9,7 @@
 //! One round is the default run; more rounds go on with the same dice. The last
 //! line is `entries: N passed, 0 failed`, or the exit status is not 0.
 
-use checker::cases::{CASES, MEASURE_CASES};
+use checker::cases::{CASES, LINK_CASES, MEASURE_CASES};
 use checker::ffi::{entry, first_image, list, probe, upgrade_image, when_read};
 use checker::model::run_program;
 use checker::random::Dice;
@@ -37,7 +37,7 @@ fn main() -> ExitCode {
     for _ in 0..rounds {
         round(&mut report, &mut dice);
     }
-    let calls = [CALL_OUTCOMES, CASES, MEASURE_CASES].concat();
+    let calls = [CALL_OUTCOMES, CASES, MEASURE_CASES, LINK_CASES].concat();
     let images = [FIELD_OUTCOMES, OLDER_OUTCOMES, FIRST_OUTCOMES].concat();
     let lent = [LIST_OUTCOMES, QUESTION_OUTCOMES].concat();
     report.close("entries", "calls", &[calls, images, lent].concat())
@@ -76,6 +76,9 @@ fn fixed(report: &mut Report) {
 fn round(report: &mut Report, dice: &mut Dice) {
     report.part("random calls", |report| {
         calls::random_calls(report, entry, dice, 5_000);
+    });
+    report.part("calls that pages in fetch decide", |report| {
+        calls::on_the_link(report, entry, dice, 3_000);
     });
     report.part("calls at every bound", |report| {
         calls::bounds(report, entry, dice, 30);

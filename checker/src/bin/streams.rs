@@ -6,7 +6,7 @@
 //! One round is the default run; more rounds go on with the same dice. The last
 //! line is `streams: N passed, 0 failed`, or the exit status is not 0.
 
-use checker::cases::CASES;
+use checker::cases::{CASES, LINK_CASES, LIST_LINK_CASES};
 use checker::feed::Feed;
 use checker::process::Process;
 use checker::random::Dice;
@@ -32,7 +32,7 @@ fn main() -> ExitCode {
     for _ in 0..rounds {
         round(&mut report, &process, &mut dice);
     }
-    let outcomes = [streams::LINE_OUTCOMES, CASES].concat();
+    let outcomes = [streams::LINE_OUTCOMES, CASES, LINK_CASES, LIST_LINK_CASES].concat();
     report.close("streams", "lines", &outcomes)
 }
 
@@ -73,6 +73,9 @@ fn round(report: &mut Report, process: &Process, dice: &mut Dice) {
     let program = &|feed: &Feed| process.output(feed);
     report.part("random streams", |report| {
         streams::random_streams(report, program, dice, 500);
+    });
+    report.part("lines that pages in fetch decide", |report| {
+        streams::on_the_link(report, program, dice, 1_000);
     });
     report.part("cut at every place", |report| {
         streams::cut_everywhere(report, program, dice, 8);

@@ -3,7 +3,7 @@
 use super::picture::RULER;
 use super::text::strip_title;
 use super::{alike_words, labels, Explained, Mark, PageRow, ReaderMark, Row, Shown, Sign, Strip};
-use super::{ASKED, NOTE, RULED, TIES, TITLE};
+use super::{ASKED, NOTE, RULED, TITLE};
 
 const WIDTH: usize = 1_040;
 const LEFT: usize = 30;
@@ -239,8 +239,11 @@ impl Sheet {
         let steal_end = self.y;
         self.y = top;
         self.table(explained, FETCH_LEFT, "Fetch order", &FETCH_COLUMNS, fetch);
-        self.y = self.y.max(steal_end) + 2 * LINE;
-        self.text("soft", LEFT, TIES);
+        self.y = self.y.max(steal_end) + LINE;
+        for note in explained.notes() {
+            self.y += LINE;
+            self.text("soft", LEFT, note);
+        }
     }
 
     /// What becomes of the pages that were asked about.

@@ -2,7 +2,7 @@
 
 use super::picture::RULER;
 use super::{alike_words, labels, Explained, Mark, PageRow, ReaderMark, Row, Shown, Sign, Strip};
-use super::{ASKED, NOTE, RULED, TIES, TITLE};
+use super::{ASKED, NOTE, RULED, TITLE};
 
 /// The whole text.
 pub fn text(explained: &Explained) -> String {
@@ -22,7 +22,7 @@ pub fn text(explained: &Explained) -> String {
     }
     text += &table(explained, "Steal order", "dropped", &explained.steal);
     text += &table(explained, "Fetch order", "fetched early", &explained.fetch);
-    text += &format!("\n{TIES}\n");
+    text += &format!("\n{}\n", explained.notes().join("\n"));
     if !explained.asked.is_empty() {
         text += &format!("\n{ASKED}\n");
     }

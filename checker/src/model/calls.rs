@@ -95,7 +95,8 @@ impl State {
 
     /// **Arrive**: "3. 8: page 0 or above the size. 9: page not in fetch. If
     /// all frames are taken, the head of the steal order is dropped first. Then
-    /// the page leaves fetch, is cached, and every reader waiting for it runs."
+    /// the page leaves fetch, is cached, and every reader waiting for it runs." So it is
+    /// still in fetch while that head is chosen, and by A.5 counts as cached there.
     pub fn arrive(&mut self, file: u64, number: u64) -> Outcome {
         let page = self.open_fetch(file, number)?;
         let all_taken = self.cached.len() as u64 >= self.frames;

@@ -22,8 +22,9 @@ impl State {
     /// ("Its look-ahead ends there"), "is in its look-ahead unless T is above 0
     /// and the pages from c + 1 to c + j − 1 hold at least m not cached [...].
     /// Its time for that reader is j × w + q × T, q being the number of those
-    /// pages not cached." The page itself is not one of those pages. Once m are
-    /// not cached, no later page is in.
+    /// pages not cached." What counts as cached there, A.5 says: see
+    /// [`is_present`](State::is_present). The page itself is not one of those pages.
+    /// Once m are missing, no later page is in.
     pub fn look_ahead_of(&self, reader: &Reader) -> Vec<(Page, u64)> {
         let reach = self.look_ahead / reader.pace; // K
         let mut pages = Vec::new();
@@ -37,11 +38,17 @@ impl State {
                 break;
             }
             pages.push((page, j * reader.pace + missing * self.fetch_time));
-            if !self.cached.contains(&page) {
+            if !self.is_present(page) {
                 missing += 1;
             }
         }
         pages
+    }
+
+    /// A.5: "a page in fetch counts as cached in q and in the pruning". So it does in
+    /// every look-ahead; what is stolen and what is fetched have tests of their own.
+    pub fn is_present(&self, page: Page) -> bool {
+        self.cached.contains(&page) || self.in_fetch.contains(&page)
     }
 
     /// "T is above 0 and [...] at least m not cached, m being L divided by T,

@@ -104,7 +104,8 @@ impl State {
 
     /// "how many 64-bit map words were read: for each reader, the words of the cached
     /// map that hold a page of its look-ahead, added over the readers". A word counts
-    /// once for each reader that has a page in it.
+    /// once for each reader that has a page in it. A.5: "the two words at one place of
+    /// the two maps count as one".
     pub fn words_read(&self) -> u64 {
         let readers = self.readers.values();
         let words = readers.map(|reader| {

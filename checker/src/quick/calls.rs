@@ -185,7 +185,8 @@ impl Flat {
         Met::Fetch(key)
     }
 
-    /// Caches a page that was in fetch; gives the page dropped for it.
+    /// Caches a page that was in fetch; gives the page dropped for it, which is chosen
+    /// before the page leaves fetch.
     fn admit(&mut self, key: usize) -> Option<usize> {
         let dropped = if self.taken >= self.frames {
             self.drop_one()

@@ -45,22 +45,29 @@ impl Flat {
     /// Walks every reader's look-ahead once and leaves each page's smallest use
     /// key. Gives how many pages were tested for being cached.
     pub(super) fn walk(&self, use_keys: &mut [u32; PAGES]) -> u64 {
+        let present = self.present();
         let mut tested = 0;
         for (slot, reader) in self.readers.iter().enumerate() {
             if reader.condition != EMPTY {
                 let seat = (slot + SLOTS - self.turn) % SLOTS;
-                tested += self.walk_ahead_of(reader, seat as u32, use_keys);
+                tested += self.walk_ahead_of(reader, seat as u32, &present, use_keys);
             }
         }
         tested
     }
 
-    /// Walks one look-ahead, and gives its pages. A use key is time × 16 + seat
-    /// distance; a time is below 4,000,001, so the key fits.
+    /// The pages that count as cached in q and in the pruning: both maps, word by word.
+    pub(super) fn present(&self) -> [u64; WORDS] {
+        std::array::from_fn(|index| self.cached[index] | self.in_fetch[index])
+    }
+
+    /// Walks one look-ahead by the pages that are present, and gives its pages. A use
+    /// key is time × 16 + seat distance; a time is below 4,000,001, so the key fits.
     pub(super) fn walk_ahead_of(
         &self,
         reader: &Reader,
         seat: u32,
+        present: &[u64; WORDS],
         use_keys: &mut [u32; PAGES],
     ) -> u64 {
         let most_missing = self.most_missing();
@@ -76,7 +83,7 @@ impl Flat {
             }
             time += reader.pace;
             *smallest = (*smallest).min(time * 16 + seat);
-            if !has(&self.cached, key) {
+            if !has(present, key) {
                 missing += 1;
                 time += self.fetch_time;
             }
@@ -84,7 +91,7 @@ impl Flat {
         (end - first) as u64
     }
 
-    /// m, the pages not cached that end a look-ahead. With T 0 none do.
+    /// m, the missing pages that end a look-ahead. With T 0 none do.
     pub(super) fn most_missing(&self) -> u32 {
         let m = self.look_ahead.checked_div(self.fetch_time);
         m.unwrap_or(u32::MAX)

@@ -1,5 +1,5 @@
 //! When pages will be read, on an image: each question by itself, each reader's time
-//! worked out from counts of the cached map.
+//! worked out from counts of both maps.
 
 use super::decide::NONE;
 use super::{Flat, Reader, EMPTY, PAGES, SLOTS};
@@ -85,26 +85,28 @@ impl Flat {
         (nth * reader.pace + missing * self.fetch_time) * 16 + seat
     }
 
-    /// How many pages of a stretch of keys are not cached, word by word.
+    /// How many pages of a stretch of keys are neither cached nor in fetch, word by word.
     fn missing(&self, keys: Range<usize>) -> u32 {
         let (mut key, mut missing) = (keys.start, 0);
         while key < keys.end {
             let behind = keys.end.min((key / 64 + 1) * 64);
             let stretch = u64::MAX >> (64 - (behind - key)) << (key % 64);
-            missing += (!self.cached[key / 64] & stretch).count_ones();
+            let present = self.cached[key / 64] | self.in_fetch[key / 64];
+            missing += (!present & stretch).count_ones();
             key = behind;
         }
         missing
     }
 
-    /// The words of the cached map that hold a page of a look-ahead, added over the
-    /// readers.
+    /// The words of the maps that hold a page of a look-ahead, two at one place counted
+    /// as one, added over the readers.
     fn words(&self) -> u64 {
         let mut use_keys = [NONE; PAGES];
+        let present = self.present();
         let mut words = 0;
         for reader in self.readers.iter().filter(|r| r.condition != EMPTY) {
             let first = reader.next() as u64;
-            let pages = self.walk_ahead_of(reader, 0, &mut use_keys);
+            let pages = self.walk_ahead_of(reader, 0, &present, &mut use_keys);
             if pages > 0 {
                 words += (first + pages - 1) / 64 - first / 64 + 1;
             }

@@ -10,6 +10,9 @@ const EDGE_PACES: [u64; 8] = [1, 2, 3, 10, 100, 333, 999, 1_000];
 
 /// A state that Restore accepts.
 pub fn any_state(dice: &mut Dice) -> State {
+    if dice.once_in(6) {
+        return link_state(dice);
+    }
     let mut state = State::idle();
     state.frames = match dice.below(3) {
         0 => dice.between(1, 1_024),
@@ -25,6 +28,51 @@ pub fn any_state(dice: &mut Dice) -> State {
     open_fetches(dice, &mut state);
     let_some_wait(dice, &mut state);
     state
+}
+
+/// A state in which pages in fetch may decide: fetches take time, every frame is taken
+/// by a page ahead of some reader, and of those between some are in fetch and some
+/// neither. Now and then no fetch is open, as before a Run.
+pub fn link_state(dice: &mut Dice) -> State {
+    let mut state = State::idle();
+    state.turn = dice.below(SLOTS);
+    let pace = dice.between(2, 30);
+    state.look_ahead = pace * dice.between(6, 40);
+    state.fetch_time = dice.between(1, 3 * pace);
+    for size in &mut state.sizes[..dice.pick(&[1, 2, 3])] {
+        *size = dice.between(10, 90);
+    }
+    let files = state.files();
+    for _ in 0..dice.between(1, 4) {
+        let file = dice.pick(&files);
+        let size = state.size(file);
+        let position = dice.below(size / 2);
+        let reader = Reader::running(file, dice.between(1, 2 * pace), position, size);
+        state.readers.insert(dice.below(SLOTS), reader);
+    }
+    place_ahead(dice, &mut state);
+    state.frames = (state.cached.len() as u64).max(1);
+    if dice.once_in(3) {
+        state.in_fetch.clear();
+    }
+    let_some_wait(dice, &mut state);
+    state
+}
+
+/// Of some pages ahead of each reader, caches some and puts others in fetch.
+fn place_ahead(dice: &mut Dice, state: &mut State) {
+    for reader in state.readers.clone().into_values() {
+        let far = dice.between(2, 24).min(reader.last - reader.position);
+        for ahead in 0..far {
+            let mut page = reader.next_page();
+            page.number += ahead;
+            match dice.below(9) {
+                0..=3 if !state.in_fetch.contains(&page) => _ = state.cached.insert(page),
+                4..=6 if !state.cached.contains(&page) => _ = state.in_fetch.insert(page),
+                _ => {}
+            }
+        }
+    }
 }
 
 /// A state from which Run has long work to do: sixteen readers on full files.
@@ -172,13 +220,14 @@ fn fill_cache(dice: &mut Dice, state: &mut State) {
 }
 
 /// Puts pages in fetch that are not cached: none, those that readers come to
-/// next, some anywhere, or every page of some file.
+/// next, some anywhere, every page of some file, or some ahead of the readers, as many
+/// prefetches leave them.
 fn open_fetches(dice: &mut Dice, state: &mut State) {
     let files = state.files();
     if files.is_empty() {
         return;
     }
-    let kind = dice.below(7); // none for 0 to 2
+    let kind = dice.below(10); // none for 0 to 2
     let mut pages = Vec::new();
     if kind == 3 || kind == 4 {
         let next_pages = state.readers.values().map(Reader::next_page);
@@ -197,8 +246,29 @@ fn open_fetches(dice: &mut Dice, state: &mut State) {
             pages.extend(numbers.map(|number| Page { file, number }));
         }
     }
+    if kind >= 7 {
+        pages.extend(pages_ahead(dice, state));
+    }
     pages.retain(|page| page.number <= state.size(page.file) && !state.cached.contains(page));
     state.in_fetch.extend(pages);
+}
+
+/// Some pages ahead of each reader, in stretches of one length.
+fn pages_ahead(dice: &mut Dice, state: &State) -> Vec<Page> {
+    let stretch = dice.pick(&[1, 1, 2, 3, 10, 100]);
+    let far = dice.pick(&[4, 12, 30, 100]);
+    let mut pages = Vec::new();
+    for reader in state.readers.values() {
+        for _ in 0..dice.between(0, 6) {
+            let mut page = reader.next_page();
+            page.number += dice.below(far);
+            pages.extend((0..stretch).map(|more| Page {
+                number: page.number + more,
+                ..page
+            }));
+        }
+    }
+    pages
 }
 
 fn let_some_wait(dice: &mut Dice, state: &mut State) {

@@ -59,8 +59,12 @@ impl Stream {
     /// Adds a line and gives the model's answer to it.
     pub fn say(&mut self, line: impl AsRef<[u8]>) -> String {
         let state = std::mem::replace(&mut self.state, State::idle());
+        let on_the_link = on_the_link(&state, line.as_ref());
         let answer;
         (self.state, answer) = respond(state, line.as_ref());
+        if !answer.starts_with('E') {
+            self.met.extend(on_the_link);
+        }
         self.input.extend(line.as_ref());
         self.input.push(b'\n');
         self.output.extend(answer.bytes());
@@ -120,6 +124,49 @@ impl Stream {
             let (file, pace, last) = (reader.file, reader.pace, reader.last);
             self.say(format!("A,{slot},{file},{pace},{start},{last}"));
         }
+    }
+
+    /// Lines that lead to this state, if its readers' marks are their positions: pages
+    /// are read one by one and arrive, or stay in fetch, and then its readers dock.
+    pub fn lead_to(&mut self, wanted: &State) {
+        self.say(setup_line(&setup_values(wanted)));
+        self.say(format!("N,{}", wanted.turn));
+        for &Page { file, number } in wanted.cached.iter().chain(&wanted.in_fetch) {
+            self.say(format!("A,0,{file},1,{},{number}", number - 1));
+            self.say("R,0");
+            if wanted.cached.contains(&Page { file, number }) {
+                self.say(format!("I,{file},{number}"));
+            }
+            self.say("D,0");
+        }
+        for (slot, reader) in &wanted.readers {
+            let (file, pace, start, last) =
+                (reader.file, reader.pace, reader.position, reader.last);
+            self.say(format!("A,{slot},{file},{pace},{start},{last}"));
+            if reader.waiting {
+                self.say(format!("R,{slot}"));
+            }
+        }
+    }
+
+    /// Some lines that pages in fetch may decide, and once these are lost a Run.
+    pub fn decide(&mut self, dice: &mut Dice) {
+        for _ in 0..dice.between(3, 9) {
+            let open: Vec<Page> = self.state.in_fetch.iter().copied().collect();
+            match dice.below(3) {
+                0 if !open.is_empty() => {
+                    let Page { file, number } = dice.pick(&open);
+                    self.say(format!("I,{file},{number}"));
+                }
+                _ => {
+                    self.say(dice.pick(&["L", "Q", "P", "T"]));
+                }
+            }
+        }
+        for Page { file, number } in self.state.in_fetch.clone() {
+            self.say(format!("X,{file},{number}"));
+        }
+        self.say(format!("N,{}", dice.between(1, 40)));
     }
 
     /// Some sound lines that belong together.
@@ -221,6 +268,18 @@ impl Stream {
             _ => broken_line(dice, line.as_bytes()),
         };
         self.say(line);
+    }
+}
+
+/// What pages in fetch change in the answer to a line. With T 0 they change nothing.
+fn on_the_link(before: &State, line: &[u8]) -> Vec<(&'static str, &'static str)> {
+    if before.fetch_time == 0 {
+        return Vec::new();
+    }
+    let call = std::str::from_utf8(line).ok().and_then(Call::of_line);
+    match call {
+        Some(call) => cases::on_the_link(before, call),
+        None => cases::listed_on_the_link(before, line),
     }
 }
 

@@ -1,6 +1,7 @@
 //! What the rows of a call meet, and how the words that it counts lie.
 
 use super::walks::applying;
+use crate::cases::by_cached_map;
 use crate::limits::{FILES, FILE_PAGES, SLOTS};
 use crate::model::{Page, Reader, Refusal, State, UseKey, When};
 use std::collections::{BTreeMap, BTreeSet};
@@ -30,8 +31,15 @@ pub(super) const TIMES: &[&str] = &[
     "the slot is not the seat", "a tie told by seats", "a tie won by the higher slot",
     "the farther seat is earlier", "read by another", "beyond another's last page",
     "in no look-ahead of another", "a waiting reader", "slot 15", "page 1,024 of file 7",
-    "first of a look-ahead", "last of a look-ahead",
-    "q above 0", "a page in fetch in q", "a time above 65,535",
+    "first of a look-ahead", "last of a look-ahead", "q above 0", "a time above 65,535",
+];
+
+/// What pages in fetch change in an answer and in the words, beside the cached map
+/// alone; and how the two maps lie in a word.
+#[rustfmt::skip]
+pub(super) const LINK: &[&str] = &[
+    "less q by a page in fetch", "another time", "another slot", "not seen else",
+    "more words", "a word of both maps", "a word of the fetch map alone",
 ];
 
 /// How the look-aheads lie in the words.
@@ -81,6 +89,9 @@ impl Walk<'_> {
 struct Asked<'a> {
     state: &'a State,
     keys: BTreeMap<Page, UseKey>,
+    /// The state without its fetches, and its use keys.
+    other: State,
+    other_keys: BTreeMap<Page, UseKey>,
     walks: Vec<Walk<'a>>,
 }
 
@@ -95,9 +106,12 @@ pub(super) fn met(state: &State, questions: &[Page]) -> BTreeSet<&'static str> {
             times,
         }
     });
+    let other = by_cached_map(state);
     let asked = Asked {
         state,
         keys: state.use_keys(),
+        other_keys: other.use_keys(),
+        other,
         walks: walks.collect(),
     };
     let mut met = asked.words(questions);
@@ -226,6 +240,7 @@ impl Asked<'_> {
         ]);
         met.extend(self.by_seat(page, time, slot));
         met.extend(self.by_time(page, reader));
+        met.extend(self.by_link(page, time, slot));
         met
     }
 
@@ -249,20 +264,49 @@ impl Asked<'_> {
 
     /// What the time is made of.
     fn by_time(&self, page: Page, reader: &Reader) -> BTreeSet<&'static str> {
-        let State {
-            cached, in_fetch, ..
-        } = self.state;
         let before = (reader.position + 1..page.number).map(|number| Page { number, ..page });
         let before: Vec<Page> = before.collect();
         let counted = self.state.fetch_time > 0;
-        let missing = before.iter().any(|page| !cached.contains(page));
-        let open = before.iter().any(|page| in_fetch.contains(page));
+        let missing = before.iter().any(|&page| !self.state.is_present(page));
+        let open = before.iter().any(|page| self.state.in_fetch.contains(page));
         let is_end = |walk: &Walk| walk.reader == reader && walk.end() == page.number;
         applying(&[
             (counted && missing, "q above 0"),
-            (counted && open, "a page in fetch in q"),
+            (counted && open, "less q by a page in fetch"),
             (self.walks.iter().any(is_end), "last of a look-ahead"),
         ])
+    }
+
+    /// What the answer would be by the cached map alone.
+    fn by_link(&self, page: Page, time: u64, slot: u64) -> BTreeSet<&'static str> {
+        match self.other_keys.get(&page) {
+            Some(other) => applying(&[
+                (other.time != time, "another time"),
+                (self.state.slot_at(other.seat) != slot, "another slot"),
+            ]),
+            None => applying(&[(true, "not seen else")]),
+        }
+    }
+
+    /// What pages in fetch change in the words, and how they lie in those of a reader.
+    fn link_words(&self, words: u64) -> BTreeSet<&'static str> {
+        let is_in = |pages: &BTreeSet<Page>, word: u64| {
+            let keys = WORD * word..WORD * (word + 1);
+            pages
+                .range(Page::of_key(keys.start)..=Page::of_key(keys.end - 1))
+                .next()
+                .is_some()
+        };
+        let mut met = applying(&[(words > self.other.words_read(), "more words")]);
+        for word in self.walks.iter().flat_map(Walk::words) {
+            let cached = is_in(&self.state.cached, word);
+            let open = is_in(&self.state.in_fetch, word);
+            met.extend(applying(&[
+                (cached && open, "a word of both maps"),
+                (!cached && open, "a word of the fetch map alone"),
+            ]));
+        }
+        met
     }
 
     /// What the rows have to do with each other.
@@ -303,6 +347,7 @@ impl Asked<'_> {
             (words == 16 * SLOTS, "256 words"),
         ]);
         met.extend(self.walks.iter().flat_map(words_of));
+        met.extend(self.link_words(words));
         met
     }
 }

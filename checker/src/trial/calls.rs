@@ -3,9 +3,9 @@
 use super::{hold, Report};
 use crate::call::{Call, Entry};
 use crate::limits::MOST_TURNS;
-use crate::model::State;
+use crate::model::{Page, State};
 use crate::random::Dice;
-use crate::scene::{any_call, any_state, calls_at_bounds, long_run_state};
+use crate::scene::{any_call, any_state, calls_at_bounds, link_state, long_run_state};
 
 /// Calls made one after the other from each random state.
 const CALLS_PER_STATE: u64 = 30;
@@ -18,6 +18,25 @@ pub fn random_calls(report: &mut Report, entry: Entry, dice: &mut Dice, states: 
             let (state, _) = State::restore(&image);
             (_, image) = hold(report, entry, &image, any_call(dice, &state));
         }
+    }
+}
+
+/// Calls that pages in fetch decide, on so many states: each head, each page in fetch
+/// that arrives, and a short Run once all of them are lost.
+pub fn on_the_link(report: &mut Report, entry: Entry, dice: &mut Dice, states: u64) {
+    for _ in 0..states {
+        let state = link_state(dice);
+        let image = state.image();
+        for call in [Call::Steal, Call::Prefetch] {
+            hold(report, entry, &image, call);
+        }
+        let mut left = image.clone();
+        for &Page { file, number: page } in &state.in_fetch {
+            hold(report, entry, &image, Call::Arrive { file, page });
+            (_, left) = hold(report, entry, &left, Call::Lost { file, page });
+        }
+        let turns = dice.between(1, 40);
+        hold(report, entry, &left, Call::Run { turns });
     }
 }
 

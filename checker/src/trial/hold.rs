@@ -3,7 +3,7 @@
 use super::{Outcomes, Report};
 use crate::call::{Call, Entry};
 use crate::cases;
-use crate::model::{self, Page, State};
+use crate::model::{self, Page, Refusal, State};
 use std::ops::Range;
 
 /// Every answer and refusal that the paper gives the calls of the C boundary.
@@ -37,8 +37,13 @@ pub fn hold(report: &mut Report, entry: Entry, image: &[u8], call: Call) -> (u64
             report.note(name, case.to_string());
         }
     }
-    if let (Call::Measure { .. }, Ok(before)) = (call, State::of_image(image)) {
-        for (name, case) in cases::measured(&before, call, &answer) {
+    if expected.0 != Refusal::Image.number() {
+        let (before, _) = State::restore(image);
+        let mut met = cases::measured(&before, call, &answer);
+        if !answer.starts_with('E') {
+            met.extend(cases::on_the_link(&before, call));
+        }
+        for (name, case) in met {
             report.note(name, case.to_string());
         }
     }

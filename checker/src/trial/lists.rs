@@ -15,10 +15,12 @@ pub const LIST_OUTCOMES: &Outcomes = &[
     ("Steal list", walks::ENDS),
     ("Steal list", walks::WORDS),
     ("Steal list", walks::READERS),
+    ("Steal list", walks::LINK),
     ("Fetch list", ANSWERS),
     ("Fetch list", walks::ENDS),
     ("Fetch list", walks::WORDS),
     ("Fetch list", walks::READERS),
+    ("Fetch list", walks::LINK),
 ];
 
 #[rustfmt::skip]
@@ -167,10 +169,11 @@ fn any_list(dice: &mut Dice, order: Order, image: &[u8]) -> Vec<u16> {
 }
 
 /// Two readers at the start of each file, whose look-aheads reach its end, late in
-/// time: with T 0 and above, with nothing cached and with every frame taken.
+/// time: with T 0 and above, with nothing cached and with every frame taken; and with
+/// every other page in fetch, so that T may be as large as it gets.
 pub(super) fn largest() -> Vec<State> {
     let mut states = Vec::new();
-    for fetch_time in [0, 1_953] {
+    for fetch_time in [0, 1_953, 2_000_000] {
         for cached in [0, 1_024] {
             let mut state = State::idle();
             state.frames = 1_024;
@@ -184,6 +187,10 @@ pub(super) fn largest() -> Vec<State> {
             }
             let every_eighth = (0..cached).map(|nth| Page::of_key(8 * nth + 5));
             state.cached = every_eighth.collect();
+            if fetch_time == 2_000_000 {
+                let every = (0..FILES * FILE_PAGES).map(Page::of_key);
+                state.in_fetch = every.filter(|page| !state.cached.contains(page)).collect();
+            }
             states.push(state);
         }
     }
@@ -195,19 +202,30 @@ const BORDERS: [u64; 12] = [1, 2, 63, 64, 65, 66, 127, 128, 129, 192, 193, 256];
 
 /// A reader of file 0, before which all is cached but two pages about borders: m is
 /// 2, so that the look-ahead ends with the second. Another reads file 1, of which all
-/// is cached, at times between those of the first.
+/// is cached, at times between those of the first. Once more, and every third page of
+/// file 0 is in fetch instead.
 fn at_borders() -> Vec<State> {
     let mut states = Vec::new();
     for position in [0, 1, 62, 63, 64, 65] {
         for (nth, &low) in BORDERS.iter().enumerate() {
             for &high in &BORDERS[nth + 1..] {
                 if low > position {
-                    states.push(at_border(position, [low, high]));
+                    let state = at_border(position, [low, high]);
+                    states.extend([some_in_fetch(&state), state]);
                 }
             }
         }
     }
     states
+}
+
+/// The same state, with every third page of file 0 in fetch if it was cached.
+fn some_in_fetch(state: &State) -> State {
+    let mut state = state.clone();
+    let moved = |page: &Page| page.file == 0 && page.number.is_multiple_of(3);
+    let cached = std::mem::take(&mut state.cached).into_iter();
+    (state.in_fetch, state.cached) = cached.partition(moved);
+    state
 }
 
 fn at_border(position: u64, missing: [u64; 2]) -> State {

@@ -32,10 +32,17 @@ const FIVE: &str = "S,5,10,0,5,0,0,0,0,0,0,0: O";
 /// 10, and sees no page ahead.
 const DOCKED: &str = "S,64,1,0,64,0,0,0,0,0,0,0: O / A,0,0,500,10,60: O";
 
-/// The trials: WAITING, FIVE and DOCKED stand for the lines above, LONG for a line
-/// of 200 bytes, THREE for one with three fields for each letter.
+/// L 40 and T 20. Page 5 of file 0 and pages 1 and 2 of file 1 are cached and take all
+/// frames; slot 0 is at page 3 of file 0, at pace 10, slot 1 at the start of file 1, at
+/// pace 12. Pages 1 to 3 of file 1 come at 12, 24 and 36, pages 5 and 6 of file 0 at 40
+/// and 50, and at 20 and 30 if page 4 is in fetch.
+const BESIDE: &str = "S,3,40,20,16,16,0,0,0,0,0,0: O / A,0,0,10,4,5: O / A,1,1,10,0,2: O / \
+    N,32: N,3,3 / D,0: O / D,1: O / A,0,0,10,3,16: O / A,1,1,12,0,16: O";
+
+/// The trials: WAITING, FIVE, DOCKED and BESIDE stand for the lines above, LONG for a
+/// line of 200 bytes, THREE for one with three fields for each letter.
 #[rustfmt::skip]
-const TABLE: [(&str, &str); 54] = [
+const TABLE: [(&str, &str); 61] = [
     ("each refusal has its number",
      "WAITING / S,0,10,0,5,0,0,0,0,0,0,0: E,1 / A,16,0,1,0,5: E,2 / A,1,8,1,0,5: E,3 / \
       A,1,0,1001,0,5: E,4 / A,1,0,1,0,6: E,15 / A,0,0,1,0,5: E,5 / D,16: E,2 / D,1: E,6 / \
@@ -106,11 +113,46 @@ const TABLE: [(&str, &str); 54] = [
      "S,1,1,0,2,0,0,0,0,0,0,0: O / A,0,0,1,0,2: O / R,0: F,0,1 / I,0,1: I / R,0: H,0,1 / \
       R,0: F,0,2 / D,0: O / I,0,2: I,0,1 / T: S,0,2"),
     // "The order is worked out afresh for each steal". Page 2 of file 0 is 40
-    // ticks off until page 1 arrives, then 20; page 1 of file 1 is 30.
+    // ticks off until page 1 is in fetch, then 20; page 1 of file 1 is 30.
     ("Steal's order is worked out afresh",
      "S,4,100,20,2,1,1,0,0,0,0,0: O / A,0,0,10,0,2: O / A,1,1,30,0,1: O / A,2,2,10,0,1: O / \
-      R,2: F,2,1 / I,2,1: I / D,2: O / P: F,0,1 / P: F,1,1 / P: F,0,2 / I,1,1: I / I,0,2: I / \
-      L: L,3,2,1,0,2,1,1 / T: S,2,1 / I,0,1: I / T: S,1,1 / L: L,2,0,2,0,1"),
+      R,2: F,2,1 / I,2,1: I / D,2: O / P: F,0,1 / P: F,0,2 / P: F,1,1 / I,1,1: I / I,0,2: I / \
+      X,0,1: O / L: L,3,2,1,0,2,1,1 / T: S,2,1 / P: F,0,1 / T: S,1,1 / I,0,1: I / \
+      L: L,2,0,2,0,1"),
+
+    // Sounding 1 with page 4 in fetch: page 7 is seen, though page 6 is missing too
+    ("a sounding with a page in fetch",
+     "S,16,40,20,16,0,0,0,0,0,0,0: O / A,0,0,10,0,3: O / A,1,0,10,4,5: O / A,2,0,10,6,7: O / \
+      N,48: N,5,5 / D,0: O / D,1: O / D,2: O / A,0,0,10,3,16: O / L: L,5,0,3,0,2,0,1,0,7,0,5 / \
+      Q: Q,2,0,4,0,6 / P: F,0,4 / L: L,5,0,3,0,2,0,1,0,7,0,5 / Q: Q,1,0,6 / T: S,0,3 / \
+      T: S,0,2 / T: S,0,1 / T: S,0,7 / Q: Q,2,0,6,0,7 / P: F,0,6 / P: F,0,7 / P: U / L: L,1,0,5"),
+    // "a page in fetch counts as cached in q": once page 6 is in fetch too, page 7 comes
+    // at 40; and when page 4 is lost, it is missing again
+    ("a page in fetch counts as cached",
+     "BESIDE / L: L,3,0,5,1,2,1,1 / Q: Q,3,0,4,1,3,0,6 / P: F,0,4 / L: L,3,1,2,0,5,1,1 / \
+      Q: Q,3,0,6,1,3,0,7 / P: F,0,6 / Q: Q,2,1,3,0,7 / P: F,1,3 / T: S,1,2 / \
+      Q: Q,2,1,2,0,7 / X,0,4: O / L: L,2,0,5,1,1 / Q: Q,3,0,4,1,2,0,7 / T: S,0,5"),
+    // "and in the pruning": one missing page ends a look-ahead of 40 ticks, one in fetch
+    // does not
+    ("a page in fetch does not prune",
+     "S,4,40,40,16,0,0,0,0,0,0,0: O / A,0,0,10,0,16: O / Q: Q,1,0,1 / P: F,0,1 / Q: Q,1,0,2 / \
+      P: F,0,2 / P: F,0,3 / P: F,0,4 / Q: Q,0 / P: U / X,0,1: O / Q: Q,1,0,1 / I,0,3: I / \
+      L: L,1,0,3 / P: F,0,1 / P: U / S,4,40,41,16,0,0,0,0,0,0,0: O / A,0,0,10,0,16: O / P: U / \
+      R,0: F,0,1 / P: U"),
+    // "it is still not in the steal order", though it would stand first
+    ("no page in fetch is stolen",
+     "WAITING / T: U / L: L,0 / I,0,1: I / R,0: H,0,1 / P: F,0,2 / L: L,1,0,1 / R,0: W,0,2 / \
+      P: F,0,3 / I,0,3: I / L: L,2,0,1,0,3 / T: S,0,1 / T: S,0,3 / T: U"),
+    // "the head of the steal order is dropped first. Then the page leaves fetch": it is
+    // present while the head is chosen
+    ("Arrive chooses with its page in fetch",
+     "BESIDE / P: F,0,4 / I,0,4: I,1,2 / L: L,3,0,5,1,1,0,4 / C,1: C,1,1,1"),
+    ("Arrive chooses with other pages in fetch",
+     "BESIDE / P: F,0,4 / P: F,0,6 / I,0,6: I,1,2 / L: L,3,0,6,0,5,1,1 / C,0: C,1,5,6"),
+    // The page that a turn has put in fetch is there too.
+    ("Run chooses with its page in fetch",
+     "BESIDE / N,1: N,1,1 / C,1: C,1,1,1 / C,0: C,1,4,5 / T: S,0,4 / T: S,1,1"),
+
     ("Run's order is worked out afresh",
      "S,2,10,0,4,0,0,0,0,0,0,0: O / A,0,0,1,0,4: O / N,64: N,4,4 / T: S,0,4 / T: S,0,1"),
 
@@ -246,7 +288,8 @@ pub fn all() -> Vec<Named> {
     let three = three.collect::<Vec<_>>().join(" / ");
     let written_out = |steps: &str| {
         let steps = steps.replace("WAITING", WAITING).replace("FIVE", FIVE);
-        let steps = steps.replace("DOCKED", DOCKED).replace("THREE", &three);
+        let steps = steps.replace("DOCKED", DOCKED).replace("BESIDE", BESIDE);
+        let steps = steps.replace("THREE", &three);
         steps.replace("LONG", &long)
     };
     let trials = TABLE.iter().map(|(name, steps)| Named {

@@ -16,6 +16,7 @@ pub const QUESTION_OUTCOMES: &Outcomes = &[
     (NAME, answers::KINDS),
     (NAME, answers::TIMES),
     (NAME, answers::WORDS),
+    (NAME, answers::LINK),
 ];
 
 const NAME: &str = "When read";
@@ -242,8 +243,8 @@ fn page(number: u64) -> Page {
     Page { file: 0, number }
 }
 
-/// File 0 has 200 pages; of them 60 to 70 are missing but for page 64, and 62 is in
-/// fetch. Slot 2 is at 58, slot 5 waits at 61 for page 62, slot 7 is as far as slot 2,
+/// File 0 has 200 pages; of them 60 to 70 are missing but for page 64 and for page 62,
+/// which is in fetch. Slot 2 is at 58, slot 5 waits at 61 for page 62, slot 7 is as far as slot 2,
 /// slot 9 at its last page, slot 12 ends at page 75. L is 100 and T 25: m is 4.
 fn quay(turn: u64) -> State {
     let mut state = State::idle();

@@ -1,5 +1,5 @@
-//! The paper's "Soundings to check by (marked 1 to 12)" and its listing, and one
-//! more sounding, of a reader with a last page.
+//! The paper's "Soundings to check by (marked 1 to 12)" and its listing, and more
+//! soundings, of a reader with a last page and of pages in fetch.
 
 use super::{hold, lists, Report};
 use crate::call::{Call, Entry, Lister, Order};
@@ -17,7 +17,7 @@ struct Sounding {
 enum Says {
     Steal(Vec<Page>),
     Fetch(Vec<Page>),
-    /// The pages of the fetch order with their times.
+    /// Pages in look-ahead with their times.
     Times(Vec<(Page, u64)>),
     /// Of file 0, low and high page.
     Clusters(Vec<u16>),
@@ -49,6 +49,35 @@ fn shortened() -> State {
     state
 }
 
+/// Sounding 1 with page 4 in fetch, which counts as cached: pages 5 and 6 come at 20
+/// and 30, and page 7, with page 6 alone missing before it, is seen at 60.
+pub(super) fn on_the_link() -> State {
+    let mut state = usual(20);
+    state.in_fetch = pages(&[4]).into_iter().collect();
+    state
+}
+
+/// The same with page 5 alone cached of file 0, and a second reader, of file 1 at pace
+/// 12: its pages 1 and 2 are cached. Pages 4 to 7 of file 0 come at 10, 20, 30 and 60,
+/// pages 1 to 3 of file 1 at 12, 24 and 36. Were page 4 missing, pages 5 and 6 would
+/// come at 40 and 50, behind pages 2 and 3 of file 1, and page 7 would not be seen.
+fn beside_another() -> State {
+    let mut state = on_the_link();
+    state.sizes[1] = 16;
+    state.readers.insert(1, Reader::running(1, 12, 0, 16));
+    let of_1 = [1, 2].map(|number| Page { file: 1, number });
+    state.cached = pages(&[5]).into_iter().chain(of_1).collect();
+    state
+}
+
+/// The first state at T 40: one missing page ends a look-ahead, and page 4 is none.
+fn farther() -> State {
+    State {
+        fetch_time: 40,
+        ..on_the_link()
+    }
+}
+
 /// No reader, and only these pages cached.
 fn unread(cached: &[Page]) -> State {
     let mut state = usual(0);
@@ -71,22 +100,36 @@ fn pages(numbers: &[u64]) -> Vec<Page> {
     numbers.iter().map(page).collect()
 }
 
-fn all() -> Vec<Sounding> {
-    let steal = |numbers: &[u64]| Says::Steal(pages(numbers));
-    let fetch = |numbers: &[u64]| Says::Fetch(pages(numbers));
-    let times = |times: &[(u64, u64)]| {
-        let timed = |&(number, time)| (Page { file: 0, number }, time);
-        Says::Times(times.iter().map(timed).collect())
-    };
-    let five_of = |file| Page { file, number: 5 };
+fn steal(numbers: &[u64]) -> Says {
+    Says::Steal(pages(numbers))
+}
 
+fn fetch(numbers: &[u64]) -> Says {
+    Says::Fetch(pages(numbers))
+}
+
+fn times(times: &[(u64, u64)]) -> Says {
+    let timed = |&(number, time)| (Page { file: 0, number }, time);
+    Says::Times(times.iter().map(timed).collect())
+}
+
+/// A sounding's mark, its state, its pages in look-ahead and what is said of it.
+type Line = (&'static str, State, u64, Says);
+
+/// The paper's, and those of the requests that came after.
+fn all() -> Vec<Sounding> {
+    let lines = marked().into_iter().chain(later());
+    lines.map(Sounding::of).collect()
+}
+
+fn marked() -> Vec<Line> {
+    let five_of = |file| Page { file, number: 5 };
     let mut two_files = unread(&[five_of(0), five_of(1)]);
     two_files.sizes[1] = 16;
     let higher_first = Says::Steal(vec![five_of(1), five_of(0)]);
     let mut larger = unread(&pages(&[64, 65]));
     larger.sizes[0] = 1_024;
-
-    let table = [
+    vec![
         ("1", usual(20), 3, steal(&[3, 2, 1, 7, 5])),
         ("2", usual(20), 3, fetch(&[4, 6])),
         ("2", usual(20), 3, times(&[(4, 10), (6, 50)])),
@@ -105,14 +148,29 @@ fn all() -> Vec<Sounding> {
         ("11", larger, 0, Says::Clusters(vec![64, 65])),
         ("12", unread(&[]), 0, Says::Clusters(vec![])),
         ("12", unread(&[]), 0, steal(&[])),
+    ]
+}
+
+fn later() -> Vec<Line> {
+    let of = |pages: [(u64, u64); 3]| pages.map(|(file, number)| Page { file, number }).to_vec();
+    let stolen = Says::Steal(of([(1, 2), (0, 5), (1, 1)]));
+    let fetched = Says::Fetch(of([(0, 6), (1, 3), (0, 7)]));
+    let timed = times(&[(4, 10), (5, 20), (6, 30), (7, 60)]);
+    vec![
         ("A.1", shortened(), 3, steal(&[7, 3, 2, 1, 5])),
         ("A.1", shortened(), 3, fetch(&[4, 6])),
-    ];
-    table.into_iter().map(Sounding::of).collect()
+        ("A.5", on_the_link(), 4, steal(&[3, 2, 1, 7, 5])),
+        ("A.5", on_the_link(), 4, fetch(&[6])),
+        ("A.5", on_the_link(), 4, timed),
+        ("A.5", farther(), 3, steal(&[3, 2, 1, 7, 5])),
+        ("A.5", farther(), 3, fetch(&[6])),
+        ("A.5", beside_another(), 7, stolen),
+        ("A.5", beside_another(), 7, fetched),
+    ]
 }
 
 impl Sounding {
-    fn of((mark, state, tested, says): (&'static str, State, u64, Says)) -> Sounding {
+    fn of((mark, state, tested, says): Line) -> Sounding {
         Sounding {
             mark,
             state,

@@ -7,7 +7,7 @@ use crate::explain::Explained;
 use crate::feed::{Cut, Feed, Program};
 use crate::process::{Process, Unreadable, Unwritable};
 use crate::random::Dice;
-use crate::scene::{long_line, reads, Mood, Stream};
+use crate::scene::{link_state, long_line, reads, Mood, Stream};
 use std::str::from_utf8;
 
 /// "S setup, A attach, D detach, R read, I arrive, X lost, P prefetch, T steal,
@@ -65,6 +65,17 @@ pub fn random_streams(report: &mut Report, program: Program, dice: &mut Dice, st
                 hold(report, program, &stream, &feed);
             }
         }
+    }
+}
+
+/// So many streams to lines that pages in fetch may decide.
+pub fn on_the_link(report: &mut Report, program: Program, dice: &mut Dice, streams: u64) {
+    for _ in 0..streams {
+        let mut stream = Stream::default();
+        stream.lead_to(&link_state(dice));
+        stream.decide(dice);
+        note_answers(report, &stream);
+        hold(report, program, &stream, &Feed::whole(&stream.input));
     }
 }
 

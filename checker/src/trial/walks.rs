@@ -2,6 +2,7 @@
 //! and what the readers' look-aheads have to do with each other.
 
 use crate::call::Order;
+use crate::cases::by_cached_map;
 use crate::limits::{FILES, FILE_PAGES};
 use crate::model::{Page, Reader, State};
 use std::collections::BTreeSet;
@@ -20,7 +21,16 @@ const PRUNED: &str = "ends by pruning";
 #[rustfmt::skip]
 pub(super) const WORDS: &[&str] = &[
     "begins at a border", "begins within a word", "ends at a border", "within one word",
-    "a word all cached", "a word all missing", "q over a border", "q of a page in fetch",
+    "a word all cached", "a word all in fetch", "a word of both maps", "a word all missing",
+    "q over a border",
+];
+
+/// What pages in fetch change in it, in the order and in what is reported, beside the
+/// cached map alone.
+#[rustfmt::skip]
+pub(super) const LINK: &[&str] = &[
+    "less q by a page in fetch", "farther by a page in fetch", "pruned behind a page in fetch",
+    "another head", "another list", "another report",
 ];
 
 /// Whose it is, and what there is beside it.
@@ -39,7 +49,9 @@ const MOST_TESTED: u64 = 16 * FILE_PAGES;
 
 /// What making this order has met, each case once.
 pub(super) fn met(state: &State, order: Order) -> BTreeSet<&'static str> {
+    let other = by_cached_map(state);
     let mut met = together(state, order);
+    met.extend(made(state, order, &other));
     for reader in state.readers.values() {
         let walk = Walk::of(state, reader);
         met.extend(walk.end());
@@ -49,9 +61,23 @@ pub(super) fn met(state: &State, order: Order) -> BTreeSet<&'static str> {
                 false => "a running reader",
             });
             met.extend(walk.words());
+            met.extend(walk.link(&other));
         }
     }
     met
+}
+
+/// What pages in fetch change in the order and in its report, beside the state without
+/// them.
+fn made(state: &State, order: Order, other: &State) -> BTreeSet<&'static str> {
+    let made = state.order(order);
+    let by_cached_map = state.order_by(order, other.use_keys());
+    let report = state.pages_tested();
+    applying(&[
+        (made.first() != by_cached_map.first(), "another head"),
+        (made != by_cached_map, "another list"),
+        (report != other.pages_tested(), "another report"),
+    ])
 }
 
 fn together(state: &State, order: Order) -> BTreeSet<&'static str> {
@@ -124,7 +150,7 @@ impl Walk<'_> {
         }
     }
 
-    /// Its pages hold m that are not cached, so that no other is in.
+    /// Its pages hold m that are missing, so that no other is in.
     fn is_pruned(&self) -> bool {
         let m = self.state.look_ahead.checked_div(self.state.fetch_time);
         m.is_some_and(|m| self.missing(&self.pages) >= m)
@@ -142,37 +168,63 @@ impl Walk<'_> {
         let (first, last) = (*self.pages.start(), *self.pages.end());
         let begins_word = first % WORD == 1;
         let one_word = (first - 1) / WORD == (last - 1) / WORD;
-        let counted = self.state.fetch_time > 0;
         let pruned = self.end() == Some(PRUNED);
-        let is_open = |number: u64| self.state.in_fetch.contains(&self.page(number));
-        applying(&[
+        let mut met = applying(&[
             (begins_word, "begins at a border"),
             (!begins_word, "begins within a word"),
             (last.is_multiple_of(WORD), "ends at a border"),
             (one_word, "within one word"),
-            (counted && self.has_whole_word(0), "a word all cached"),
-            (counted && self.has_whole_word(WORD), "a word all missing"),
             (self.carries_q(), "q over a border"),
             (pruned && self.carries_q(), "pruned behind a border"),
-            (
-                counted && (first..last).any(is_open),
-                "q of a page in fetch",
-            ),
+        ]);
+        if self.state.fetch_time > 0 {
+            met.extend(self.whole_words());
+        }
+        met
+    }
+
+    /// What its whole words are: of one kind, or of both maps with no page missing.
+    fn whole_words(&self) -> impl Iterator<Item = &'static str> + '_ {
+        let first = (self.pages.start() - 1).div_ceil(WORD);
+        let words = first..self.pages.end() / WORD;
+        words.filter_map(|word| {
+            let pages = word * WORD + 1..=(word + 1) * WORD;
+            match (self.missing(&pages), self.open(&pages)) {
+                (WORD, _) => Some("a word all missing"),
+                (0, 0) => Some("a word all cached"),
+                (0, WORD) => Some("a word all in fetch"),
+                (0, _) => Some("a word of both maps"),
+                _ => None,
+            }
+        })
+    }
+
+    /// What pages in fetch change in it; it has a page. The other state is the one
+    /// without them.
+    fn link(&self, other: &State) -> BTreeSet<&'static str> {
+        let before_last = *self.pages.start()..=self.pages.end() - 1;
+        let open = self.state.fetch_time > 0 && self.open(&before_last) > 0;
+        let farther = self.length > other.look_ahead_of(self.reader).len() as u64;
+        let pruned = self.end() == Some(PRUNED);
+        applying(&[
+            (open, "less q by a page in fetch"),
+            (farther, "farther by a page in fetch"),
+            (open && pruned, "pruned behind a page in fetch"),
         ])
     }
 
-    /// It has a whole word of which so many pages are not cached.
-    fn has_whole_word(&self, missing: u64) -> bool {
-        let first = (self.pages.start() - 1).div_ceil(WORD);
-        let mut words = first..self.pages.end() / WORD;
-        words.any(|word| self.missing(&(word * WORD + 1..=(word + 1) * WORD)) == missing)
+    /// How many of these pages are missing.
+    fn missing(&self, pages: &RangeInclusive<u64>) -> u64 {
+        let pages = pages.clone().map(|number| self.page(number));
+        pages.filter(|&page| !self.state.is_present(page)).count() as u64
     }
 
-    /// How many of these pages are not cached.
-    fn missing(&self, pages: &RangeInclusive<u64>) -> u64 {
-        let pages = pages.clone();
-        let missing = pages.filter(|&number| !self.state.cached.contains(&self.page(number)));
-        missing.count() as u64
+    /// How many of these pages are in fetch.
+    fn open(&self, pages: &RangeInclusive<u64>) -> u64 {
+        let pages = pages.clone().map(|number| self.page(number));
+        pages
+            .filter(|page| self.state.in_fetch.contains(page))
+            .count() as u64
     }
 
     fn page(&self, number: u64) -> Page {

@@ -1,7 +1,7 @@
 //! Questions whose answers and words are worked out by hand.
 
 use super::questions::{hold_questions, numbers_of};
-use super::soundings::{seat, usual};
+use super::soundings::{on_the_link, seat, usual};
 use super::Report;
 use crate::call::WhenRead;
 use crate::model::{Page, Reader, Refusal, State, When};
@@ -46,6 +46,7 @@ fn all() -> Vec<Worked> {
         seats(),
         open(),
         borders(),
+        far_on_the_link(),
     ]
     .concat()
 }
@@ -217,34 +218,70 @@ fn seats() -> Vec<Worked> {
     worked
 }
 
-/// Pages in fetch, one of them waited for: they are missing in q, and are judged as
-/// all others are.
+/// Pages in fetch count as cached in q, and are judged themselves as all others are:
+/// page 4 alone; among others and waited for; with page 6 too, so that no page before
+/// page 7 is missing; and at T 40, where one missing page ends a look-ahead.
 fn open() -> Vec<Worked> {
-    let mut state = usual(20);
-    state.cached.remove(&page(2));
-    state.in_fetch = [page(2), page(4), page(12)].into();
-    state.readers.get_mut(&0).unwrap().waiting = true;
-    let rows = [
-        behind(2),
-        read(4, 10, 0),
-        read(5, 40, 0),
-        read(6, 50, 0),
-        not_seen(7),
-        not_seen(12),
-    ];
-    vec![worked_out("pages in fetch", state, 1, &rows)]
+    let mut waited_for = on_the_link();
+    waited_for.cached.remove(&page(2));
+    waited_for.in_fetch.extend([page(2), page(12)]);
+    waited_for.readers.get_mut(&0).unwrap().waiting = true;
+    let mut all_open = on_the_link();
+    all_open.in_fetch.insert(page(6));
+    let mut farther = on_the_link();
+    farther.fetch_time = 40;
+    let times = |last| [read(4, 10, 0), read(5, 20, 0), read(6, 30, 0), last];
+    let alone = [&times(read(7, 60, 0))[..], &[behind(3), not_seen(8)]].concat();
+    let waited = [&times(read(7, 60, 0))[..], &[behind(2), not_seen(12)]].concat();
+    vec![
+        worked_out("page 4 in fetch", on_the_link(), 1, &alone),
+        worked_out("pages in fetch", waited_for, 1, &waited),
+        worked_out("none missing", all_open, 1, &times(read(7, 40, 0))),
+        worked_out("m is 1", farther, 1, &times(not_seen(7))),
+    ]
 }
 
 /// A file of 1,024 pages, nothing of it cached: by where a look-ahead starts, how many
 /// pages it has, and T.
+fn far(position: u64, pages: u64, fetch_time: u64) -> State {
+    let mut state = reading(fetch_time, Reader::running(0, 10, position, 1_024));
+    state.sizes[0] = 1_024;
+    state.cached.clear();
+    state.look_ahead = 10 * pages;
+    state
+}
+
+/// The same with pages in fetch. The look-ahead that was pruned before page 64 goes on
+/// into the next word, with 62 and 63 in fetch and 61, 64 and 65 missing; a whole file
+/// in fetch is seen, though one missing page would end it; and so is one of which
+/// every second page is cached. The two words at one place count as one.
+fn far_on_the_link() -> Vec<Worked> {
+    let mut over_border = far(60, 10, 33);
+    over_border.in_fetch = [62, 63].map(page).into();
+    let mut whole = far(0, 1_024, 10_240);
+    whole.in_fetch = (1..=1_024).map(page).collect();
+    let mut both = whole.clone();
+    both.frames = 512;
+    both.cached = (1..=512).map(|nth| page(2 * nth)).collect();
+    both.in_fetch.retain(|page| !page.number.is_multiple_of(2));
+    let rows = [
+        read(61, 10, 0),
+        read(62, 53, 0),
+        read(63, 63, 0),
+        read(64, 73, 0),
+        read(65, 116, 0),
+        not_seen(66),
+    ];
+    let of_whole = [read(1, 10, 0), read(65, 650, 0), read(1_024, 10_240, 0)];
+    vec![
+        worked_out("pruned behind a border", over_border, 2, &rows),
+        worked_out("a whole file in fetch", whole, 16, &of_whole),
+        worked_out("a file of both maps", both, 16, &of_whole),
+    ]
+}
+
+/// Look-aheads about the borders of words.
 fn borders() -> Vec<Worked> {
-    let far = |position, pages: u64, fetch_time| {
-        let mut state = reading(fetch_time, Reader::running(0, 10, position, 1_024));
-        state.sizes[0] = 1_024;
-        state.cached.clear();
-        state.look_ahead = 10 * pages;
-        state
-    };
     let mut twice = far(63, 2, 0);
     twice.readers.insert(5, Reader::running(0, 10, 63, 1_024));
     let two = [behind(63), read(64, 10, 0), read(65, 20, 0), not_seen(66)];

@@ -1,13 +1,15 @@
 //! Stand-ins for Steal list and Fetch list, with what they report.
 
+use crate::link::{awaited_alone, pruned_by_cached_map, times_by_cached_map};
 use checker::call::{Lister, Order};
+use checker::cases::by_cached_map;
 use checker::limits::{FILE_PAGES, IMAGE_BYTES};
 use checker::model::{self, Page, Reader, State, UseKey};
 use std::collections::{BTreeMap, BTreeSet};
 
 /// Each with whether random images find it too, and not the fixed ones alone.
 #[rustfmt::skip]
-pub const LISTS: [(&str, bool, Lister); 43] = [
+pub const LISTS: [(&str, bool, Lister); 53] = [
     ("the page after a look-ahead tested", true, next_tested),
     ("the page after K tested", true, next_tested_after_k),
     ("the page after the last one tested", true, next_tested_after_last),
@@ -31,7 +33,17 @@ pub const LISTS: [(&str, bool, Lister); 43] = [
     ("q from the start of a word", true, q_of_whole_words),
     ("q without the page before", true, q_one_short),
     ("q carried from reader to reader", true, q_of_readers_before),
-    ("a page in fetch taken for cached", true, in_fetch_as_cached),
+    ("a page in fetch missing", true, in_fetch_missing),
+    ("a page in fetch missing in q alone", true, timed_by_cached),
+    ("a page in fetch missing in the pruning alone", true, pruned_by_cached),
+    ("a page in fetch missing in the steal list alone", true, steal_by_cached),
+    ("a page in fetch missing in the fetch list alone", true, fetch_by_cached),
+    ("a page in fetch missing in the report alone", true, reported_by_cached),
+    ("a page in fetch missing unless waited for", true, all_but_awaited_missing),
+    ("a cached page missing", true, cached_missing),
+    ("a word of the fetch map kept over a border", true, fetch_word_kept),
+    ("a page in fetch in the steal list", true, in_fetch_stolen),
+    ("a page in fetch in the fetch list", true, in_fetch_fetched),
     ("pruned at one missing page more", true, pruned_late),
     ("m rounded up", true, m_rounded_up),
     ("not pruned", true, not_pruned),
@@ -141,7 +153,7 @@ fn reach_reported(order: Order, image: &[u8], list: &mut [u16]) -> u64 {
 fn missing_reported(order: Order, image: &[u8], list: &mut [u16]) -> u64 {
     reporting_each(order, image, list, |state, reader, _| {
         let pages = state.look_ahead_of(reader).into_iter();
-        let missing = pages.filter(|(page, _)| !state.cached.contains(page));
+        let missing = pages.filter(|(page, _)| !state.is_present(*page));
         missing.count() as u64
     })
 }
@@ -220,11 +232,15 @@ fn walking(
             tested += 1;
         }
     }
-    let pages = state.order_by(order, keys);
+    written(&state.order_by(order, keys), tested, list)
+}
+
+/// Writes the keys of an order, and gives the number.
+fn written(pages: &[Page], tested: u64, list: &mut [u16]) -> u64 {
     let Some(room) = list.get_mut(..pages.len()) else {
         return 12;
     };
-    for (number, page) in room.iter_mut().zip(&pages) {
+    for (number, page) in room.iter_mut().zip(pages) {
         *number = page.key() as u16;
     }
     (1 << 32) + ((pages.len() as u64) << 16) + tested
@@ -265,7 +281,7 @@ fn look_ahead(
         file: reader.file,
         number,
     };
-    let is_missing = |number| !state.cached.contains(&page(number));
+    let is_missing = |number| !state.is_present(page(number));
     let missing: Vec<bool> = (0..=FILE_PAGES).map(is_missing).collect();
     let first = reader.next_page().number;
     let (reach, left) = reach_and_left(state, reader);
@@ -342,9 +358,7 @@ fn q_of_readers_before(order: Order, image: &[u8], list: &mut [u16]) -> u64 {
             most_missing(state),
             |missing, first, page| before + count(&missing[first..page]),
         );
-        let missing = pages
-            .iter()
-            .filter(|(page, _)| !state.cached.contains(page));
+        let missing = pages.iter().filter(|(page, _)| !state.is_present(*page));
         before += missing.count() as u64;
         pages
     })
@@ -375,12 +389,91 @@ fn not_pruned(order: Order, image: &[u8], list: &mut [u16]) -> u64 {
     pruning(order, image, list, |_| None)
 }
 
-fn in_fetch_as_cached(order: Order, image: &[u8], list: &mut [u16]) -> u64 {
+fn in_fetch_missing(order: Order, image: &[u8], list: &mut [u16]) -> u64 {
+    timed(order, image, list, |state, reader| {
+        by_cached_map(state).look_ahead_of(reader)
+    })
+}
+
+fn timed_by_cached(order: Order, image: &[u8], list: &mut [u16]) -> u64 {
+    timed(order, image, list, times_by_cached_map)
+}
+
+fn pruned_by_cached(order: Order, image: &[u8], list: &mut [u16]) -> u64 {
+    timed(order, image, list, pruned_by_cached_map)
+}
+
+fn steal_by_cached(order: Order, image: &[u8], list: &mut [u16]) -> u64 {
+    match order {
+        Order::Steal => in_fetch_missing(order, image, list),
+        Order::Fetch => right(order, image, list),
+    }
+}
+
+fn fetch_by_cached(order: Order, image: &[u8], list: &mut [u16]) -> u64 {
+    match order {
+        Order::Steal => right(order, image, list),
+        Order::Fetch => in_fetch_missing(order, image, list),
+    }
+}
+
+fn reported_by_cached(order: Order, image: &[u8], list: &mut [u16]) -> u64 {
+    reporting(order, image, list, |state| {
+        by_cached_map(state).pages_tested()
+    })
+}
+
+fn all_but_awaited_missing(order: Order, image: &[u8], list: &mut [u16]) -> u64 {
+    timed(order, image, list, |state, reader| {
+        awaited_alone(state).look_ahead_of(reader)
+    })
+}
+
+fn cached_missing(order: Order, image: &[u8], list: &mut [u16]) -> u64 {
     timed(order, image, list, |state, reader| {
         let mut state = state.clone();
-        state.cached.extend(&state.in_fetch);
+        state.cached.clear();
         state.look_ahead_of(reader)
     })
+}
+
+/// The fetch map's word in which the walk begins stands for the later ones too.
+fn fetch_word_kept(order: Order, image: &[u8], list: &mut [u16]) -> u64 {
+    timed(order, image, list, |state, reader| {
+        let first = border_before(reader.next_page().number as usize) as u64;
+        let mut kept = state.clone();
+        kept.in_fetch = (first + 1..=FILE_PAGES)
+            .map(|number| Page {
+                number,
+                ..reader.next_page()
+            })
+            .filter(|page| {
+                let number = first + (page.number - 1) % 64 + 1;
+                state.in_fetch.contains(&Page { number, ..*page })
+            })
+            .collect();
+        kept.look_ahead_of(reader)
+    })
+}
+
+/// The list by the right use keys, but of pages that are elsewhere.
+fn moving(order: Order, image: &[u8], list: &mut [u16], moved: fn(&mut State)) -> u64 {
+    let Ok(mut state) = State::of_image(image) else {
+        return 13;
+    };
+    let (keys, tested) = (state.use_keys(), state.pages_tested());
+    moved(&mut state);
+    written(&state.order_by(order, keys), tested, list)
+}
+
+fn in_fetch_stolen(order: Order, image: &[u8], list: &mut [u16]) -> u64 {
+    moving(order, image, list, |state| {
+        state.cached.extend(&state.in_fetch);
+    })
+}
+
+fn in_fetch_fetched(order: Order, image: &[u8], list: &mut [u16]) -> u64 {
+    moving(order, image, list, |state| state.in_fetch.clear())
 }
 
 fn walked_to_the_size(order: Order, image: &[u8], list: &mut [u16]) -> u64 {

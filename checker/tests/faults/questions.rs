@@ -1,13 +1,15 @@
 //! Stand-ins for "When will these be read?", with the words that they count.
 
+use crate::link::{awaited_alone, pruned_by_cached_map, times_by_cached_map};
 use checker::call::{WhenRead, ROWS_HANDED};
+use checker::cases::by_cached_map;
 use checker::limits::{FILES, FILE_PAGES, IMAGE_BYTES, MOST_QUESTIONS};
 use checker::model::{self, Page, Reader, Refusal, State, UseKey, When};
 use std::collections::{BTreeMap, BTreeSet};
 
 /// Each with whether random images find it too, and not the fixed ones alone.
 #[rustfmt::skip]
-pub const QUESTIONS: [(&str, bool, WhenRead); 82] = [
+pub const QUESTIONS: [(&str, bool, WhenRead); 89] = [
     ("the seat distance for the slot", true, seat_for_slot),
     ("ties told by slots", true, slots_for_seats),
     ("a seat distance of turn less slot", true, turn_less_slot),
@@ -33,7 +35,11 @@ pub const QUESTIONS: [(&str, bool, WhenRead); 82] = [
     ("files of 32 bits", true, files_cut::<32>),
     ("pages of 16 bits", true, pages_cut::<16>),
     ("pages of 32 bits", true, pages_cut::<32>),
-    ("a page in fetch taken for cached", true, in_fetch_as_cached),
+    ("a page in fetch missing", true, in_fetch_missing),
+    ("a page in fetch missing in q alone", true, timed_by_cached),
+    ("a page in fetch missing in the pruning alone", true, pruned_by_cached),
+    ("a page in fetch missing unless waited for", true, all_but_awaited_missing),
+    ("a cached page missing", true, cached_missing),
     ("q with the page itself", true, itself_in_q),
     ("a time without q", true, without_q),
     ("a time without the pace", true, without_pace),
@@ -88,6 +94,9 @@ pub const QUESTIONS: [(&str, bool, WhenRead); 82] = [
     ("the last reader's words left out", true, words_but_the_last),
     ("the words of the files asked about", true, words_of_asked_files),
     ("the words of both maps", true, words_of_both_maps),
+    ("a word with a page in fetch counted twice", true, words_of_fetches_twice),
+    ("a word without a cached page left out", true, words_of_cached),
+    ("the words by the cached map alone", true, words_by_cached),
     ("the pages for the words", true, pages_for_words),
     ("words of 8 bits", false, words_of_8_bits),
 ];
@@ -412,17 +421,41 @@ fn pages_cut<const BITS: u32>(image: &[u8], questions: &[u64], answers: &mut [u6
     })
 }
 
-fn in_fetch_as_cached(image: &[u8], questions: &[u64], answers: &mut [u64]) -> u64 {
+fn in_fetch_missing(image: &[u8], questions: &[u64], answers: &mut [u64]) -> u64 {
+    keyed(image, questions, answers, |state| {
+        by_cached_map(state).use_keys()
+    })
+}
+
+fn timed_by_cached(image: &[u8], questions: &[u64], answers: &mut [u64]) -> u64 {
     walking(image, questions, answers, |state, _, reader| {
+        times_by_cached_map(state, reader)
+    })
+}
+
+fn pruned_by_cached(image: &[u8], questions: &[u64], answers: &mut [u64]) -> u64 {
+    walking(image, questions, answers, |state, _, reader| {
+        pruned_by_cached_map(state, reader)
+    })
+}
+
+fn all_but_awaited_missing(image: &[u8], questions: &[u64], answers: &mut [u64]) -> u64 {
+    keyed(image, questions, answers, |state| {
+        awaited_alone(state).use_keys()
+    })
+}
+
+fn cached_missing(image: &[u8], questions: &[u64], answers: &mut [u64]) -> u64 {
+    keyed(image, questions, answers, |state| {
         let mut state = state.clone();
-        state.cached.extend(&state.in_fetch);
-        state.look_ahead_of(reader)
+        state.cached.clear();
+        state.use_keys()
     })
 }
 
 fn itself_in_q(image: &[u8], questions: &[u64], answers: &mut [u64]) -> u64 {
     answering(image, questions, answers, |state, page, when| match when {
-        When::Read { time, slot } if !state.cached.contains(&page) => When::Read {
+        When::Read { time, slot } if !state.is_present(page) => When::Read {
             time: time + state.fetch_time,
             slot,
         },
@@ -467,7 +500,7 @@ fn unpruned(state: &State, reader: &Reader) -> Vec<(Page, u64)> {
             ..reader.next_page()
         };
         let time = j * reader.pace + missing * state.fetch_time;
-        missing += u64::from(!state.cached.contains(&page));
+        missing += u64::from(!state.is_present(page));
         (page, time)
     });
     pages.collect()
@@ -543,7 +576,7 @@ fn is_in_fetch(state: &State, page: &Page) -> bool {
 }
 
 fn is_missing(state: &State, page: &Page) -> bool {
-    !is_cached(state, page)
+    !state.is_present(*page)
 }
 
 fn at_once(slot: u64) -> When {
@@ -969,6 +1002,38 @@ fn words_of_asked_files(image: &[u8], questions: &[u64], answers: &mut [u64]) ->
 
 fn words_of_both_maps(image: &[u8], questions: &[u64], answers: &mut [u64]) -> u64 {
     counting(image, questions, answers, |state| 2 * state.words_read())
+}
+
+/// The words of the look-aheads in which such pages lie, added over the readers.
+fn words_with(state: &State, such: fn(&State, &Page) -> bool) -> u64 {
+    let readers = state.readers.values();
+    let words = readers.map(|reader| {
+        let keys = keys_of(state, reader);
+        let holds = |word: &u64| {
+            let mut pages = (64 * word..64 * (word + 1)).map(Page::of_key);
+            pages.any(|page| such(state, &page))
+        };
+        words_of(&keys).iter().filter(|&word| holds(word)).count() as u64
+    });
+    words.sum()
+}
+
+fn words_of_fetches_twice(image: &[u8], questions: &[u64], answers: &mut [u64]) -> u64 {
+    counting(image, questions, answers, |state| {
+        state.words_read() + words_with(state, is_in_fetch)
+    })
+}
+
+fn words_of_cached(image: &[u8], questions: &[u64], answers: &mut [u64]) -> u64 {
+    counting(image, questions, answers, |state| {
+        words_with(state, is_cached)
+    })
+}
+
+fn words_by_cached(image: &[u8], questions: &[u64], answers: &mut [u64]) -> u64 {
+    counting(image, questions, answers, |state| {
+        by_cached_map(state).words_read()
+    })
 }
 
 fn pages_for_words(image: &[u8], questions: &[u64], answers: &mut [u64]) -> u64 {

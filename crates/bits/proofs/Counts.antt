@@ -9,7 +9,7 @@ use lib.Count.{ones-step, ones as digitSum}
 use lib.ListN.{getD}
 use Rattle.bits.specs.Map.{digit, bit, ones}
 use Rattle.bits.proofs.Words.{digit-step, digit-shr, shl-low, shl-high}
-use Rattle.bits.proofs.Bits.{Same, bit-le, bit-word, whole-same}
+use Rattle.bits.proofs.Bits.{Same, bit-le, bit-word, word-same, whole-same}
 
 -- no key
 pub ones-none : (words : List ℕ) (a : ℕ) → ones words a 0 ≡ 0
@@ -78,6 +78,10 @@ ones-shl w s n h =
     let t : ones (x ∷ []) (64 - n) n ≡ ones (w ∷ []) s n = ones-same (x ∷ []) (64 - n) (w ∷ []) s n (λ j p.
     bit-word x (64 - n + j) (omega arith) ∙ shl-high (w / 2 ^ s) (64 - n) 64 j (omega arith) ∙ digit-shr w s j ∙ sym (bit-word w (s + j) (omega arith))) in
     ap (ones (x ∷ []) 0) e ∙ ones-add (x ∷ []) 0 (64 - n) n ∙ rw (z, zero-add (64 - n), t) (omega arith)
+
+-- n bits of one word
+pub ones-part : (words : List ℕ) (a n : ℕ) → a % 64 + n ≤ 64 → ones words a n ≡ ones (getD words (a / 64) 0 ∷ []) (a % 64) n
+ones-part words a n h = ones-same words a (getD words (a / 64) 0 ∷ []) (a % 64) n (word-same words a n h)
 
 -- one word more
 pub ones-words : (words : List ℕ) (first i : ℕ) → first ≤ i

@@ -1,20 +1,14 @@
 -- Two maps joined word by word: a bit is set in the joined map where it is set in either. Assumes nothing.
 use mathlib.Core.Path.{_≡_, refl, sym, ap, _∙_}
-use mathlib.Core.Bool.{_&&_}
+use mathlib.Core.Bool.{_&&_, _||_}
 use mathlib.Core.List.{List, [], _∷_}
 use Prim.Native.Nat.{ℕ, zero, suc, _/_, _%_, _≤_}
 use lib.Bits.{bitOr, or-zero-l, or-zero-r}
 use lib.Dec.{eqb}
 use lib.ListN.{getD}
-use Rattle.bits.specs.Map.{digit, bit}
-use Rattle.bits.proofs.Words.{by-digits, digit-or}
+use Rattle.bits.specs.Map.{digit, bit, on, joined}
+use Rattle.bits.proofs.Words.{by-digits, digit-or, or-set}
 use Rattle.bits.proofs.Bits.{bit-le}
-
--- two maps joined, word by word
-unfoldable pub joined : List ℕ → List ℕ → List ℕ
-joined [] ys = ys
-joined (x ∷ xs) [] = x ∷ xs
-joined (x ∷ xs) (y ∷ ys) = bitOr x y ∷ joined xs ys
 
 pub joined-at : (xs ys : List ℕ) (i : ℕ) → getD (joined xs ys) i 0 ≡ bitOr (getD xs i 0) (getD ys i 0)
 unfolding joined
@@ -29,6 +23,10 @@ bit-joined xs ys k = ap (λ (w : ℕ). digit w (k % 64)) (joined-at xs ys (k / 6
 
 clear-both : (a b : ℕ) → a ≤ 1 → b ≤ 1 → eqb (bitOr a b) 0 ≡ (eqb a 0 && eqb b 0)
 clear-both = by-digits (λ a b. eqb (bitOr a b) 0 ≡ (eqb a 0 && eqb b 0)) refl refl refl refl
+
+-- the joined map has the pages of both
+pub joined-on : (xs ys : List ℕ) (k : ℕ) → on (joined xs ys) k ≡ (on xs k || on ys k)
+joined-on xs ys k = ap (λ (b : ℕ). eqb b 1) (bit-joined xs ys k) ∙ or-set (bit xs k) (bit ys k) (bit-le xs k) (bit-le ys k)
 
 -- a bit is 0 in the joined map where it is 0 in both
 pub joined-clear : (xs ys : List ℕ) (k : ℕ) → eqb (bit (joined xs ys) k) 0 ≡ (eqb (bit xs k) 0 && eqb (bit ys k) 0)

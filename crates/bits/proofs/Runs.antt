@@ -1,6 +1,6 @@
 -- Laws of many bits at once: a run of them set, and those of another map cleared.
 use mathlib.Core.Path.{_≡_, refl, sym, ap, _∙_}
-use mathlib.Core.Bool.{Bool, true, false, _&&_, _||_, not, or-assoc}
+use mathlib.Core.Bool.{Bool, true, false, _&&_, _||_, not, or-assoc, or-comm}
 use mathlib.Core.List.{List}
 use Prim.Native.Nat.{ℕ, _+_, _-_, _*_, _/_, _%_, _^_, _≤_, _<_}
 use native.Mathlib.Nat.{mod-lt}
@@ -12,7 +12,7 @@ use lib.Dec.{eqb, lit<}
 use lib.ListN.{length, getD, set, List·getD-eq-default}
 use lib.Seq.{getD-set-same, getD-set-other}
 use Rattle.bits.specs.Map.{digit, bit, on, oneOf}
-use Rattle.bits.proofs.Words.{digit-shr, digit-high, digit-not, digit-or, digit-without, by-digits, shl-low, shl-high}
+use Rattle.bits.proofs.Words.{digit-shr, digit-high, digit-not, digit-or, digit-without, by-digits, or-set, shl-low, shl-high}
 
 -- ---- the keys of a run
 
@@ -86,10 +86,6 @@ mask-digit s n i h =
     above u (yes g) = mask-from s n i (omega arith) g ∙ digit-high (2 ^ 64 - 1 - 0) 64 (64 - n + (i - s)) (lit< tt) (omega arith)
     above u (no g) = digit-high (maskOf s n) 64 i (mod-lt ((2 ^ 64 - 1 - 0) / 2 ^ (64 - n) * 2 ^ s) (lit< tt)) (omega arith)
 
--- a digit is set in either
-either : (a b : ℕ) → a ≤ 1 → b ≤ 1 → eqb (bitOr a b) 1 ≡ (eqb b 1 || eqb a 1)
-either = by-digits (λ a b. eqb (bitOr a b) 1 ≡ (eqb b 1 || eqb a 1)) refl refl refl refl
-
 -- a word that takes the digits of a run has the run's bits besides its own
 pub run-set : (words : List ℕ) (a n r : ℕ) → a / 64 < length words → a % 64 + n ≤ 64 → ((i : ℕ) → eqb (digit r i) 1 ≡ oneOf (a % 64) n i)
     → (k : ℕ) → on (set words (a / 64) (bitOr (getD words (a / 64) 0) r)) k ≡ (oneOf a n k || on words k)
@@ -110,7 +106,7 @@ run-set words a n r h p d k = by (ℕ-discrete (k / 64) (a / 64))
         → eqb (digit (getD (set words (a / 64) (bitOr w r)) (k / 64) 0) (k % 64)) 1 ≡ (oneOf a n k || eqb (digit (getD words (k / 64) 0) (k % 64)) 1)
     by (yes e) =
         rw (e, getD-set-same words (a / 64) (bitOr w r) 0 h, digit-or w r (k % 64), ← same e, ← d (k % 64))
-        (either (digit w (k % 64)) (digit r (k % 64)) (omega arith) (omega arith))
+        (or-set (digit w (k % 64)) (digit r (k % 64)) (omega arith) (omega arith) ∙ or-comm (eqb (digit w (k % 64)) 1) (eqb (digit r (k % 64)) 1))
     by (no e) =
         let f : false ≡ oneOf a n k = run-is a n k false (λ l u. absurd (e (omega arith))) (λ u. refl) (λ u. refl) in
         rw (getD-set-other words (a / 64) (k / 64) (bitOr w r) 0 e, ← f)

@@ -1,5 +1,6 @@
 -- Laws of the digits of one word.
 use mathlib.Core.Path.{_≡_, refl, sym, ap, _∙_}
+use mathlib.Core.Bool.{_||_}
 use Prim.Native.Nat.{ℕ, zero, suc, _+_, _-_, _*_, _/_, _%_, _^_, _≤_, _<_}
 use native.Mathlib.Nat.{pow-suc, one-mul, zero-mul, div-eq-of-lt, lt-of-lt-of-le}
 use native.Mathlib.Numerals.{one-add}
@@ -7,7 +8,7 @@ use native.Mathlib.Omega.{arith}
 use lib.Bits.{bitAnd, bitOr, bitXor, and-high, and-le-l, and-zero-r, and-shr, and-mod, or-add-and, or-shr, or-mod, xor-add-and, xor-shr, xor-mod}
 use lib.Bits.{shifted-half, shifted-even}
 use lib.Count.{under, trailingZeros, leadingZeros, leading-length}
-use lib.Dec.{lit<}
+use lib.Dec.{eqb, lit<}
 use lib.Pow.{pow-add, pow-mono, field, mod-mod-pow, shl-exact, shl-shr, shr-shr}
 use Rattle.bits.specs.Map.{digit}
 
@@ -52,6 +53,10 @@ by-digits P s t u v (suc zero) (suc zero) p q = v
 by-digits P s t u v (suc (suc a)) b p q = let z : ⊥ = omega arith in absurd z
 by-digits P s t u v zero (suc (suc b)) p q = let z : ⊥ = omega arith in absurd z
 by-digits P s t u v (suc zero) (suc (suc b)) p q = let z : ⊥ = omega arith in absurd z
+
+-- a digit of `x | y` is set where one of the two is
+pub or-set : (a b : ℕ) → a ≤ 1 → b ≤ 1 → eqb (bitOr a b) 1 ≡ (eqb a 1 || eqb b 1)
+or-set = by-digits (λ a b. eqb (bitOr a b) 1 ≡ (eqb a 1 || eqb b 1)) refl refl refl refl
 
 -- ---- shifts to the left
 

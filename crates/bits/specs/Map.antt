@@ -1,7 +1,8 @@
 -- A page map: a page's key is file × 1,024 + page - 1, and its bit is digit key % 64 of word key / 64.
-use mathlib.Core.List.{List}
+use mathlib.Core.List.{List, [], _∷_}
 use mathlib.Core.Bool.{Bool, cond, _&&_}
 use Prim.Native.Nat.{ℕ, zero, suc, _+_, _-_, _*_, _/_, _%_, _^_}
+use lib.Bits.{bitOr}
 use lib.ListN.{getD, set}
 use lib.Dec.{eqb, leb, ltb}
 
@@ -24,6 +25,12 @@ oneOf a n k = leb a k && ltb k (a + n)
 -- the map with v, 0 or 1, for the bit of key k
 unfoldable pub putBit : List ℕ → ℕ → ℕ → List ℕ
 putBit words k v = set words (k / 64) (getD words (k / 64) 0 - bit words k * 2 ^ (k % 64) + v * 2 ^ (k % 64))
+
+-- two maps joined, word by word: a bit is set where one of them has it
+unfoldable pub joined : List ℕ → List ℕ → List ℕ
+joined [] ys = ys
+joined (x ∷ xs) [] = x ∷ xs
+joined (x ∷ xs) (y ∷ ys) = bitOr x y ∷ joined xs ys
 
 -- how many of the n bits from key a on are set
 unfoldable pub ones : List ℕ → ℕ → ℕ → ℕ

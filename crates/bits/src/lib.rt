@@ -6,7 +6,7 @@ ghost use mathlib.Core.List.{[], _∷_};
 ghost use Prim.Native.Nat.{ℕ, _+_, _-_, _*_, _/_, _<_, _≤_, _%_};
 ghost use lib.ListN.{length, replicate};
 ghost use lib.Dec.{eqb};
-ghost use Rattle.bits.specs.Map.{digit, bit, on, oneOf, putBit, ones, nextBit, lastBit};
+ghost use Rattle.bits.specs.Map.{digit, bit, on, oneOf, putBit, joined, ones, nextBit, lastBit};
 
 // Is digit i of the word set?
 pub fn has_digit(w: u64, i: usize) -> bool
@@ -96,6 +96,47 @@ pub fn count(words: &[u64; 128], from: usize, n: usize) -> u32
     count_part(words, from, head)
         + count_words(words, from / 64 + 1, end / 64)
         + count_part(words, end - tail, tail)
+}
+
+// The same of two maps joined, for n bits of one word.
+fn count_part_either<'a>(a: &'a [u64; 128], b: &'a [u64; 128], from: usize, n: usize) -> u32
+    requires { ⌜ (from % 64 + n ≤ 64) × (from + n ≤ 8192) ⌝ }
+    ensures { λ r. ⌜ r ≡ ones (joined (now (a .entry)) (now (b .entry))) from n ⌝ }
+{
+    if n == 0 {
+        return 0;
+    }
+    part_ones(a[from / 64] | b[from / 64], from % 64, n)
+}
+
+// The same of two maps joined, for whole words.
+fn count_words_either<'a>(a: &'a [u64; 128], b: &'a [u64; 128], first: usize, end: usize) -> u32
+    requires { ⌜ (first ≤ end) × (end ≤ 128) ⌝ }
+    ensures { λ r. ⌜ r ≡ ones (joined (now (a .entry)) (now (b .entry))) (first * 64) ((end - first) * 64) ⌝ }
+{
+    let mut n: u32 = 0;
+    let mut i = first;
+    while i < end {
+        n += word_ones(a[i] | b[i]);
+        i += 1;
+    }
+    n
+}
+
+// How many of the n bits from key `from` on are set in one of the two maps, which are joined word by word as they are counted.
+pub fn count_either<'a>(a: &'a [u64; 128], b: &'a [u64; 128], from: usize, n: usize) -> u32
+    requires { ⌜ from + n ≤ 8192 ⌝ }
+    ensures { λ r. ⌜ r ≡ ones (joined (now (a .entry)) (now (b .entry))) from n ⌝ }
+{
+    let head = 64 - from % 64;
+    if n <= head {
+        return count_part_either(a, b, from, n);
+    }
+    let end = from + n;
+    let tail = end % 64;
+    count_part_either(a, b, from, head)
+        + count_words_either(a, b, from / 64 + 1, end / 64)
+        + count_part_either(a, b, end - tail, tail)
 }
 
 // The first digit of w from digit s on that is 1, or 64.

@@ -425,7 +425,7 @@ fn give_up<'a>(v: View, cached: &'a [u64; 128], fetching: &'a [u64; 128]) -> Cho
     order::victim(v, cached, fetching)
 }
 
-// The page to give up is chosen before the one that arrives is cached, which is thus never the one to go.
+// The page to give up is chosen before the one that arrives leaves fetch and is cached. So that one is never the one to go, and is present in the choice (A.5).
 pub fn arrive(
     v: View,
     cached: &mut [u64; 128],

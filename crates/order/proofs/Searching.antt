@@ -10,7 +10,7 @@ use native.Mathlib.Omega.{arith}
 use borrow.Author.Tests.{eq-eqb, ne-eqb}
 use lib.Bits.{bitAnd}
 use lib.Dec.{T, eqb, eqb→eq}
-use Rattle.bits.specs.Map.{bit}
+use Rattle.bits.specs.Map.{bit, joined, nextBit}
 use Rattle.bits.proofs.Bits.{bit-le, and-is}
 use Rattle.bits.proofs.Finds.{Next, next-is, last-is}
 use Rattle.rules.specs.Lists.{head}
@@ -39,12 +39,10 @@ use Rattle.rules.proofs.orders.Candidates.{
 use Rattle.rules.specs.declared.State.{State}
 use Rattle.rules.specs.declared.Reader.{Reader}
 use Rattle.order.specs.Choices.{inSet}
-use Rattle.order.specs.Absent.{nextAbsent}
 use Rattle.order.specs.Searches.{lower, Over, Ranked, Raised, Highest, Soonest}
 use Rattle.order.specs.declared.Pick.{Pick}
 use Rattle.order.proofs.Slots.{lower-least}
-use Rattle.bits.proofs.Joins.{joined, joined-clear}
-use Rattle.order.proofs.Lacks.{absent-joined}
+use Rattle.bits.proofs.Joins.{joined-clear}
 
 -- ---- the page to give up
 
@@ -184,11 +182,9 @@ absent-bit s k =
     other (suc (suc b)) h = absurd (omega arith)
 
 module _ (s : State) (r : Reader) (here : T (attached r)) (key : ℕ)
-    (e : key ≡ nextAbsent (s .cached) (s .fetching) (r .file * 1024 + r .position) (r .last - r .position)) where
+    (e : key ≡ nextBit (joined (s .cached) (s .fetching)) 0 (r .file * 1024 + r .position) (r .last - r .position)) where
   found : Next (joined (s .cached) (s .fetching)) 0 (r .file * 1024 + r .position) (r .last - r .position) key
-  found =
-      let f = e ∙ absent-joined (s .cached) (s .fetching) (r .file * 1024 + r .position) (r .last - r .position) in
-      rw f (next-is (joined (s .cached) (s .fetching)) 0 (r .file * 1024 + r .position) (r .last - r .position))
+  found = rw e (next-is (joined (s .cached) (s .fetching)) 0 (r .file * 1024 + r .position) (r .last - r .position))
 
   none-earlier : (i : ℕ) → T (before r i) → i < key → T (absent s i) → ⊥
   none-earlier i b l a =

@@ -1,14 +1,15 @@
 // The heads of the two orders. The orders themselves are not made here: of a few pages that can come first, the searches keep the best, by a page's rank
-// or its use key. What q takes for cached is a map of its own, `present`: today the cached map, which the two heads lend for it.
+// or its use key. What q takes for cached is in one of the two maps: they are put together word by word, where q is counted.
 
 use parts::NEVER;
 use rules::Reader;
 use rules::View;
 ghost use mathlib.Core.Path.{_≡_};
 ghost use mathlib.Core.Bool.{cond, _&&_};
-ghost use mathlib.Core.List.{List, [], _∷_};
+ghost use mathlib.Core.List.{[], _∷_};
 ghost use Prim.Native.Nat.{ℕ, _+_, _-_, _*_, _%_, _<_, _≤_};
 ghost use lib.Dec.{T, leb, ltb};
+ghost use Rattle.bits.specs.Map.{joined, nextBit};
 ghost use Rattle.rules.specs.declared.State.{State};
 ghost use Rattle.rules.specs.Lists.{head};
 ghost use Rattle.rules.specs.Pages.{Page};
@@ -20,7 +21,6 @@ ghost use Rattle.rules.specs.Ranks.{victimAmong, Presents, Before};
 ghost use Rattle.rules.specs.Views.{stateOf};
 ghost use Rattle.order.specs.Choices.{chosen, inSet, Ranged, Housed};
 ghost use Rattle.order.specs.Seats.{Seated};
-ghost use Rattle.order.specs.Absent.{nextAbsent};
 ghost use Rattle.order.specs.Searches.{lower, Over, Ranked, Raised, Soonest};
 
 // The key of the page chosen, if any.
@@ -39,18 +39,25 @@ struct Pick {
 const ALL_FILES: u64 = 255;
 
 // How many of the pages from + 1 to from + n of the file are not present.
-fn missing(present: &[u64; 128], file: usize, from: usize, n: usize) -> u64
+fn missing<'a>(
+    cached: &'a [u64; 128],
+    fetching: &'a [u64; 128],
+    file: usize,
+    from: usize,
+    n: usize,
+) -> u64
     requires { ⌜ (file < 8) × (from + n ≤ 1024) ⌝ }
-    ensures { λ r. ⌜ ((s : State) → Presents s (now (present .entry)) → r ≡ missing s file from n) ⌝ }
+    ensures { λ r. ⌜ ((s : State) → Presents s (now (cached .entry)) (now (fetching .entry)) → r ≡ missing s file from n) ⌝ }
     ensures few { λ r. ⌜ r ≤ n ⌝ }
 {
-    (n as u64) - (bits::count(present, file * 1024 + from, n) as u64)
+    (n as u64) - (bits::count_either(cached, fetching, file * 1024 + from, n) as u64)
 }
 
 // The least number so far, or the slot's use key where that is less. The pages between are counted only if the reader can still come first.
-fn lowered(
+fn lowered<'a>(
     v: View,
-    present: &[u64; 128],
+    cached: &'a [u64; 128],
+    fetching: &'a [u64; 128],
     slot: usize,
     position: u16,
     pace: u16,
@@ -61,7 +68,7 @@ fn lowered(
     requires { ⌜ (slot < 16) × (key < 8192) ⌝ }
     requires { ⌜ (position ≡ readerIn (v .readers) slot .position) × (pace ≡ readerIn (v .readers) slot .pace) ⌝ }
     requires { ⌜ Before (readerIn (v .readers) slot) key ⌝ }
-    ensures { λ r. ⌜ ((c f : List ℕ) → Presents (stateOf v c f) (now (present .entry)) → r ≡ lower (stateOf v c f) key slot low) ⌝ }
+    ensures { λ r. ⌜ r ≡ lower (stateOf v (now (cached .entry)) (now (fetching .entry))) key slot low ⌝ }
 {
     let from = position as usize;
     let steps = key % 1024 + 1 - from;
@@ -79,7 +86,7 @@ fn lowered(
     if time == 0 {
         return earliest;
     }
-    let q = missing(present, key / 1024, from, steps - 1);
+    let q = missing(cached, fetching, key / 1024, from, steps - 1);
     if look < (q + 1) * time {
         return low;
     }
@@ -119,10 +126,17 @@ fn is_ahead(position: u16, last: u16, page: usize) -> bool
 
 // The rank of a page of its file, or, where that is no higher than the floor, a number that is no higher either: one pass over the file's readers,
 // from the last slot down, that stops as soon as the page cannot rank above the floor.
-fn rank_over(v: View, seats: &[u16; 72], present: &[u64; 128], key: usize, floor: u64) -> u64
+fn rank_over<'a>(
+    v: View,
+    seats: &[u16; 72],
+    cached: &'a [u64; 128],
+    fetching: &'a [u64; 128],
+    key: usize,
+    floor: u64,
+) -> u64
     requires { ⌜ Ranged v × Seated (v .readers) 16 (now seats) ⌝ }
     requires { ⌜ Page (stateOf v [] []) key ⌝ }
-    ensures { λ r. ⌜ ((c f : List ℕ) → Presents (stateOf v c f) (now (present .entry)) → Over (stateOf v c f) key floor r) ⌝ }
+    ensures { λ r. ⌜ Over (stateOf v (now (cached .entry)) (now (fetching .entry))) key floor r ⌝ }
 {
     let page = key % 1024 + 1;
     let place = (page * 8 + key / 1024) as u64;
@@ -133,7 +147,8 @@ fn rank_over(v: View, seats: &[u16; 72], present: &[u64; 128], key: usize, floor
         let position = seats[slot];
         if is_ahead(position, seats[56 + slot], page) {
             let low = parts::lesser(top, NEVER + place);
-            top = lowered(v, present, slot, position, seats[16 + slot], key, low);
+            let pace = seats[16 + slot];
+            top = lowered(v, cached, fetching, slot, position, pace, key, low);
             if top <= floor {
                 return top;
             }
@@ -158,8 +173,8 @@ fn pages_of(files: u64, file: usize, n: usize) -> usize
 fn higher<'a>(
     v: View,
     seats: &[u16; 72],
-    present: &'a [u64; 128],
     cached: &'a [u64; 128],
+    fetching: &'a [u64; 128],
     files: u64,
     file: usize,
     n: usize,
@@ -168,17 +183,15 @@ fn higher<'a>(
     requires { ⌜ Ranged v × Seated (v .readers) 16 (now seats) ⌝ }
     requires { ⌜ Housed v (now cached) ⌝ }
     requires { ⌜ (file < 8) × (n ≤ 1024) ⌝ }
-    requires { ⌜ ((f : List ℕ) → Ranked (stateOf v (now cached) f) (inSet files) best) ⌝ }
-    ensures { λ r.
-        ⌜ ((f : List ℕ) → Presents (stateOf v (now (cached .entry)) f) (now (present .entry))
-        → Raised (stateOf v (now (cached .entry)) f) (inSet files) file n best r) ⌝ }
+    requires { ⌜ Ranked (stateOf v (now cached) (now fetching)) (inSet files) best ⌝ }
+    ensures { λ r. ⌜ Raised (stateOf v (now (cached .entry)) (now (fetching .entry))) (inSet files) file n best r ⌝ }
 {
     let page = bits::last_set(cached, file * 1024, pages_of(files, file, n));
     if page == 0 {
         return best;
     }
     let key = file * 1024 + page - 1;
-    let value = rank_over(v, seats, present, key, best.value);
+    let value = rank_over(v, seats, cached, fetching, key, best.value);
     if best.value < value {
         return Pick {
             key: key as u16,
@@ -222,7 +235,7 @@ pub fn victim_among<'a>(
             file = r.file as usize;
             n = behind(r);
         }
-        best = higher(v, &seats, cached, cached, files, file, n, best);
+        best = higher(v, &seats, cached, fetching, files, file, n, best);
     }
     if best.value == 0 {
         return Choice::Nothing;
@@ -241,7 +254,7 @@ pub fn victim<'a>(v: View, cached: &'a [u64; 128], fetching: &'a [u64; 128]) -> 
 // The first digit from digit s on that is 0 in both words, or 64: the first 1 of the complement of both together.
 fn next_clear(x: u64, y: u64, s: usize) -> usize
     requires { ⌜ s < 64 ⌝ }
-    ensures { λ r. ⌜ r ≡ nextAbsent (x ∷ []) (y ∷ []) s (64 - s) ⌝ }
+    ensures { λ r. ⌜ r ≡ nextBit (joined (x ∷ []) (y ∷ [])) 0 s (64 - s) ⌝ }
 {
     let r = s + u64::trailing_zeros(!(x | y) >> s) as usize;
     if r < 64 {
@@ -253,7 +266,7 @@ fn next_clear(x: u64, y: u64, s: usize) -> usize
 // Of the n keys from `from` on, the first whose page is neither cached nor in fetch; from + n where there is none.
 fn next_absent<'a>(cached: &'a [u64; 128], fetching: &'a [u64; 128], from: usize, n: usize) -> usize
     requires { ⌜ from + n ≤ 8192 ⌝ }
-    ensures { λ r. ⌜ r ≡ nextAbsent (now (cached .entry)) (now (fetching .entry)) from n ⌝ }
+    ensures { λ r. ⌜ r ≡ nextBit (joined (now (cached .entry)) (now (fetching .entry))) 0 from n ⌝ }
 {
     let end = from + n;
     let mut at = from;
@@ -271,7 +284,6 @@ fn next_absent<'a>(cached: &'a [u64; 128], fetching: &'a [u64; 128], from: usize
 // The first absent page after the position of the slot's reader, if that is used sooner than the best.
 fn sooner<'a>(
     v: View,
-    present: &'a [u64; 128],
     cached: &'a [u64; 128],
     fetching: &'a [u64; 128],
     slot: usize,
@@ -279,7 +291,6 @@ fn sooner<'a>(
     best: Pick,
 ) -> Pick
     requires { ⌜ Valid (stateOf v (now cached) (now fetching)) ⌝ }
-    requires { ⌜ Presents (stateOf v (now cached) (now fetching)) (now present) ⌝ }
     requires { ⌜ slot < 16 ⌝ }
     requires { ⌜ Soonest (stateOf v (now cached) (now fetching)) slot best ⌝ }
     requires { ⌜ r ≡ readerIn (v .readers) slot ⌝ }
@@ -295,8 +306,9 @@ fn sooner<'a>(
     if key == file * 1024 + last {
         return best;
     }
-    let value = lowered(v, present, slot, r.position, r.pace, key, best.value);
-    if value < best.value {
+    let low = best.value;
+    let value = lowered(v, cached, fetching, slot, r.position, r.pace, key, low);
+    if value < low {
         return Pick {
             key: key as u16,
             value: value,
@@ -317,7 +329,7 @@ pub fn next_fetch<'a>(v: View, cached: &'a [u64; 128], fetching: &'a [u64; 128])
     let mut slot: usize = 0;
     while slot < 16 {
         let r = v.readers[slot];
-        best = sooner(v, cached, cached, fetching, slot, r, best);
+        best = sooner(v, cached, fetching, slot, r, best);
         slot += 1;
     }
     if best.value == NEVER {

@@ -109,7 +109,7 @@ fn answer_rows<'a>(
     told(questions.len(), answers.len(), words)
 }
 
-// Walks along the look-aheads, which fills the map of the pages ahead and the table of use keys, whatever they had. Returns how many words of the cached map
+// Walks along the look-aheads, which fills the map of the pages ahead and the table of use keys, whatever they had. Returns how many words of the maps
 // the walks read.
 fn walk_all<'a>(
     v: View,
@@ -130,7 +130,7 @@ fn walk_all<'a>(
     tally.words as u16
 }
 
-// When will these be read? Answers each question, and returns how many words of the cached map were read for it.
+// When will these be read? Answers each question, and returns how many words of the maps were read for it.
 pub fn when_read<'a>(
     v: View,
     cached: &'a [u64; 128],

@@ -164,7 +164,7 @@ stealOf s =
 unfoldable pub full : State → Bool
 full s = leb (s .frames) (length (cachedPages s))
 
--- "If all frames are taken, the head of the steal order is dropped first"
+-- "If all frames are taken, the head of the steal order is dropped first": the page that arrives is still in fetch then, and so present (A.5)
 unfoldable pub dropped : State → Option ℕ
 dropped s = cond (full s) (victim s) none
 

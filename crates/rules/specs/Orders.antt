@@ -1,4 +1,5 @@
--- The steal order and the fetch order: 01, "Use times". Assumes nothing: these are definitions.
+-- The steal order and the fetch order: 01, "Use times"; A.5, of a page in fetch: "it is still not in the steal order and not fetched twice". Assumes nothing:
+-- these are definitions.
 use Prim.Native.Nat.{ℕ, _+_, _*_}
 use mathlib.Core.Bool.{Bool, not, _&&_}
 use mathlib.Core.List.{List, _++_}
@@ -28,7 +29,7 @@ useTime s = falling (useKey s) (only (λ k. cached s k && seen s k) (pages s))
 unfoldable pub stealOrder : State → List ℕ
 stealOrder s = notAhead s ++ (notSeen s ++ useTime s)
 
--- neither cached nor in fetch
+-- neither cached nor in fetch: just what is not `present`, but a test of its own
 abbrev pub absent : State → ℕ → Bool
 absent s k = not (cached s k) && not (inFetch s k)
 

@@ -49,7 +49,8 @@ forecastOf s q = record { when = answerOf s (q .file) (q .page) }
 unfoldable pub wordsOf : List ℕ → ℕ
 wordsOf keys = count 128 (λ word. any (λ k. eqb (k / 64) word) keys)
 
--- "how many 64-bit map words were read: for each reader, the words of the cached map that hold a page of its look-ahead, added over the readers"
+-- "how many 64-bit map words were read: for each reader, the words of the cached map that hold a page of its look-ahead, added over the readers"; A.5: "the
+-- two words at one place of the two maps count as one"
 unfoldable pub wordsRead : State → ℕ
 wordsRead s = total 16 (λ slot. wordsOf (lookAhead s (readerAt s slot)))
 

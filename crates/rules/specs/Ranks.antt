@@ -1,8 +1,8 @@
--- The two orders by numbers, what a search for their heads keeps, and look-aheads by keys: the words in which the code's contracts speak of 01's orders.
+-- The two orders by numbers, what a search for their heads keeps, and look-aheads by keys: the words in which the code's contracts speak of the orders.
 -- proofs/orders/Ranks.antt, Candidates.antt and Stretches.antt show that these are the orders and the look-aheads. Assumes nothing: these are definitions.
 use Prim.Native.Nat.{ℕ, _+_, _*_, _≤_, _<_}
 use mathlib.Core.Path.{_≡_}
-use mathlib.Core.Bool.{Bool, cond, _&&_}
+use mathlib.Core.Bool.{Bool, cond, _&&_, _||_}
 use mathlib.Core.List.{List}
 use mathlib.Core.Option.{Option}
 use lib.Dec.{T}
@@ -17,9 +17,9 @@ use Rattle.rules.specs.declared.Reader.{Reader}
 
 -- ---- what q takes for cached, what a reader has before it, and what it sees
 
--- the map has a bit for each page that q takes for cached
-abbrev pub Presents : State → List ℕ → Type 0
-Presents s words = (k : ℕ) → present s k ≡ on words k
+-- the pages that q and the pruning take for cached are those with a bit in one of these two maps
+abbrev pub Presents : State → List ℕ → List ℕ → Type 0
+Presents s cached fetching = (k : ℕ) → present s k ≡ (on cached k || on fetching k)
 
 -- `before`, in its parts
 pub record Before (r : Reader) (k : ℕ) : Type 0 where

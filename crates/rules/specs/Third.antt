@@ -19,7 +19,8 @@ use Rattle.rules.specs.declared.Answer.the-variants.{Ran}
 abbrev pub Covers : State → ℕ → Reader → Type 0
 Covers s w r = w * r .last ≤ s .«look_ahead»
 
--- the mission's premises: one pace w, fetch time 0, a look-ahead that covers up to each attached reader's last page (A.1), no open fetch
+-- the mission's premises: one pace w, fetch time 0, a look-ahead that covers up to each attached reader's last page (A.1), no open fetch; A.5: "Runs begin with
+-- no page in fetch, so the best-schedule result reads as before"
 pub record Premises (s : State) (w : ℕ) : Type 0 where
   pub one-pace : (j : ℕ) → T (attached (readerAt s j)) → readerAt s j .pace ≡ w
   pub no-time : s .«fetch_time» ≡ 0

@@ -1,12 +1,12 @@
--- Look-aheads, times and use keys: 01, "Use times"; a look-ahead ends at the reader's last page (A.1), and its pages are counted (A.3). Assumes nothing:
--- these are definitions.
+-- Look-aheads, times and use keys: 01, "Use times"; a look-ahead ends at the reader's last page (A.1), its pages are counted (A.3), and a page in fetch counts
+-- as cached in q and in the pruning (A.5). Assumes nothing: these are definitions.
 use Prim.Native.Nat.{ℕ, zero, suc, _+_, _*_, _-_, _/_, _%_}
-use mathlib.Core.Bool.{Bool, not, cond, _&&_}
+use mathlib.Core.Bool.{Bool, not, cond, _&&_, _||_}
 use mathlib.Core.List.{List}
 use lib.ListN.{length}
 use lib.Dec.{leb, ltb, eqb}
 use Rattle.rules.specs.Lists.{only, some-of, least, total}
-use Rattle.rules.specs.Pages.{fileOf, pageOf, keyOf, pages, cached}
+use Rattle.rules.specs.Pages.{fileOf, pageOf, keyOf, pages, cached, inFetch}
 use Rattle.rules.specs.Readers.{readerAt, attached}
 use Rattle.rules.specs.declared.State.{State}
 use Rattle.rules.specs.declared.Reader.{Reader}
@@ -19,20 +19,20 @@ before r k = attached r && (eqb (r .file) (fileOf k) && (ltb (r .position) (page
 abbrev pub steps : Reader → ℕ → ℕ
 steps r k = pageOf k - r .position
 
--- what q takes for cached: "A page in fetch is not cached"
+-- what q and the pruning take for cached; A.5: "a page in fetch counts as cached in q and in the pruning", in place of 01's "A page in fetch is not cached"
 unfoldable pub present : State → ℕ → Bool
-present s k = cached s k
+present s k = cached s k || inFetch s k
 
--- how many of the pages c + 1 to c + n of file f are not cached
+-- how many of the pages c + 1 to c + n of file f are not present
 unfoldable pub missing : State → ℕ → ℕ → ℕ → ℕ
 missing s f c zero = 0
 missing s f c (suc n) = cond (present s (keyOf f (c + suc n))) 0 1 + missing s f c n
 
--- q, the pages from c + 1 to c + j − 1 not cached
+-- q, "the number of those pages not cached", those being c + 1 to c + j − 1, and cached what is present
 abbrev pub between : State → Reader → ℕ → ℕ
 between s r k = missing s (r .file) (r .position) (steps r k - 1)
 
--- "T is above 0 and the pages .. hold at least m not cached, m being L divided by T, rounded down"
+-- "T is above 0 and the pages .. hold at least m not cached, m being L divided by T, rounded down": by q, and so by what is present
 unfoldable pub pruned : State → ℕ → Bool
 pruned s q = ltb 0 (s .«fetch_time») && leb (s .«look_ahead» / s .«fetch_time») q
 
@@ -45,7 +45,7 @@ unfoldable pub lookAhead : State → Reader → List ℕ
 lookAhead s r = only (sees s r) (pages s)
 
 -- A.3, what making an order reports: "how many pages its walks tested for being cached: exactly the pages of the look-aheads, added over the attached
--- readers"
+-- readers". By A.5 they are tested for being present
 unfoldable pub tested : State → ℕ
 tested s = total 16 (λ slot. length (lookAhead s (readerAt s slot)))
 

@@ -57,8 +57,8 @@ pub enum Answer {
     Ran { fetches: u16, reads: u16 },
 }
 
-// What Clusters answers: the count of clusters; and what questions get beside their answers: how many words of the cached map were read. Or the refusal's
-// number.
+// What Clusters answers: the count of clusters; and what questions get beside their answers: how many words of the maps were read, two at one
+// place counted as one. Or the refusal's number.
 pub enum Listing {
     Count(u16),
     Refused(u8),

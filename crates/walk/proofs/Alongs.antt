@@ -9,10 +9,12 @@ use native.Mathlib.Decide.{ℕ-discrete, decLt}
 use native.Mathlib.Numerals.{add-one}
 use native.Mathlib.Omega.{arith}
 use borrow.Author.Tests.{le-leb, lt-leb}
+use lib.Bits.{bitOr}
 use lib.Dec.{T, not-T, leb, ltb, le→leb, leb→le}
 use lib.ListN.{getD, length, set, length-set}
 use lib.Seq.{getD-set-same, getD-set-other}
 use Rattle.bits.specs.Map.{bit, oneOf}
+use Rattle.bits.proofs.Joins.{joined-at, joined-on}
 use Rattle.rules.specs.Pages.{fileOf, pageOf, keyOf}
 use Rattle.rules.specs.Readers.{readerAt, attached, nextKey}
 use Rattle.rules.specs.UseTimes.{before, steps, present, missing, between, pruned, sees, timeFor, seat, useFor}
@@ -224,13 +226,13 @@ course-less s j go from reach end c l = record {
   near = omega (arith, c .near);
 }
 
--- a word has the bits of its keys
-pub word-shown : (s : State) (words : List ℕ) (from n end : ℕ) → Presents s words → end ≤ n + 64 - (from + n) % 64
-    → Shown s (getD words ((from + n) / 64) 0) from n end
+-- both words together have what is present of their keys
+pub word-shown : (s : State) (xs ys : List ℕ) (from n end : ℕ) → Presents s xs ys → end ≤ n + 64 - (from + n) % 64
+    → Shown s (bitOr (getD xs ((from + n) / 64) 0) (getD ys ((from + n) / 64) 0)) from n end
 unfolding bit
-word-shown s words from n end shows l i m u =
+word-shown s xs ys from n end shows l i m u =
     let e : (from + i) / 64 ≡ (from + n) / 64 = omega arith in
-    shows (from + i) ∙ rw e refl
+    shows (from + i) ∙ sym (joined-on xs ys (from + i)) ∙ rw (e, joined-at xs ys ((from + n) / 64)) refl
 
 -- ---- the whole walk
 
@@ -257,11 +259,11 @@ module _ (s : State) (j : ℕ) (go : Strides) (from reach : ℕ) (c : Course s j
   walk-ends ends = record { stretch = record { inside = a .seen; outside = ends-there ends }; lowered = a .lowered }
 
 -- the course of a reader in a file
-pub course-of : (s : State) (j : ℕ) (words : List ℕ) (look time distance : ℕ) (r : Reader) (go : Strides) (from reach : ℕ)
-    → Asked s j words look time distance r → InFile r → (go .page ≡ r .pace * 16) × (go .gap ≡ time * 16)
+pub course-of : (s : State) (j : ℕ) (cached fetching : List ℕ) (look time distance : ℕ) (r : Reader) (go : Strides) (from reach : ℕ)
+    → Asked s j cached fetching look time distance r → InFile r → (go .page ≡ r .pace * 16) × (go .gap ≡ time * 16)
     → ((q : ℕ) → q ≤ 1024 → pruned s q ≡ leb (go .most) q) → from ≡ nextKey r → reach ≡ min (r .last - r .position) (look / r .pace)
     → Course s j go from reach
-course-of s j words look time distance r go from reach asked f g m e n =
+course-of s j cached fetching look time distance r go from reach asked f g m e n =
     let i = asked .reader-is in
     record {
       here = rw i (f .here);

@@ -84,13 +84,13 @@ pub record InFile (r : Reader) : Type 0 where
   pub position-in : r .position ≤ r .last
   pub last-high : r .last ≤ 1024
 
--- slot j of the state has the reader, at this seat distance; the map has what q takes for cached
-pub record Asked (s : State) (j : ℕ) (words : List ℕ) (look time distance : ℕ) (r : Reader) : Type 0 where
+-- slot j of the state has the reader, at this seat distance; the maps have what q takes for cached
+pub record Asked (s : State) (j : ℕ) (cached fetching : List ℕ) (look time distance : ℕ) (r : Reader) : Type 0 where
   pub look-is : s .«look_ahead» ≡ look
   pub time-is : s .«fetch_time» ≡ time
   pub seat-is : seat s j ≡ distance
   pub reader-is : readerAt s j ≡ r
-  pub shows : Presents s words
+  pub shows : Presents s cached fetching
 
 -- slot j's walk is over: its look-ahead has n pages
 pub record Walked (s : State) (j : ℕ) (first table : List ℕ) (n : ℕ) : Type 0 where

@@ -1,7 +1,7 @@
 // Along the look-aheads: one walk for each reader, which carries the count of the pages that are not present, tests each page of the look-ahead once and no
-// other, reads each word of the map that holds one of these once and no other, and lowers the page's number in a table of use keys. A page's number is its
-// time for the reader × 16 + the seat distance. What a walk needs of a reader is in its parameters; what q takes for cached is a map of its own, `present`:
-// today the cached map.
+// other, reads each word of the maps that holds one of these once and no other, and lowers the page's number in a table of use keys. A page's number is its
+// time for the reader × 16 + the seat distance. What a walk needs of a reader is in its parameters; what q takes for cached is in one of the two maps, which
+// are put together word by word.
 
 use rules::Reader;
 use rules::View;
@@ -28,13 +28,13 @@ struct Walk {
     number: u64,
 }
 
-// Where a walk ended, and how many words of the map it read.
+// Where a walk ended, and how many words of the maps it read: two at one place count as one.
 struct Tour {
     end: Walk,
     words: usize,
 }
 
-// What the walks count: the pages tested, and the words of the map that were read.
+// What the walks count: the pages tested, and the words of the maps that were read.
 pub struct Tally {
     pub tested: usize,
     pub words: usize,
@@ -47,7 +47,7 @@ struct Strides {
     gap: u64,
 }
 
-// Tests one page, by its bit in a word of the map: the count of the pages tested is raised here alone.
+// Tests one page, by its bit in a word of both maps: the count of the pages tested is raised here alone.
 fn test_page(word: u64, key: usize, go: Strides, p: Walk) -> Walk
     requires { ⌜ Small go p × (p .tested < 1024) ⌝ }
     ensures { λ r. ⌜ r ≡ onePage go (eqb (digit word (key % 64)) 1) p ⌝ }
@@ -118,10 +118,11 @@ fn reach_of(look: u32, r: Reader) -> usize
     parts::lesser(left as u64, near as u64) as usize
 }
 
-// Walks word by word from the key on, over as many pages as are in reach. A word of the map is read once for its pages: the count of the words is raised here
-// alone.
-fn walk_words(
-    present: &[u64; 128],
+// Walks word by word from the key on, over as many pages as are in reach. The two words at one place of the maps are read once for their pages: the count of
+// the words is raised here alone.
+fn walk_words<'a>(
+    cached: &'a [u64; 128],
+    fetching: &'a [u64; 128],
     from: usize,
     reach: usize,
     go: Strides,
@@ -133,7 +134,7 @@ fn walk_words(
     ensures far { λ r. ⌜ Small go (r .end) × Further go reach (atStart go distance) (r .end) ⌝ }
     ensures words { λ r. ⌜ r .words ≡ spanned from (r .end .tested) ⌝ }
     ensures { λ r.
-        ⌜ ((s : State) (j : ℕ) → Course s j go from reach → Presents s (now (present .entry)) → seat s j ≡ distance
+        ⌜ ((s : State) (j : ℕ) → Course s j go from reach → Presents s (now (cached .entry)) (now (fetching .entry)) → seat s j ≡ distance
         → Along s j (now (table .entry)) (now (table .exit)) (r .end)) ⌝ }
 {
     let mut at = Walk {
@@ -146,15 +147,17 @@ fn walk_words(
         let key = from + at.tested;
         let border = at.tested + 64 - key % 64;
         let end = parts::lesser(reach as u64, border as u64) as usize;
+        let i = key / 64;
         words += 1;
-        at = walk_word(present[key / 64], from, end, go, at, table);
+        at = walk_word(cached[i] | fetching[i], from, end, go, at, table);
     }
     Tour { end: at, words }
 }
 
 // Walks along the look-ahead of the reader, at this seat distance, and returns how many pages it tested and how many words it read.
-fn walk_reader(
-    present: &[u64; 128],
+fn walk_reader<'a>(
+    cached: &'a [u64; 128],
+    fetching: &'a [u64; 128],
     look: u32,
     time: u32,
     distance: u64,
@@ -166,12 +169,13 @@ fn walk_reader(
     ensures few { λ n. ⌜ r .position + n .tested ≤ r .last ⌝ }
     ensures words { λ n. ⌜ n .words ≡ spanned (nextKey r) (n .tested) ⌝ }
     ensures { λ n.
-        ⌜ ((s : State) (j : ℕ) → Asked s j (now (present .entry)) look time distance r → Walked s j (now (table .entry)) (now (table .exit)) (n .tested)) ⌝ }
+        ⌜ ((s : State) (j : ℕ) → Asked s j (now (cached .entry)) (now (fetching .entry)) look time distance r
+        → Walked s j (now (table .entry)) (now (table .exit)) (n .tested)) ⌝ }
 {
     let from = parts::next_key(r);
     let reach = reach_of(look, r);
     let go = strides_at(look, time, r.pace);
-    let tour = walk_words(present, from, reach, go, distance, table);
+    let tour = walk_words(cached, fetching, from, reach, go, distance, table);
     let end = tour.end;
     Tally {
         tested: end.tested,
@@ -180,8 +184,9 @@ fn walk_reader(
 }
 
 // One slot's part: what its reader has before it, what it sees, and its numbers. Nothing where the slot is empty. Returns what the walk counted.
-fn walk_slot(
-    present: &[u64; 128],
+fn walk_slot<'a>(
+    cached: &'a [u64; 128],
+    fetching: &'a [u64; 128],
     look: u32,
     time: u32,
     distance: u64,
@@ -194,7 +199,7 @@ fn walk_slot(
     requires { ⌜ length (now table) ≡ 8192 ⌝ }
     ensures few { λ n. ⌜ (n .tested ≤ 1024) × (n .words ≤ 16) ⌝ }
     ensures { λ n.
-        ⌜ ((s : State) (j : ℕ) → Valid s → j < 16 → Asked s j (now (present .entry)) look time distance r
+        ⌜ ((s : State) (j : ℕ) → Valid s → j < 16 → Asked s j (now (cached .entry)) (now (fetching .entry)) look time distance r
         → KeyedBy s j (now (ahead .entry)) (now (seen .entry)) (now (table .entry))
         → KeyedBy s (j + 1) (now (ahead .exit)) (now (seen .exit)) (now (table .exit))
         × (n .tested ≡ length (lookAhead s r)) × (n .words ≡ wordsOf (lookAhead s r))) ⌝ }
@@ -205,7 +210,7 @@ fn walk_slot(
             words: 0,
         };
     }
-    let n = walk_reader(present, look, time, distance, r, table);
+    let n = walk_reader(cached, fetching, look, time, distance, r, table);
     let from = parts::next_key(r);
     bits::set_bits(seen, from, n.tested);
     bits::set_bits(ahead, from, (r.last - r.position) as usize);
@@ -213,8 +218,7 @@ fn walk_slot(
 }
 
 // Walks along the look-ahead of each reader, running or waiting. The table then has every page's use key; one map has the pages that are ahead of a reader,
-// the other those that are in a look-ahead. Returns how many pages were tested and how many words of the cached map were read. The fetch map is not read: it is
-// lent so that the contract can speak of a whole state.
+// the other those that are in a look-ahead. Returns how many pages were tested and how many words of the maps were read.
 pub fn use_keys<'a>(
     v: View,
     cached: &'a [u64; 128],
@@ -238,6 +242,7 @@ pub fn use_keys<'a>(
         let r = v.readers[slot];
         let n = walk_slot(
             cached,
+            fetching,
             v.look_ahead,
             v.fetch_time,
             parts::seat(v.turn, slot),

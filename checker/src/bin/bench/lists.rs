@@ -1,6 +1,6 @@
 //! Steal list and Fetch list on an image: the box's beside quick's.
 
-use super::{busy, in_turns, print_head, print_row, seated, Quay, FULL};
+use super::{busy, in_turns, opened, print_head, print_row, seated, Quay, FULL};
 use checker::call::{Lister, Order};
 use checker::model::{Page, State};
 use checker::{ffi, quick};
@@ -26,7 +26,8 @@ pub fn table() {
     }
 }
 
-/// Long orders, with and without a fetch time, and those of an everyday quay.
+/// Long orders, with and without a fetch time, with many pages in fetch, and those of an
+/// everyday quay.
 fn cases() -> Vec<Case> {
     let far_seeing = [0, 100].map(|fetch_time| Quay {
         look_ahead: 2_000_000,
@@ -35,6 +36,8 @@ fn cases() -> Vec<Case> {
     });
     let mut cases = Vec::new();
     cases.extend(far_seeing.map(|quay| case(Order::Steal, spread(quay))));
+    let [_, waits] = far_seeing;
+    cases.push(open_case(opened(spread(waits))));
     cases.extend(far_seeing.map(|quay| case(Order::Fetch, seated(quay))));
     let everyday = Quay {
         files: 4,
@@ -69,6 +72,14 @@ fn case(order: Order, state: State) -> Case {
     );
     let image = state.image();
     Case { name, image, order }
+}
+
+/// The steal list of a state with many pages in fetch.
+fn open_case(state: State) -> Case {
+    let open = state.in_fetch.len();
+    let mut case = case(Order::Steal, state);
+    case.name += &format!(", {open} in fetch");
+    case
 }
 
 /// Nanoseconds a list, by quick and by the box.

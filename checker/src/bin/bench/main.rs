@@ -17,7 +17,7 @@ mod lists;
 mod questions;
 
 use checker::call::{Call, Entry};
-use checker::limits::{FILE_PAGES, MOST_TURNS};
+use checker::limits::{FILES, FILE_PAGES, MOST_TURNS};
 use checker::model::{Page, Reader, State};
 use checker::{ffi, quick};
 use std::hint::black_box;
@@ -120,9 +120,30 @@ fn calls() -> Vec<Case> {
         let (name, image) = (name.to_string(), image.clone());
         cases.push(Case { name, image, call });
     }
+    cases.extend(on_the_link());
     cases.extend(runs(10_240, 0));
     cases.extend(runs(2_000_000, 100));
     cases
+}
+
+/// Both heads with many pages in fetch, which count as cached: the second map is read.
+fn on_the_link() -> [Case; 2] {
+    let state = opened(busy(Quay {
+        look_ahead: 2_000_000,
+        fetch_time: 100,
+        ..FULL
+    }));
+    let open = state.in_fetch.len();
+    let setting = format!("16 readers on 8 files, L 2000000, T 100, {open} in fetch");
+    let prefetch = Case {
+        name: format!("Prefetch, {setting}"),
+        image: state.image(),
+        call: Call::Prefetch,
+    };
+    [
+        arrive(format!("Arrive that steals, {setting}"), state),
+        prefetch,
+    ]
 }
 
 /// Those in which a walk ends early: after 100 pages, or after so many missing
@@ -235,6 +256,15 @@ fn busy(quay: Quay) -> State {
     }
     let taken = state.cached.len() as u64;
     assert_eq!(taken, quay.frames, "every frame is taken");
+    state
+}
+
+/// The same with every seventh page in fetch that is not cached.
+fn opened(mut state: State) -> State {
+    let pages = (0..FILES * FILE_PAGES).map(Page::of_key);
+    let sevenths = pages.filter(|page| page.number.is_multiple_of(7));
+    let missing = sevenths.filter(|page| !state.cached.contains(page));
+    state.in_fetch.extend(missing);
     state
 }
 

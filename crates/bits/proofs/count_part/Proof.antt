@@ -1,10 +1,6 @@
 -- The ones of a part of one word.
 use mathlib.Core.Path.{_∙_, sym}
-use Prim.Native.Nat.{_/_, _%_}
-use mathlib.Core.List.{[], _∷_}
-use lib.ListN.{getD}
-use Rattle.bits.proofs.Bits.{word-same}
-use Rattle.bits.proofs.Counts.{ones-none, ones-same}
+use Rattle.bits.proofs.Counts.{ones-none, ones-part}
 use borrow.Author.Needs.{needs}
 use Rattle.bits.proofs.count_part.Statement.{statement}
 use Rattle.bits.proofs.count_part.Tie as tie
@@ -25,9 +21,7 @@ returns-2 : tie.Need-returns-2
 returns-2 c =
     let at-start = c .before .before .before in
     let a = at-start .args in
-    let w = getD (a .words .now) (a .from / 64) 0 in
-    c .part-ones .ensures
-    ∙ sym (ones-same (a .words .now) (a .from) (w ∷ []) (a .from % 64) (a .n) (word-same (a .words .now) (a .from) (a .n) (at-start .pre .0)))
+    c .part-ones .ensures ∙ sym (ones-part (a .words .now) (a .from) (a .n) (at-start .pre .0))
 
 pub count-part-spec : {M : Type 1} → statement M
 count-part-spec =

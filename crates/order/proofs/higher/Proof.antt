@@ -1,7 +1,6 @@
 -- There is no such page, its rank is higher, or the best stays.
 use mathlib.Core.Path.{sym, subst}
-use mathlib.Core.List.{List, []}
-use Prim.Native.Nat.{ℕ, _+_, _-_, _*_, _≤_}
+use Prim.Native.Nat.{_+_, _-_, _*_, _≤_}
 use native.Mathlib.Omega.{arith}
 use borrow.Author.Needs.{needs}
 use lib.Dec.{T}
@@ -15,9 +14,8 @@ use Rattle.order.proofs.Searching.{set-most, raised-none, raised-take, 
 use Rattle.order.proofs.higher.Statement.{statement}
 use Rattle.order.proofs.higher.Tie as tie
 
--- the state with the fetch map m
-abbrev at : tie.Start → List ℕ → State
-at c m = stateOf (c .args .v) (c .args .cached .now) m
+abbrev at : tie.Start → State
+at c = stateOf (c .args .v) (c .args .cached .now) (c .args .fetching .now)
 
 abbrev at-start : tie.After-last-set → tie.Start
 at-start c = c .before .before
@@ -42,13 +40,13 @@ last-set-requires : tie.Need-last-set-requires
 last-set-requires c κs = omega (arith, most c)
 
 returns : tie.Need-returns
-returns c m shows =
+returns c =
     let after-last-set = c .before in
     let after-pages-of = after-last-set .before in
     let s = at-start after-last-set in
     let a = s .args in
-    raised-none (at s m) (inSet (a .files)) (a .file) (a .n) (after-pages-of .pages-of .result) (after-last-set .last-set .result) (s .pre .1 .1 .0 .1)
-    (after-pages-of .pages-of .ensures) (after-last-set .last-set .ensures) (a .best) (s .pre .1 .1 .1 m) (c .if1 .taken)
+    raised-none (at s) (inSet (a .files)) (a .file) (a .n) (after-pages-of .pages-of .result) (after-last-set .last-set .result) (s .pre .1 .1 .0 .1)
+    (after-pages-of .pages-of .ensures) (after-last-set .last-set .ensures) (a .best) (s .pre .1 .1 .1) (c .if1 .taken)
 
 mul-key : tie.Need-mul-key
 mul-key c = search needs
@@ -65,9 +63,9 @@ rank-over-requires c κs =
     let after-pages-of = after-last-set .before in
     let s = at-start after-last-set in
     let a = s .args in
-    let h : T (cached (at s []) (a .file * 1024 + after-last-set .last-set .result - 1))
-    = subst (λ i. T (cached (at s []) (a .file * 1024 + i - 1))) (sym (after-last-set .last-set .ensures))
-    (candidate-cached (at s []) (a .file) (after-pages-of .pages-of .result) (omega (arith, after-last-set .last-set .ensures, c .if1 .left))) in
+    let h : T (cached (at s) (a .file * 1024 + after-last-set .last-set .result - 1))
+    = subst (λ i. T (cached (at s) (a .file * 1024 + i - 1))) (sym (after-last-set .last-set .ensures))
+    (candidate-cached (at s) (a .file) (after-pages-of .pages-of .result) (omega (arith, after-last-set .last-set .ensures, c .if1 .left))) in
     (s .pre .0, s .pre .1 .0 (a .file * 1024 + after-last-set .last-set .result - 1) h)
 
 cast-t15 : tie.Need-cast-t15
@@ -76,27 +74,27 @@ cast-t15 c =
     omega (arith, within after-last-set)
 
 returns-2 : tie.Need-returns-2
-returns-2 c m shows =
+returns-2 c =
     let after-rank-over = c .before .before in
     let else-1 = after-rank-over .before in
     let after-last-set = else-1 .before in
     let after-pages-of = after-last-set .before in
     let s = at-start after-last-set in
     let a = s .args in
-    raised-take (at s m) (inSet (a .files)) (a .file) (a .n) (after-pages-of .pages-of .result) (after-last-set .last-set .result) (s .pre .1 .1 .0 .1)
+    raised-take (at s) (inSet (a .files)) (a .file) (a .n) (after-pages-of .pages-of .result) (after-last-set .last-set .result) (s .pre .1 .1 .0 .1)
     (after-pages-of .pages-of .ensures) (after-last-set .last-set .ensures) (a .best) (after-rank-over .rank-over .result)
-    (after-rank-over .rank-over .ensures (a .cached .now) m shows) (else-1 .if1 .left) (c .if2 .taken)
+    (after-rank-over .rank-over .ensures) (else-1 .if1 .left) (c .if2 .taken)
 
 returns-3 : tie.Need-returns-3
-returns-3 c m shows =
+returns-3 c =
     let after-rank-over = c .before .before in
     let after-last-set = after-rank-over .before .before in
     let after-pages-of = after-last-set .before in
     let s = at-start after-last-set in
     let a = s .args in
-    raised-keep (at s m) (inSet (a .files)) (a .file) (a .n) (after-pages-of .pages-of .result) (after-last-set .last-set .result) (s .pre .1 .1 .0 .1)
+    raised-keep (at s) (inSet (a .files)) (a .file) (a .n) (after-pages-of .pages-of .result) (after-last-set .last-set .result) (s .pre .1 .1 .0 .1)
     (after-pages-of .pages-of .ensures) (after-last-set .last-set .ensures) (a .best) (after-rank-over .rank-over .result)
-    (after-rank-over .rank-over .ensures (a .cached .now) m shows) (s .pre .1 .1 .1 m) (c .if2 .left)
+    (after-rank-over .rank-over .ensures) (s .pre .1 .1 .1) (c .if2 .left)
 
 pub higher-spec : {M : Type 1} → statement M
 higher-spec =

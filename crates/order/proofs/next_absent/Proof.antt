@@ -1,13 +1,12 @@
 -- Invariant: no page between the start and the place reached is in neither map. Measure: the keys that are left.
-use mathlib.Core.Path.{sym, _∙_}
 use mathlib.Core.Logic.{⊎-elim}
 use Prim.Native.Nat.{_+_, _-_, _*_, _/_, _%_, _≤_}
 use native.Mathlib.Omega.{arith}
 use borrow.Author.Needs.{needs}
 use borrow.Author.Tests.{ltb-true, ltb-false}
 use Rattle.bits.proofs.Finds.{Without, Next, without-join, next-at, next-none}
-use Rattle.bits.proofs.Joins.{joined}
-use Rattle.order.proofs.Lacks.{absent-joined, clear-word}
+use Rattle.bits.specs.Map.{joined}
+use Rattle.order.proofs.Lacks.{clear-word}
 use Rattle.order.proofs.next_absent.Statement.{statement}
 use Rattle.order.proofs.next_absent.Tie as tie
 
@@ -67,7 +66,6 @@ returns c =
     let q = at-loop .loop .at / 64 * 64 + after-next-clear .next-clear .result in
     next-at maps 0 (a .from) (a .n) q (omega arith) (omega (arith, ltb-true))
     (without-join maps 0 (a .from) (at-loop .loop .at) q (at-loop .loop .inv .1) (t .before)) (t .found (omega arith))
-    ∙ sym (absent-joined (a .cached .now) (a .fetching .now) (a .from) (a .n))
 
 loop-less : tie.Need-loop-less Inv-loop μ-loop
 loop-less c =
@@ -92,7 +90,6 @@ returns-2 c =
     let at-start = at-loop .before in
     let a = at-start .args in
     next-none (joined (a .cached .now) (a .fetching .now)) 0 (a .from) (a .n) (at-loop .loop .at) (c .loop-test .left) (at-loop .loop .inv .1)
-    ∙ sym (absent-joined (a .cached .now) (a .fetching .now) (a .from) (a .n))
 
 pub next-absent-spec : {M : Type 1} → statement M
 next-absent-spec =

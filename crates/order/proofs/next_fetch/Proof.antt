@@ -5,7 +5,6 @@ use native.Mathlib.Omega.{arith}
 use borrow.Author.Needs.{needs}
 use Rattle.rules.specs.Views.{stateOf}
 use Rattle.order.specs.Searches.{Soonest}
-use Rattle.rules.proofs.orders.Local.{cached-presents}
 use Rattle.order.proofs.Searching.{soonest-none, soonest-fetch, soonest-nothing}
 use Rattle.order.proofs.next_fetch.Statement.{statement}
 use Rattle.order.proofs.next_fetch.Tie as tie
@@ -36,7 +35,7 @@ element-copy-out-r : tie.Need-element-copy-out-r Inv-loop μ-loop
 element-copy-out-r c = search needs
 
 sooner-requires : tie.Need-sooner-requires Inv-loop μ-loop
-sooner-requires c κs = (search needs, (search (cached-presents, needs), (search needs, (search needs, refl))))
+sooner-requires c κs = (search needs, (search needs, (search needs, refl)))
 
 add-slot : tie.Need-add-slot Inv-loop μ-loop
 add-slot c = search needs

@@ -1,7 +1,6 @@
 -- Invariant: the number kept is the page's rank as far as the readers passed tell. Measure: the seat reached, down the file's chain.
 use mathlib.Core.Path.{_≡_, refl, sym, ap, subst, _∙_}
 use mathlib.Core.Bool.{_&&_}
-use mathlib.Core.List.{List}
 use mathlib.Core.Logic.{⊎-elim}
 use Prim.Native.Nat.{ℕ, min, _+_, _-_, _*_, _/_, _%_, _≤_, _<_}
 use native.Mathlib.Omega.{arith}
@@ -12,8 +11,9 @@ use Rattle.rules.specs.Readers.{readerAt, attached, readerIn, readsFile}
 use Rattle.rules.specs.UseTimes.{before, never}
 use Rattle.rules.proofs.laws.Tests.{and-both, and-first, and-second}
 use Rattle.rules.proofs.laws.Cases.{passed, failed}
-use Rattle.rules.specs.Ranks.{Presents, Before}
+use Rattle.rules.specs.Ranks.{Before}
 use Rattle.rules.proofs.orders.LookAheads.{before-is, is-before}
+use Rattle.rules.specs.declared.State.{State}
 use Rattle.rules.specs.declared.Reader.{Reader}
 use Rattle.rules.specs.Views.{stateOf}
 use Rattle.order.specs.Seats.{lastSeat}
@@ -24,18 +24,21 @@ use Rattle.order.proofs.rank_over.Statement.{statement}
 use Rattle.order.proofs.rank_over.Tie as tie
 
 abbrev Inv-loop : tie.InvT-loop
-Inv-loop v seats present key floor page place top₀ at₀ top at =
+Inv-loop v seats cached fetching key floor page place top₀ at₀ top at =
     (page ≡ key % 1024 + 1)
     × (place ≡ page * 8 + key / 1024)
     × (at ≤ 16)
     × (0 < at → T (readsFile (key / 1024) (readerIn (v .readers) (at - 1))))
-    × ((a b : List ℕ) → Presents (stateOf v a b) present → Swept (stateOf v a b) key at top)
+    × Swept (stateOf v cached fetching) key at top
 
 abbrev μ-loop : tie.MeasureT-loop
-μ-loop v seats present key floor page place top₀ at₀ top at = at
+μ-loop v seats cached fetching key floor page place top₀ at₀ top at = at
 
 abbrev start : tie.After-position Inv-loop μ-loop → tie.Start Inv-loop μ-loop
 start c = c .before .before .before .before
+
+abbrev at : tie.Start Inv-loop μ-loop → State
+at c = stateOf (c .args .v) (c .args .cached .now) (c .args .fetching .now)
 
 abbrev turn : tie.After-position Inv-loop μ-loop → tie.At-loop Inv-loop μ-loop
 turn c = c .before .before
@@ -99,48 +102,46 @@ ahead c =
     }
 
 -- what the slots from the turn's on leave
-lower-is : (c : tie.After-lowered Inv-loop μ-loop) (p q : List ℕ) →
+lower-is : (c : tie.After-lowered Inv-loop μ-loop) →
     let after-position = c .before .before .before .before .before .before in
-    Presents (stateOf (start after-position .args .v) p q) (start after-position .args .present .now)
-    → Swept (stateOf (start after-position .args .v) p q) (start after-position .args .key) (slot after-position) (c .lowered .result)
-lower-is c p q shows =
+    Swept (at (start after-position)) (start after-position .args .key) (slot after-position) (c .lowered .result)
+lower-is c =
     let after-lesser = c .before .before in
     let then-1 = after-lesser .before in
     let after-position = then-1 .before .before .before in
     let at-loop-test = after-position .before in
     let a = start after-position .args in
-    let S = stateOf (a .v) p q in
+    let S = at (start after-position) in
     let e : slot after-position + 1 ≡ turn after-position .loop .at = omega (arith, at-loop-test .loop-test .taken) in
     swept-before S (a .key) (slot after-position) (turn after-position .loop .top) (c .lowered .result)
-    (rw e (turn after-position .loop .inv .4 p q shows)) (low after-position)
+    (rw e (turn after-position .loop .inv .4)) (low after-position)
     (is-before (reader after-position) (a .key) (ahead then-1))
-    (c .lowered .ensures p q shows
+    (c .lowered .ensures
     ∙ ap (λ x. lower S (a .key) (slot after-position) x)
     (after-lesser .lesser .ensures
     ∙ ap (λ x. min (turn after-position .loop .top) (never + x))
     (turn after-position .loop .inv .1 ∙ ap (λ x. x * 8 + a .key / 1024) (turn after-position .loop .inv .0))))
 
-left : (c : tie.Joined1 Inv-loop μ-loop) (p q : List ℕ) →
+left : (c : tie.Joined1 Inv-loop μ-loop) →
     let after-position = c .before .before .before in
-    Presents (stateOf (start after-position .args .v) p q) (start after-position .args .present .now)
-    → Swept (stateOf (start after-position .args .v) p q) (start after-position .args .key) (slot after-position) (c .if1 .top)
-left c p q shows =
+    Swept (at (start after-position)) (start after-position .args .key) (slot after-position) (c .if1 .top)
+left c =
     let after-is-ahead = c .before in
     let after-position = after-is-ahead .before .before in
     let a = start after-position .args in
-    let S = stateOf (a .v) p q in
+    let S = at (start after-position) in
     let at-loop = turn after-position .loop in
     ⊎-elim
     (λ w.
     rw (w .5)
     (lower-is
     record {
-      before = record { before = record { before = record { before = after-is-ahead; if1 = w .0 }; lesser = w .1 }; lowered-arg = w .2 };
+      before = record { before = record { before = record { before = after-is-ahead; if1 = w .0 }; lesser = w .1 }; pace = w .2 };
       lowered = w .3;
-    } p q shows))
+    }))
     (λ w.
     rw (w .1)
-    (swept-not S (a .key) (at-loop .at) (slot after-position) (at-loop .top) (at-loop .inv .4 p q shows) (λ i l u b.
+    (swept-not S (a .key) (at-loop .at) (slot after-position) (at-loop .top) (at-loop .inv .4) (λ i l u b.
     let e : i ≡ slot after-position = omega arith in
     let q = before-is (reader after-position) (a .key) (subst (λ i. T (before (readerAt S i) (a .key))) e b) in
     failed _ (sym (after-is-ahead .is-ahead .ensures) ∙ w .0 .left)
@@ -189,7 +190,7 @@ loop-holds c =
       refl,
       omega (arith, first-is c, t .high),
       rw (first-is c) (t .found),
-      λ p q shows. swept-seat (stateOf (a .v) p q) (a .key) 16 _ _ (swept-none (stateOf (a .v) p q) (a .key)) (first-is c),
+      swept-seat (at (c .before)) (a .key) 16 _ _ (swept-none (at (c .before)) (a .key)) (first-is c),
     )
 
 sub-slot : tie.Need-sub-slot Inv-loop μ-loop
@@ -219,14 +220,14 @@ add-lesser c = search needs
 lesser-requires : tie.Need-lesser-requires Inv-loop μ-loop
 lesser-requires c κs = search needs
 
-add-lowered : tie.Need-add-lowered Inv-loop μ-loop
-add-lowered c = search needs
+add-pace : tie.Need-add-pace Inv-loop μ-loop
+add-pace c = search needs
 
-mul-lowered : tie.Need-mul-lowered Inv-loop μ-loop
-mul-lowered c = search needs
+mul-pace : tie.Need-mul-pace Inv-loop μ-loop
+mul-pace c = search needs
 
-element-copy-out-lowered : tie.Need-element-copy-out-lowered Inv-loop μ-loop
-element-copy-out-lowered c = search needs
+element-copy-out-pace : tie.Need-element-copy-out-pace Inv-loop μ-loop
+element-copy-out-pace c = search needs
 
 lowered-requires : tie.Need-lowered-requires Inv-loop μ-loop
 lowered-requires c κs =
@@ -246,7 +247,7 @@ lowered-requires c κs =
     )
 
 returns : tie.Need-returns Inv-loop μ-loop
-returns c p q shows = record { least = lower-is (c .before) p q shows .low; exact = λ h. absurd (omega (arith, c .if2 .taken)) }
+returns c = record { least = lower-is (c .before) .low; exact = λ h. absurd (omega (arith, c .if2 .taken)) }
 
 add-at-2 : tie.Need-add-at-2 Inv-loop μ-loop
 add-at-2 c = search needs
@@ -283,19 +284,17 @@ loop-again c =
       turn after-position .loop .inv .1,
       omega (arith, next-is after-position, n .high, low after-position),
       rw (next-is after-position) (n .found),
-      λ p q shows.
-          swept-seat (stateOf (a .v) p q) (a .key) (slot after-position) (joined-1 .if1 .top) _ (left joined-1 p q shows)
-          (next-is after-position),
+      swept-seat (at (start after-position)) (a .key) (slot after-position) (joined-1 .if1 .top) _ (left joined-1) (next-is after-position),
     )
 
 returns-2 : tie.Need-returns-2 Inv-loop μ-loop
-returns-2 c p q shows =
+returns-2 c =
     let at-loop = c .before in
     let at-start = at-loop .before .before in
     let l = at-loop .loop in
     let a = at-start .args in
     let e : l .at ≡ 0 = omega (arith, c .loop-test .left) in
-    let r = swept-all (stateOf (a .v) p q) (a .key) (l .top) (at-start .pre .0 .0 .look-high) (rw e at (l .inv .4 p q shows)) in
+    let r = swept-all (at at-start) (a .key) (l .top) (at-start .pre .0 .0 .look-high) (rw e at (l .inv .4)) in
     record { least = omega arith; exact = λ _. r }
 
 pub rank-over-spec : {M : Type 1} → statement M
@@ -323,9 +322,9 @@ rank-over-spec =
     is-ahead-requires
     add-lesser
     lesser-requires
-    add-lowered
-    mul-lowered
-    element-copy-out-lowered
+    add-pace
+    mul-pace
+    element-copy-out-pace
     lowered-requires
     returns
     add-at-2

@@ -5,6 +5,7 @@ use native.Mathlib.Omega.{arith}
 use borrow.Author.Needs.{needs}
 use borrow.Author.Tests.{not-true, not-false}
 use lib.Dec.{T}
+use Rattle.bits.specs.Map.{joined, nextBit}
 use Rattle.rules.specs.Readers.{attached, readerIn}
 use Rattle.rules.specs.Valid.{Placed}
 use Rattle.rules.proofs.laws.Cases.{passed, failed}
@@ -15,7 +16,6 @@ use Rattle.rules.proofs.orders.Candidates.{absent-least}
 use Rattle.rules.specs.declared.State.{State}
 use Rattle.rules.specs.declared.Reader.{Reader}
 use Rattle.rules.specs.Views.{stateOf}
-use Rattle.order.specs.Absent.{nextAbsent}
 use Rattle.order.proofs.Ranges.{valid-ranged}
 use Rattle.order.proofs.Slots.{lower-least}
 use Rattle.order.proofs.Searching.{none-absent, first-absent, soonest-keep, soonest-take}
@@ -36,7 +36,7 @@ placed : (c : tie.Else1) →
     Placed (at at-start) (at-start .args .r)
 placed c =
     let at-start = c .before .before in
-    let e = at-start .pre .1 .1 .1 .1 in
+    let e = at-start .pre .1 .1 .1 in
     rw e (placed-at (at at-start) (at-start .pre .0) (at-start .args .slot) (rw (sym e) (here c)))
 
 -- its last page
@@ -59,11 +59,11 @@ reader c = start c .args .r
 
 -- it is the slot's
 slot-reader : (c : tie.After-struct-known3) → reader c ≡ readerIn (start c .args .v .readers) (start c .args .slot)
-slot-reader c = start c .pre .1 .1 .1 .1
+slot-reader c = start c .pre .1 .1 .1
 
 -- where the search for an absent page ended
 found : (c : tie.After-next-absent)
-    → c .next-absent .result ≡ nextAbsent (start (c .before) .args .cached .now) (start (c .before) .args .fetching .now)
+    → c .next-absent .result ≡ nextBit (joined (start (c .before) .args .cached .now) (start (c .before) .args .fetching .now)) 0
     (reader (c .before) .file * 1024 + reader (c .before) .position)
     (reader (c .before) .last - reader (c .before) .position)
 found c = c .next-absent .ensures
@@ -101,9 +101,9 @@ returns : tie.Need-returns
 returns c =
     let after-is-attached = c .before in
     let at-start = after-is-attached .before in
-    soonest-keep (at at-start) (at-start .args .slot) (at-start .args .best) (at-start .pre .1 .1 .1 .0)
+    soonest-keep (at at-start) (at-start .args .slot) (at-start .args .best) (at-start .pre .1 .1 .0)
     (λ h.
-    absurd (failed _ (sym (after-is-attached .is-attached .ensures) ∙ not-true _ (c .if1 .taken)) (rw (at-start .pre .1 .1 .1 .1) h)))
+    absurd (failed _ (sym (after-is-attached .is-attached .ensures) ∙ not-true _ (c .if1 .taken)) (rw (at-start .pre .1 .1 .1) h)))
 
 cast-file : tie.Need-cast-file
 cast-file c = search needs
@@ -137,7 +137,7 @@ returns-2 c =
     let after-next-absent = c .before in
     let after-last = after-next-absent .before in
     let s = start after-last in
-    soonest-keep (at s) (s .args .slot) (s .args .best) (s .pre .1 .1 .1 .0)
+    soonest-keep (at s) (s .args .slot) (s .args .best) (s .pre .1 .1 .0)
     (λ h k _ a.
     absurd (none-absent (at s) (reader after-last) (rw (slot-reader after-last) h) (after-next-absent .next-absent .result)
     (found after-next-absent) (c .if2 .taken) k
@@ -150,7 +150,7 @@ lowered-requires c κs =
     let s = start after-last in (
       valid-ranged (at s) (s .pre .0),
       (
-        (s .pre .1 .1 .0, small c),
+        (s .pre .1 .0, small c),
         (
           (ap (λ q. q .position) (slot-reader after-last), ap (λ q. q .pace) (slot-reader after-last)),
           rw (sym (slot-reader after-last)) (ahead c),
@@ -160,35 +160,35 @@ lowered-requires c κs =
 
 cast-t18 : tie.Need-cast-t18
 cast-t18 c =
-    let else-2 = c .before .before .before in
+    let else-2 = c .before .before in
     omega (arith, small else-2)
 
 returns-3 : tie.Need-returns-3
 returns-3 c =
-    let after-lowered = c .before .before in
+    let after-lowered = c .before in
     let else-2 = after-lowered .before in
     let after-next-absent = else-2 .before in
     let after-last = after-next-absent .before in
     let s = start after-last in
-    soonest-take (at s) (s .args .slot) (s .args .best) (s .pre .1 .1 .1 .0) (after-next-absent .next-absent .result)
-    (after-lowered .lowered .result) (s .pre .1 .1 .0) (rw (sym (slot-reader after-last)) (lacks else-2))
-    (after-lowered .lowered .ensures (s .args .cached .now) (s .args .fetching .now) (s .pre .1 .0)) (c .if3 .taken)
+    soonest-take (at s) (s .args .slot) (s .args .best) (s .pre .1 .1 .0) (after-next-absent .next-absent .result)
+    (after-lowered .lowered .result) (s .pre .1 .0) (rw (sym (slot-reader after-last)) (lacks else-2))
+    (after-lowered .lowered .ensures) (c .if3 .taken)
 
 returns-4 : tie.Need-returns-4
 returns-4 c =
-    let after-lowered = c .before .before in
+    let after-lowered = c .before in
     let else-2 = after-lowered .before in
     let after-next-absent = else-2 .before in
     let after-last = after-next-absent .before in
     let s = start after-last in
     let k = after-next-absent .next-absent .result in
-    soonest-keep (at s) (s .args .slot) (s .args .best) (s .pre .1 .1 .1 .0)
+    soonest-keep (at s) (s .args .slot) (s .args .best) (s .pre .1 .1 .0)
     (λ _.
     absent-least (at s) (s .args .best .value) (s .args .slot) k (rw (sym (slot-reader after-last)) (lacks else-2))
     (omega (
       arith,
-      after-lowered .lowered .ensures (s .args .cached .now) (s .args .fetching .now) (s .pre .1 .0),
-      lower-least (at s) k (s .args .slot) (s .args .best .value) (s .pre .1 .1 .1 .0 .low),
+      after-lowered .lowered .ensures,
+      lower-least (at s) k (s .args .slot) (s .args .best .value) (s .pre .1 .1 .0 .low),
     )))
 
 pub sooner-spec : {M : Type 1} → statement M

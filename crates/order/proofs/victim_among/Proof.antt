@@ -1,7 +1,6 @@
 -- Invariant: of the candidates passed none has a higher rank than the best (`Highest`). Measure: the candidates that are left.
 use mathlib.Core.Path.{_≡_, sym, _∙_}
 use mathlib.Core.Bool.{cond}
-use mathlib.Core.List.{List}
 use mathlib.Core.Logic.{_⊎_, inl, inr, ⊎-elim}
 use Prim.Native.Nat.{ℕ, _+_, _-_, _≤_, _<_}
 use native.Mathlib.Omega.{arith}
@@ -15,14 +14,13 @@ use Rattle.order.specs.Choices.{inSet}
 use Rattle.order.specs.Seats.{Seated}
 use Rattle.order.specs.Searches.{Highest}
 use Rattle.order.proofs.Ranges.{valid-ranged, valid-file, valid-behind, valid-housed}
-use Rattle.rules.proofs.orders.Local.{cached-presents}
 use Rattle.order.proofs.Searching.{highest-none, highest-more, highest-victim, highest-nothing}
 use Rattle.order.proofs.victim_among.Statement.{statement}
 use Rattle.order.proofs.victim_among.Tie as tie
 
 abbrev Inv-loop : tie.InvT-loop
 Inv-loop cached fetching files v seats best₀ i₀ best i =
-    (i ≤ 24) × Seated (v .readers) 16 seats × ((m : List ℕ) → Highest (stateOf v cached m) (inSet files) i best)
+    (i ≤ 24) × Seated (v .readers) 16 seats × Highest (stateOf v cached fetching) (inSet files) i best
 
 abbrev μ-loop : tie.MeasureT-loop
 μ-loop cached fetching files v seats best₀ i₀ best i = i
@@ -78,10 +76,9 @@ all : (c : tie.After-loop Inv-loop μ-loop) →
     Highest (at at-start) (inSet (at-start .args .files)) 0 (at-loop .loop .best)
 all c =
     let at-loop = c .before in
-    let at-start = at-loop .before .before .before in
     let l = at-loop .loop in
     let e : l .i ≡ 0 = omega (arith, c .loop-test .left) in
-    rw e at (l .inv .2 (at-start .args .fetching .now))
+    rw e at (l .inv .2)
 
 seats-of-requires : tie.Need-seats-of-requires Inv-loop μ-loop
 seats-of-requires c κs = valid-ranged (at (c .before)) (c .before .pre) .file-high
@@ -89,7 +86,7 @@ seats-of-requires c κs = valid-ranged (at (c .before)) (c .before .pre) .file-h
 loop-holds : tie.Need-loop-holds Inv-loop μ-loop
 loop-holds c =
     let at-start = c .before .before in
-    (omega arith, c .seats-of .ensures, λ m. highest-none (stateOf (at-start .args .t1) (at-start .args .cached .now) m) (inSet (at-start .args .files)))
+    (omega arith, c .seats-of .ensures, highest-none (at at-start) (inSet (at-start .args .files)))
 
 sub-i : tie.Need-sub-i Inv-loop μ-loop
 sub-i c = search needs
@@ -113,7 +110,7 @@ higher-requires c κs =
     let l = at-loop .loop in
     let s = start joined-1 in (
       (valid-ranged (at s) (s .pre), l .inv .1),
-      (valid-housed (s .args .t1) (s .args .cached .now) (s .args .fetching .now) (s .pre), (range joined-1, λ m. l .inv .2 m .page)),
+      (valid-housed (s .args .t1) (s .args .cached .now) (s .args .fetching .now) (s .pre), (range joined-1, l .inv .2 .page)),
     )
 
 loop-less : tie.Need-loop-less Inv-loop μ-loop
@@ -129,10 +126,8 @@ loop-again c =
     let e : number joined-1 + 1 ≡ l .i = omega (arith, at-loop-test .loop-test .taken) in (
       omega (arith, l .inv .0),
       l .inv .1,
-      λ m.
-          highest-more (stateOf (s .args .t1) (s .args .cached .now) m) (inSet (s .args .files)) (number joined-1) (l .best)
-          (c .higher .result) (joined-1 .if1 .file) (joined-1 .if1 .n) (rw e (l .inv .2 m)) (c .higher .ensures m (cached-presents _))
-          (of-file joined-1) (of-slot joined-1),
+      highest-more (at s) (inSet (s .args .files)) (number joined-1) (l .best) (c .higher .result) (joined-1 .if1 .file) (joined-1 .if1 .n)
+          (rw e (l .inv .2)) (c .higher .ensures) (of-file joined-1) (of-slot joined-1),
     )
 
 returns : tie.Need-returns Inv-loop μ-loop

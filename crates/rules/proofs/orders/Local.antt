@@ -1,11 +1,13 @@
--- A page's rank hangs on its own file alone, and on turn, look-ahead and fetch time; two states alike in every file have one steal order. Assumes nothing.
+-- A page's rank hangs on its own file alone, and on turn, look-ahead and fetch time; two states alike in every file have one steal order. Where fetches take
+-- no time, it does not hang on what is present either: q is there and counts for nothing. Assumes nothing.
 use mathlib.Core.Path.{_≡_, refl, sym, ap, ap₂, _∙_, fun-ext}
 use mathlib.Core.Bool.{false, cond, _&&_, and-assoc}
 use mathlib.Core.Logic.{_⊎_, inl, inr}
-use Prim.Native.Nat.{ℕ, zero, suc, _+_, _-_, _*_, _≤_}
+use Prim.Native.Nat.{ℕ, zero, suc, _+_, _-_, _*_, _≤_, _<_}
+use native.Mathlib.Decide.{decLt}
+use native.Mathlib.Nat.{mul-zero}
 use native.Mathlib.Omega.{arith}
 use lib.Dec.{eqb, eqb→eq}
-use Rattle.bits.specs.Map.{bit}
 use Rattle.rules.specs.Lists.{range, each, only, falling, least, some-of}
 use Rattle.rules.specs.Pages.{size, fileOf, keyOf, cached, pages, cachedPages}
 use Rattle.rules.specs.Readers.{readerAt, attached, readsFile}
@@ -41,7 +43,9 @@ pub record SameFile (f : ℕ) (s t : State) : Type 0 where
   pub time-same : s .«fetch_time» ≡ t .«fetch_time»
   pub size-same : size s f ≡ size t f
   pub readers-same : (j : ℕ) → AlikeReader (readerAt s j) (readerAt t j) ⊎ (NotOf f (readerAt s j) × NotOf f (readerAt t j))
-  pub bits-same : (k : ℕ) → fileOf k ≡ f → bit (s .cached) k ≡ bit (t .cached) k
+  pub cached-same : (k : ℕ) → fileOf k ≡ f → cached s k ≡ cached t k
+  -- q is asked for only where fetches take time
+  pub present-same : 0 < s .«fetch_time» → (k : ℕ) → fileOf k ≡ f → present s k ≡ present t k
 
 not-before : (r : Reader) (k : ℕ) → NotOf (fileOf k) r → before r k ≡ false
 unfolding before
@@ -57,38 +61,68 @@ record SameSlot (s t : State) (k j : ℕ) : Type 0 where
   sees-alike : sees s (readerAt s j) k ≡ sees t (readerAt t j) k
   use-alike : useFor s k j ≡ useFor t k j
 
--- the cached map is the one that q looks at: here and in the law below, and nowhere else, it is known
-pub cached-presents : (s : State) → Presents s (s .cached)
-unfolding present
-cached-presents s k = refl
+-- what q costs two readers on the way to page k: it prunes, and it takes time
+record SameDelay (s : State) (r : Reader) (t : State) (q : Reader) (k : ℕ) : Type 0 where
+  prunes : pruned s (between s r k) ≡ pruned t (between t q k)
+  waits : between s r k * s .«fetch_time» ≡ between t q k * t .«fetch_time»
 
--- so what q takes for cached goes by the cached map alone
-present-same : (s t : State) (k : ℕ) → bit (s .cached) k ≡ bit (t .cached) k → present s k ≡ present t k
+pruned-same : (s t : State) (p q : ℕ) → s .«look_ahead» ≡ t .«look_ahead» → s .«fetch_time» ≡ t .«fetch_time» → p ≡ q → pruned s p ≡ pruned t q
+unfolding pruned
+pruned-same s t p q e f g = rw (e, f, g)
+
+-- no page is pruned where fetches take no time
+never-pruned : (s : State) (q : ℕ) → s .«fetch_time» ≡ 0 → pruned s q ≡ false
+unfolding pruned
+never-pruned s q e = rw e
+
+-- nor waited for
+no-wait : (s : State) (q : ℕ) → s .«fetch_time» ≡ 0 → q * s .«fetch_time» ≡ 0
+no-wait s q e = rw e (mul-zero q)
+
+-- the two maps are those that q looks at
+pub maps-present : (s : State) → Presents s (s .cached) (s .fetching)
 unfolding present
-present-same s t k e = ap (λ b. eqb b 1) e
+maps-present s k = refl
 
 module _ (s t : State) (k : ℕ) (a : SameFile (fileOf k) s t) where
-  missing-same : (c n : ℕ) → n ≤ 1023 - c → missing s (fileOf k) c n ≡ missing t (fileOf k) c n
+  missing-same : 0 < s .«fetch_time» → (c n : ℕ) → n ≤ 1023 - c → missing s (fileOf k) c n ≡ missing t (fileOf k) c n
   unfolding missing
-  missing-same c zero l = refl
-  missing-same c (suc n) l =
-      ap₂ (λ b m. cond b 0 1 + m) (present-same s t _ (a .bits-same (keyOf (fileOf k) (c + suc n)) (omega arith))) (missing-same c n (omega arith))
+  missing-same h c zero l = refl
+  missing-same h c (suc n) l =
+      ap₂ (λ b m. cond b 0 1 + m) (a .present-same h (keyOf (fileOf k) (c + suc n)) (omega arith)) (missing-same h c n (omega arith))
 
   module _ (r q : Reader) (e : AlikeReader r q) (f : q .file ≡ fileOf k) where
-    between-same : between s r k ≡ between t q k
-    between-same = rw (e .file-same, e .position-same, f) (missing-same (q .position) (steps q k - 1) (omega arith))
+    between-same : 0 < s .«fetch_time» → between s r k ≡ between t q k
+    between-same h = rw (e .file-same, e .position-same, f) (missing-same h (q .position) (steps q k - 1) (omega arith))
+
+    -- q weighs alike: it is the same, or fetches take no time
+    delay-same : SameDelay s r t q k
+    delay-same = by (decLt 0 (s .«fetch_time»))
+      where
+        by : Dec (0 < s .«fetch_time») → SameDelay s r t q k
+        by (yes h) = record {
+          prunes = pruned-same s t (between s r k) (between t q k) (a .look-same) (a .time-same) (between-same h);
+          waits = rw (between-same h, a .time-same);
+        }
+        by (no h) =
+            let x : s .«fetch_time» ≡ 0 = omega arith in
+            let y : t .«fetch_time» ≡ 0 = sym (a .time-same) ∙ x in
+            record {
+              prunes = never-pruned s (between s r k) x ∙ sym (never-pruned t (between t q k) y);
+              waits = no-wait s (between s r k) x ∙ sym (no-wait t (between t q k) y);
+            }
 
     before-same : before r k ≡ before q k
     unfolding before
     before-same = rw (e .attached-same, e .file-same, e .position-same, e .last-same, f)
 
     sees-same : sees s r k ≡ sees t q k
-    unfolding sees pruned
-    sees-same = rw (before-same, between-same, e .position-same, e .pace-same, a .look-same, a .time-same)
+    unfolding sees
+    sees-same = rw (before-same, delay-same .prunes, e .position-same, e .pace-same, a .look-same)
 
     time-alike : timeFor s r k ≡ timeFor t q k
     unfolding timeFor
-    time-alike = rw (between-same, e .position-same, e .pace-same, a .time-same)
+    time-alike = rw (delay-same .waits, e .position-same, e .pace-same)
 
   slot-same : (j : ℕ) → SameSlot s t k j
   unfolding useFor
@@ -128,6 +162,6 @@ pub steal-local : (s t : State) → Valid s → Valid t → ((f : ℕ) → SameF
 unfolding cachedPages pages
 steal-local s t v w a =
     let r : rank s ≡ rank t = fun-ext (λ k. rank-local s t k (a (fileOf k))) in
-    let c : cached s ≡ cached t = fun-ext (λ k. ap (λ b. eqb b 1) (a (fileOf k) .bits-same k refl)) in
+    let c : cached s ≡ cached t = fun-ext (λ k. a (fileOf k) .cached-same k refl) in
     let p : pages s ≡ pages t = ap (λ g. each (λ f. range (f * 1024) (g f)) (range 0 8)) (fun-ext (λ f. a f .size-same)) in
     steal-ranked s v ∙ ap₂ falling r (ap₂ only c p) ∙ sym (steal-ranked t w)

@@ -220,6 +220,8 @@ reports =
     ∷ tests 0 (upTo 5 5 10 ∷ []) 0
     -- a page is counted for each reader that has it, running or waiting; an empty slot has none
     ∷ tests 0 (upTo 8 3 10 ∷ noReader ∷ upTo 8 4 20 ∷ reader Waiting 0 10 5 8 ∷ []) 9
+    -- A.5: with page 4 in fetch a page more is in the look-ahead
+    ∷ row (tested (stateWith 16 0 40 20 (8 ∷ []) (upTo 8 3 10 ∷ []) (f0 (1 ∷ 2 ∷ 3 ∷ 5 ∷ 7 ∷ [])) (f0 (4 ∷ []))) ∷ []) (4 ∷ [])
     ∷ []
 
 pub reports-hold : Hold reports
@@ -360,9 +362,9 @@ orders =
     ∷ row (fetchOrder (abreast [])) (f0 (5 ∷ 9 ∷ 1 ∷ []))
     -- "neither cached nor in fetch"
     ∷ row (fetchOrder (awaited 0)) (f0 (3 ∷ 4 ∷ []))
-    -- "A page in fetch is not cached": page 3 has q 1, and page 4, with q 2, is in no look-ahead
-    ∷ row (map (useKey (awaited 20)) (f0 (3 ∷ []))) (800 ∷ [])
-    ∷ row (fetchOrder (awaited 20)) (f0 (3 ∷ []))
+    -- A.5: "a page in fetch counts as cached in q and in the pruning": page 3 has q 0, and page 4, with q 1, is in the look-ahead
+    ∷ row (map (useKey (awaited 20)) (f0 (3 ∷ 4 ∷ []))) (480 ∷ 960 ∷ [])
+    ∷ row (fetchOrder (awaited 20)) (f0 (3 ∷ 4 ∷ []))
     -- "of one file"
     ∷ row (clusters adjoining 0) (1023 ∷ 1024 ∷ [])
     ∷ row (clusters adjoining 1) (1 ∷ 1 ∷ [])
@@ -391,13 +393,17 @@ leaves r =
 abbrev crowded : State
 crowded = stateWith 1 0 10 0 (6 ∷ []) (upTo 6 0 10 ∷ []) (f0 (1 ∷ [])) (f0 (6 ∷ []))
 
--- slot 0 waits for page 1, which lowers the time of page 3 from 70 to 50 when it comes; slot 1 has page 5 at 60
-abbrev stale : State
-stale = stateWith 3 0 100 20 (6 ∷ []) (reader Waiting 0 10 0 6 ∷ upTo 6 4 60 ∷ []) (f0 (3 ∷ 5 ∷ 6 ∷ [])) (f0 (1 ∷ []))
+-- all frames taken: slot 0 has page 2 of file 0 at 20 while page 1 is in fetch, at 40 where it is neither; slot 1 has page 1 of file 1 at 30
+abbrev nearing : State
+nearing = stateWith 2 0 100 20 (6 ∷ 6 ∷ []) (upTo 6 0 10 ∷ reader Running 1 30 0 6 ∷ []) (keyOf 0 2 ∷ keyOf 1 1 ∷ []) (f0 (1 ∷ []))
 
--- the page that the call dropped, and the page that Steal then drops
-unfoldable pub thenStolen : Reply → List ℕ
-thenStolen r = numbersOf (r .answer) ++ numbersOf (stealOf (r .state) .answer)
+-- slot 0 comes to page 1, which lowers the time of page 3 from 70 to 50 as soon as it is in fetch; slot 1 has page 5 at 60
+abbrev stale : State
+stale = stateWith 3 0 100 20 (6 ∷ []) (upTo 6 0 10 ∷ upTo 6 4 60 ∷ []) (f0 (3 ∷ 5 ∷ 6 ∷ [])) []
+
+-- the page that Steal drops, and after a Read of slot 0 the next
+unfoldable pub stolenTwice : State → List ℕ
+stolenTwice s = numbersOf (stealOf s .answer) ++ numbersOf (stealOf (readOf (stealOf s .state) 0 .state) .answer)
 
 unfoldable pub effects : List Row
 effects =
@@ -409,14 +415,16 @@ effects =
     ∷ row (leaves (detachOf held-up 1)) (2 ∷ 0 ∷ 2 ∷ 2 ∷ 0 ∷ 1 ∷ 1024 ∷ [])
     -- "the head of the steal order is dropped first. Then the page .. is cached"
     ∷ row (leaves (arriveOf crowded 0 6)) (0 ∷ 1 ∷ 1 ∷ 0 ∷ 0 ∷ 0 ∷ 5 ∷ [])
-    -- "The order is worked out afresh for each steal": before page 1 came it was 6, 3, 5
-    ∷ row (thenStolen (arriveOf stale 0 1)) (0 ∷ 6 ∷ 0 ∷ 5 ∷ [])
+    -- A.5: the page that arrives is in fetch while the head is chosen
+    ∷ row (leaves (arriveOf nearing 0 1)) (1 ∷ 1 ∷ 1 ∷ 1 ∷ 0 ∷ 0 ∷ 0 ∷ 1 ∷ [])
+    -- "The order is worked out afresh for each steal": before page 1 was asked for it was 6, 3, 5
+    ∷ row (stolenTwice stale) (0 ∷ 6 ∷ 0 ∷ 5 ∷ [])
     ∷ []
 
 pub effects-hold : Hold effects
-unfolding effects leaves thenStolen bit putBit range each only put sorted least some-of pages cachedPages fetchingPages before
+unfolding effects leaves stolenTwice bit putBit range each only put sorted least some-of pages cachedPages fetchingPages before
     present missing pruned sees timeFor useFor useKey ahead seen notAhead notSeen useTime stealOrder victim full dropped woken landed
-    forFetch arriveOf lostOf detachOf stealOf
+    forFetch readRunning readOf arriveOf lostOf detachOf stealOf
 effects-hold = refl
 
 -- ---- the program's lines

@@ -119,6 +119,8 @@ counts =
     ∷ reads (upTo 8 3 41 ∷ []) 0
     -- added over the readers, running or waiting; an empty slot has none
     ∷ reads (upTo 8 3 10 ∷ noReader ∷ reader Waiting 0 10 3 8 ∷ upTo 8 0 10 ∷ []) 3
+    -- A.5: "the two words at one place of the two maps count as one"
+    ∷ row (wordsRead (stateWith 16 0 40 20 (8 ∷ []) (upTo 8 3 10 ∷ []) (f0 (5 ∷ [])) (f0 (4 ∷ 6 ∷ []))) ∷ []) (1 ∷ [])
     ∷ []
 
 pub counts-hold : Hold counts

@@ -19,11 +19,11 @@ abbrev pub mapOf : List ℕ → List ℕ
 mapOf [] = replicate 128 0
 mapOf (k ∷ ks) = putBit (mapOf ks) k 1
 
--- what a sounding looks for: an order, the times of the fetch order, or the clusters of file 0
+-- what a sounding looks for: an order, the times of some pages, or the clusters of file 0
 pub data Sought : Type 0 where
   steal : Sought
   fetch : Sought
-  times : Sought
+  times : List ℕ → Sought
   runs : Sought
 
 pub record Row : Type 0 where
@@ -33,6 +33,7 @@ pub record Row : Type 0 where
   pub sizes : List ℕ
   pub readers : List Reader
   pub cached : List ℕ
+  pub fetching : List ℕ
   pub sought : Sought
   pub answer : List ℕ
 
@@ -51,14 +52,14 @@ stateWith frames turn look time sizes readers cached fetching =
       fetching = mapOf fetching;
     }
 
--- the state of a row: L 40, none in fetch
+-- the state of a row: L 40
 abbrev pub stateOf : Row → State
-stateOf r = stateWith 16 (r .turn) 40 (r .time) (r .sizes) (r .readers) (r .cached) []
+stateOf r = stateWith 16 (r .turn) 40 (r .time) (r .sizes) (r .readers) (r .cached) (r .fetching)
 
 abbrev pub find : Sought → State → List ℕ
 find steal s = stealOrder s
 find fetch s = fetchOrder s
-find times s = map (λ k. useKey s k / 16) (fetchOrder s)
+find (times keys) s = map (λ k. useKey s k / 16) keys
 find runs s = clusters s 0
 
 -- a reader's record
@@ -76,9 +77,9 @@ at = upTo 16
 abbrev pub f0 : List ℕ → List ℕ
 f0 ps = map (keyOf 0) ps
 
--- a row: its mark, T, the turn, sizes, readers, cached pages, what is sought and the answer
+-- a row: its mark, T, the turn, sizes, readers, cached pages, what is sought and the answer; no page is in fetch
 abbrev row : ℕ → ℕ → ℕ → List ℕ → List Reader → List ℕ → Sought → List ℕ → Row
-row n t u zs rs cs q a = record { sounding = n; time = t; turn = u; sizes = zs; readers = rs; cached = cs; sought = q; answer = a }
+row n t u zs rs cs q a = record { sounding = n; time = t; turn = u; sizes = zs; readers = rs; cached = cs; fetching = []; sought = q; answer = a }
 
 -- unless said: file 0, size 16, cached 1, 2, 3, 5, 7, reader in slot 0 at 3, w 10
 abbrev usual : ℕ → ℕ → Sought → List ℕ → Row
@@ -88,7 +89,7 @@ unfoldable pub table : List Row
 table =
     usual 1 20 steal (f0 (3 ∷ 2 ∷ 1 ∷ 7 ∷ 5 ∷ []))
     ∷ usual 2 20 fetch (f0 (4 ∷ 6 ∷ []))
-    ∷ usual 2 20 times (10 ∷ 50 ∷ [])
+    ∷ usual 2 20 (times (f0 (4 ∷ 6 ∷ []))) (10 ∷ 50 ∷ [])
     ∷ usual 3 40 steal (f0 (3 ∷ 2 ∷ 1 ∷ 7 ∷ 5 ∷ []))
     ∷ usual 3 40 fetch (f0 (4 ∷ []))
     ∷ usual 4 41 fetch []
@@ -106,11 +107,30 @@ table =
     ∷ row 12 0 0 (16 ∷ []) (at 3 10 ∷ []) [] runs []
     ∷ []
 
--- A.1, worked out by hand: the reader's last page is 6, and so page 7 is ahead of nobody
-unfoldable pub shortened : List Row
-shortened =
+-- the first sounding with page 4 in fetch
+abbrev onLink : Sought → List ℕ → Row
+onLink q a = record {
+  sounding = 1;
+  time = 20;
+  turn = 0;
+  sizes = 16 ∷ [];
+  readers = at 3 10 ∷ [];
+  cached = f0 (1 ∷ 2 ∷ 3 ∷ 5 ∷ 7 ∷ []);
+  fetching = f0 (4 ∷ []);
+  sought = q;
+  answer = a;
+}
+
+-- what 02 changes, worked out by hand
+unfoldable pub worked : List Row
+worked =
+    -- A.1: the reader's last page is 6, and so page 7 is ahead of nobody
     row 1 0 0 (16 ∷ []) (upTo 6 3 10 ∷ []) (f0 (1 ∷ 2 ∷ 3 ∷ 5 ∷ 7 ∷ [])) steal (f0 (7 ∷ 3 ∷ 2 ∷ 1 ∷ 5 ∷ []))
     ∷ row 1 0 0 (16 ∷ []) (upTo 6 3 10 ∷ []) (f0 (1 ∷ 2 ∷ 3 ∷ 5 ∷ 7 ∷ [])) fetch (f0 (4 ∷ 6 ∷ []))
+    -- A.5: "a page in fetch counts as cached in q and in the pruning", page 4 for page 5 and for page 7; "it is still not .. fetched twice"
+    ∷ onLink (times (f0 (5 ∷ 6 ∷ 7 ∷ []))) (20 ∷ 30 ∷ 60 ∷ [])
+    ∷ onLink fetch (f0 (6 ∷ []))
+    ∷ onLink steal (f0 (3 ∷ 2 ∷ 1 ∷ 7 ∷ 5 ∷ []))
     ∷ []
 
 -- the answers of some rows, by the rules and as they stand
@@ -123,7 +143,7 @@ unfolding table putBit range each only put sorted least some-of bit pages before
     ahead seen notAhead notSeen useTime stealOrder fetchOrder held ends clusters
 soundings = refl
 
-pub shortened-hold : Told shortened
-unfolding shortened putBit range each only put sorted least some-of bit pages before present missing pruned sees timeFor useFor useKey
+pub worked-hold : Told worked
+unfolding worked putBit range each only put sorted least some-of bit pages before present missing pruned sees timeFor useFor useKey
     ahead seen notAhead notSeen useTime stealOrder fetchOrder held ends clusters
-shortened-hold = refl
+worked-hold = refl

@@ -155,13 +155,13 @@ goes-not r a h = go (attached r) (atEnd r) a h
     go true false a h = absurd h
     go false b a h = absurd a
 
--- ---- a turn where no page is in fetch
+-- ---- a turn where no page is in fetch and fetches take no time
 
 -- a turn that leaves these readers and maps
 abbrev turned : State → List Reader → List ℕ → List ℕ → ℕ → List ℕ → Turn
 turned s readers held fs fetched hits = record { after = withFetching (withCached (withReaders (nextTurn s) readers) held) fs; fetched = fetched; hit = hits }
 
-module _ (s : State) (v : Valid s) (closed : (k : ℕ) → T (inFetch s k) → ⊥) where
+module _ (s : State) (v : Valid s) (free : s .«fetch_time» ≡ 0) (closed : (k : ℕ) → T (inFetch s k) → ⊥) where
   awake : (j : ℕ) → T (attached (readerAt s j)) → readerAt s j .condition ≡ Running
   awake j = awake-in (readerAt s j .condition) s (readerAt s j) (v .readers-in j) closed
 
@@ -241,7 +241,7 @@ module _ (s : State) (v : Valid s) (closed : (k : ℕ) → T (inFetch s k) → �
       unfolding dropped full victim cachedPages pages
       dropped-same =
           ap (λ l. cond (full s) (head l) none)
-          (steal-same s v (s .turn) (v .turn-high) here (putBit (s .fetching) (keyNow s) 1) (rw asked at (read-kept s (s .turn) v)))
+          (steal-same s v (s .turn) (v .turn-high) here free (putBit (s .fetching) (keyNow s) 1) (rw asked at (read-kept s (s .turn) v)))
 
       landed-at : landed (awaiting s (s .turn)) (keyNow s) ≡ withFetching (withCached s (stored (dropped s))) emptied
       unfolding landed

@@ -1,4 +1,4 @@
--- A reader that begins to wait leaves the steal order as it was. Assumes nothing.
+-- A reader that begins to wait, and its page in fetch, leave the steal order as it was where fetches take no time. Assumes nothing.
 use mathlib.Core.Path.{_≡_, refl, sym}
 use mathlib.Core.List.{List}
 use mathlib.Core.Logic.{inl}
@@ -29,11 +29,11 @@ module _ (s : State) (v : Valid s) (u : ℕ) (l : u < 16) (here : T (attached (r
       (record { attached-same = sym (is-true _ here); file-same = refl; pace-same = refl; position-same = refl; last-same = refl }))
       (λ ne. alike-same (getD-set-other (s .readers) u j _ noReader (λ e. ne (sym e))))
 
-  -- the steal order once reader u waits, whatever is in fetch and whatever T: q does not look at the fetch map (present-same, in Local.antt). Where it does,
-  -- this needs T = 0, which the third statement has.
-  pub steal-same : (fetching : List ℕ) → Valid (withFetching (withReaders s (paused s u)) fetching)
+  -- the steal order once reader u waits, whatever is in fetch. A page in fetch is one less that q counts (A.5); with T = 0, which the third statement has, that
+  -- moves no use key
+  pub steal-same : s .«fetch_time» ≡ 0 → (fetching : List ℕ) → Valid (withFetching (withReaders s (paused s u)) fetching)
       → stealOrder (withFetching (withReaders s (paused s u)) fetching) ≡ stealOrder s
-  steal-same fetching w = steal-local (withFetching (withReaders s (paused s u)) fetching) s w v
+  steal-same free fetching w = steal-local (withFetching (withReaders s (paused s u)) fetching) s w v
       (λ f.
       record {
         turn-same = refl;
@@ -41,5 +41,6 @@ module _ (s : State) (v : Valid s) (u : ℕ) (l : u < 16) (here : T (attached (r
         time-same = refl;
         size-same = refl;
         readers-same = λ j. inl (paused-alike j);
-        bits-same = λ k _. refl;
+        cached-same = λ k _. refl;
+        present-same = λ h. absurd (omega (arith, free));
       })

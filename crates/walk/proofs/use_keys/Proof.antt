@@ -7,7 +7,7 @@ use lib.ListN.{length, length-replicate}
 use Rattle.rules.specs.UseTimes.{never}
 use Rattle.rules.specs.Views.{stateOf}
 use Rattle.rules.specs.declared.State.{State}
-use Rattle.rules.proofs.orders.Local.{cached-presents}
+use Rattle.rules.proofs.orders.Local.{maps-present}
 use Rattle.walk.specs.Walks.{Asked}
 use Rattle.walk.specs.Tables.{KeyedBy}
 use Rattle.walk.proofs.Slots.{valid-in-file, keyed-none, keyed-all, testedBy, wordsBy, counts-all, total-none, total-more}
@@ -85,15 +85,15 @@ loop-again c =
     let slot = at-loop .loop .slot in
     let i = at-loop .loop .inv in
     let e = after-walk-slot .walk-slot .ensures in
-    let asked : Asked s slot _ _ _ _ _ = record {
+    let asked : Asked s slot _ _ _ _ _ _ = record {
       look-is = refl;
       time-is = refl;
       seat-is = sym (after-seat .seat .ensures);
       reader-is = refl;
-      shows = cached-presents s;
+      shows = maps-present s;
     } in
     let r = e .1 s slot (start at-loop .pre .0) (omega arith) asked (i .2) in (
-      (omega arith, omega (arith, i .0 .1, e .0), omega (arith, i .0 .2, e .0), after-walk-slot .walk-slot .kept .1 .1 .1 .1 .1 .1 .1 .0 ∙ i .0 .3),
+      (omega arith, omega (arith, i .0 .1, e .0), omega (arith, i .0 .2, e .0), after-walk-slot .walk-slot .kept .1 .1 .1 .1 .1 .1 .1 .1 .0 ∙ i .0 .3),
       (total-more _ slot _ _ (i .1 .0) (r .1), total-more _ slot _ _ (i .1 .1) (r .2)),
       r .0,
     )

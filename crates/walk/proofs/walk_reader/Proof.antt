@@ -42,8 +42,8 @@ returns c =
         λ s j asked.
             let i = asked .reader-is in
             let course =
-            course-of s j (a .present .now) (a .look) (a .time) (a .distance) (a .r) (go .result) (after-next-key .next-key .result) (n .result) asked f
-            (go .ensures .0) (λ q. go .ensures .1 s q (asked .look-is) (asked .time-is)) (after-next-key .next-key .ensures) (n .ensures) in
+            course-of s j (a .cached .now) (a .fetching .now) (a .look) (a .time) (a .distance) (a .r) (go .result) (after-next-key .next-key .result)
+            (n .result) asked f (go .ensures .0) (λ q. go .ensures .1 s q (asked .look-is) (asked .time-is)) (after-next-key .next-key .ensures) (n .ensures) in
             let most : n .result ≡ min (readerAt s j .last - readerAt s j .position) (s .«look_ahead» / readerAt s j .pace) =
             rw (i, asked .look-is) (n .ensures) in
             walk-ends s j (go .result) (after-next-key .next-key .result) (n .result) course most (a .table .now) _ (w .result .end)

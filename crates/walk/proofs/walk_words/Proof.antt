@@ -17,13 +17,13 @@ use Rattle.walk.proofs.walk_words.Statement.{statement}
 use Rattle.walk.proofs.walk_words.Tie as tie
 
 abbrev Inv-loop : tie.InvT-loop
-Inv-loop present from reach go distance table₀ at₀ words₀ table at words =
+Inv-loop cached fetching from reach go distance table₀ at₀ words₀ table at words =
     (Small go at × (at .tested ≤ reach) × (length table ≡ 8192))
     × ((words ≡ spanned from (at .tested)) × (at .tested < reach → at .missing < go .most → Fresh from (at .tested)))
-    × ((s : State) (j : ℕ) → Course s j go from reach → Presents s present → seat s j ≡ distance → Along s j table₀ table at)
+    × ((s : State) (j : ℕ) → Course s j go from reach → Presents s cached fetching → seat s j ≡ distance → Along s j table₀ table at)
 
 abbrev μ-loop : tie.MeasureT-loop
-μ-loop present from reach go distance table₀ at₀ words₀ table at words = reach - at .tested
+μ-loop cached fetching from reach go distance table₀ at₀ words₀ table at words = reach - at .tested
 
 abbrev start : tie.At-loop Inv-loop μ-loop → tie.Start Inv-loop μ-loop
 start c = c .before .before .before
@@ -48,11 +48,11 @@ end-low c =
 
 -- a word's walk tests a page at least
 further : (c : tie.After-walk-word Inv-loop μ-loop) →
-    let after-lesser = c .before .before .before in
+    let after-lesser = c .before .before .before .before in
     let at-loop = turn after-lesser in
     (at-loop .loop .at .tested < c .walk-word .result .tested) × (c .walk-word .result .tested ≤ start at-loop .args .reach)
 further c =
-    let after-lesser = c .before .before .before in
+    let after-lesser = c .before .before .before .before in
     let then-2 = after-lesser .before .before .before in
     let l = end-low after-lesser in
     let f = c .walk-word .ensures .0 .1 in
@@ -62,13 +62,13 @@ further c =
 
 -- the words of the pages that are tested now are one more; and where the walk goes on, it has come to the border
 counted : (c : tie.After-walk-word Inv-loop μ-loop) →
-    let after-lesser = c .before .before .before in
+    let after-lesser = c .before .before .before .before in
     let at-loop = turn after-lesser in
     let a = start at-loop .args in
     let r = c .walk-word .result in
     (at-loop .loop .words + 1 ≡ spanned (a .from) (r .tested)) × (r .tested < a .reach → r .missing < a .go .most → Fresh (a .from) (r .tested))
 counted c =
-    let after-lesser = c .before .before .before in
+    let after-lesser = c .before .before .before .before in
     let then-2 = after-lesser .before .before .before in
     let at-loop = turn after-lesser in
     let a = start at-loop .args in
@@ -90,8 +90,8 @@ from-start : (c : tie.At-loop Inv-loop μ-loop) →
     → Further (start c .args .go) (start c .args .reach) (atStart (start c .args .go) (start c .args .distance)) (c .loop .at)
 from-start c ends = record { on = omega arith; within = c .loop .inv .0 .1; gaps = omega (arith, c .loop .inv .0 .0 .missing-high); ends = ends }
 
-add-t12 : tie.Need-add-t12 Inv-loop μ-loop
-add-t12 c = search needs
+add-t14 : tie.Need-add-t14 Inv-loop μ-loop
+add-t14 c = search needs
 
 loop-holds : tie.Need-loop-holds Inv-loop μ-loop
 loop-holds c =
@@ -136,9 +136,15 @@ mul-walk-word c = search needs
 element-copy-out-walk-word : tie.Need-element-copy-out-walk-word Inv-loop μ-loop
 element-copy-out-walk-word c = search needs
 
+mul-walk-word-2 : tie.Need-mul-walk-word-2 Inv-loop μ-loop
+mul-walk-word-2 c = search needs
+
+element-copy-out-walk-word-2 : tie.Need-element-copy-out-walk-word-2 Inv-loop μ-loop
+element-copy-out-walk-word-2 c = search needs
+
 walk-word-requires : tie.Need-walk-word-requires Inv-loop μ-loop
 walk-word-requires c κs =
-    let after-lesser = c .before .before in
+    let after-lesser = c .before .before .before in
     let at-loop = turn after-lesser in
     let at-start = start at-loop in
     let i = at-loop .loop .inv .0 in
@@ -154,7 +160,7 @@ loop-less c =
 loop-again : tie.Need-loop-again Inv-loop μ-loop
 loop-again c =
     let after-walk-word = c .before .before in
-    let after-lesser = after-walk-word .before .before .before in
+    let after-lesser = after-walk-word .before .before .before .before in
     let at-loop = turn after-lesser in
     let a = start at-loop .args in
     let at = at-loop .loop .at in
@@ -164,7 +170,7 @@ loop-again c =
       counted after-walk-word,
       λ s j course shows seat-is.
           e .1 s j (a .table .now) (course-less s j (a .go) (a .from) (a .reach) (after-lesser .lesser .result) course (omega (arith, l)))
-          (word-shown s (a .present .now) (a .from) (at .tested) (after-lesser .lesser .result) shows (omega (arith, l)))
+          (word-shown s (a .cached .now) (a .fetching .now) (a .from) (at .tested) (after-lesser .lesser .result) shows (omega (arith, l)))
           (at-loop .loop .inv .2 s j course shows seat-is),
     )
 
@@ -192,7 +198,7 @@ walk-words-spec =
     (tie.spec
     Inv-loop
     μ-loop
-    add-t12
+    add-t14
     loop-holds
     add-key
     add-border
@@ -201,6 +207,8 @@ walk-words-spec =
     add-words
     mul-walk-word
     element-copy-out-walk-word
+    mul-walk-word-2
+    element-copy-out-walk-word-2
     walk-word-requires
     loop-less
     loop-again
