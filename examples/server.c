@@ -203,17 +203,18 @@ static int keep(const struct server *s, const char *path)
     return fclose(f) == 0 && n == sizeof s->image;
 }
 
-/* Comes back from the file, which an older version may have left. What was on the link is lost with the process, so every open fetch
+/* Comes back from the file, which any older version may have left. What was on the link is lost with the process, so every open fetch
  * is closed. */
 static int resume(struct server *s, unsigned tick, const char *path)
 {
+    uint8_t bytes[QUAY_IMAGE_SIZE + 1]; /* one more, so that a longer file is refused too */
     FILE *f = fopen(path, "rb");
     if (!f)
         return 0;
-    size_t n = fread(s->image, 1, sizeof s->image, f);
+    size_t n = fread(bytes, 1, sizeof bytes, f);
     fclose(f);
     s->on_link = 0;
-    if (quay_refused(quay_upgrade_image(s->image, sizeof s->image, s->image, n)))
+    if (quay_refused(quay_upgrade_image(s->image, sizeof s->image, bytes, n)))
         return 0;
     for (unsigned page = 1; page <= FILE_PAGES; page++) {
         uint64_t answer = quay_lost(s->image, sizeof s->image, 0, page);

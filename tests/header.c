@@ -78,6 +78,31 @@ static void first_image(void)
     IS(quay_attach(BOX, 0, 0, 10, 0, 0), QUAY_NO_FILE);
 }
 
+/* The same with a rule and expected readers, of a file without pages too, which the box then keeps. */
+static void first_image_by_rule(void)
+{
+    static uint8_t wanted[sizeof image];
+    const uint64_t sizes[8] = {5, 0, 0, 0, 0, 0, 0, 1024}, none[8] = {0}, expected[8] = {0x102, 1000, 0, 0, 0, 0, 0, 999};
+    for (unsigned rule = QUAY_RULE_1989; rule <= QUAY_RULE_1993; rule++) {
+        start();
+        put(QUAY_AT_RULE, 1, rule);
+        put(QUAY_AT_EXPECTED, 2, 0x102);
+        put(QUAY_AT_EXPECTED + 2 * 1, 2, 1000);
+        put(QUAY_AT_EXPECTED + 2 * 7, 2, 999);
+        image[QUAY_IMAGE_SIZE] = 0xa5;
+        memcpy(wanted, image, sizeof image);
+        memset(image, 0xa5, sizeof image);
+        SAYS(quay_first_image_by_rule(BOX, 2, 100, 20, sizes, rule, expected), QUAY_DONE, 0, 0);
+        IS(memcmp(image, wanted, sizeof image), 0);
+        IS(quay_refused(quay_run(BOX, 0)), 0);
+        IS(memcmp(image, wanted, sizeof image), 0);
+    }
+    SAYS(quay_first_image(BOX, 2, 100, 20, sizes), QUAY_DONE, 0, 0);
+    memcpy(wanted, image, sizeof image);
+    SAYS(quay_first_image_by_rule(BOX, 2, 100, 20, sizes, QUAY_RULE_1989, none), QUAY_DONE, 0, 0);
+    IS(memcmp(image, wanted, sizeof image), 0);
+}
+
 /* Settings out of range, also ones that only their high half puts there, and other lengths; the buffer stays. */
 static void refused_first_images(void)
 {
@@ -99,6 +124,29 @@ static void refused_first_images(void)
     IS(quay_first_image(image, 0, 2, 100, 20, sizes), QUAY_BAD_IMAGE);
     IS(quay_first_image(image, QUAY_IMAGE_SIZE - 1, 2, 100, 20, sizes), QUAY_BAD_IMAGE);
     IS(quay_first_image(image, QUAY_IMAGE_SIZE + 1, 0, 100, 20, sizes), QUAY_BAD_IMAGE);
+    IS(memcmp(image, before, sizeof image), 0);
+}
+
+/* Rules and expected readers out of range, under either rule, and a length that is no image's any more. */
+static void refused_rules(void)
+{
+    static uint8_t before[sizeof image];
+    const uint64_t wide = (uint64_t)1 << 32, sizes[8] = {5}, large[8] = {1025};
+    const uint64_t none[8] = {0}, many[8] = {0, 0, 0, 0, 0, 0, 0, 1001}, huge[8] = {wide};
+    start();
+    memset(image, 0xa5, sizeof image);
+    memcpy(before, image, sizeof image);
+    IS(quay_first_image_by_rule(BOX, 2, 100, 20, sizes, 2, none), QUAY_BAD_SETTINGS);
+    IS(quay_first_image_by_rule(BOX, 2, 100, 20, sizes, 256, none), QUAY_BAD_SETTINGS);
+    IS(quay_first_image_by_rule(BOX, 2, 100, 20, sizes, wide + 1, none), QUAY_BAD_SETTINGS);
+    for (uint64_t rule = QUAY_RULE_1989; rule <= QUAY_RULE_1993; rule++) {
+        IS(quay_first_image_by_rule(BOX, 2, 100, 20, sizes, rule, many), QUAY_BAD_SETTINGS);
+        IS(quay_first_image_by_rule(BOX, 2, 100, 20, sizes, rule, huge), QUAY_BAD_SETTINGS);
+        IS(quay_first_image_by_rule(BOX, 2, 100, 20, large, rule, none), QUAY_BAD_SETTINGS);
+        IS(quay_first_image_by_rule(BOX, 0, 100, 20, sizes, rule, none), QUAY_BAD_SETTINGS);
+        IS(quay_first_image_by_rule(image, QUAY_IMAGE_SIZE_V3, 2, 100, 20, sizes, rule, none), QUAY_BAD_IMAGE);
+    }
+    IS(quay_first_image_by_rule(image, QUAY_IMAGE_SIZE + 1, 2, 100, 20, sizes, 2, many), QUAY_BAD_IMAGE);
     IS(memcmp(image, before, sizeof image), 0);
 }
 
@@ -124,7 +172,7 @@ static void refusals(void)
     IS(quay_measure(BOX, 0, 0, 0), QUAY_BAD_INTERVAL);
     IS(quay_measure(BOX, 0, 1000001, 0), QUAY_BAD_INTERVAL);
     IS(quay_measure(BOX, 0, 1000000, 1000001), QUAY_BAD_INTERVAL);
-    const size_t lengths[] = {0, QUAY_IMAGE_SIZE_V1, QUAY_IMAGE_SIZE - 1, QUAY_IMAGE_SIZE + 1};
+    const size_t lengths[] = {0, QUAY_IMAGE_SIZE_V1, QUAY_IMAGE_SIZE_V3, QUAY_IMAGE_SIZE - 1, QUAY_IMAGE_SIZE + 1};
     for (size_t i = 0; i < sizeof lengths / sizeof *lengths; i++) {
         length = lengths[i];
         IS(quay_attach(BOX, 1, 0, 10, 0, 5), QUAY_BAD_IMAGE);
@@ -284,34 +332,60 @@ static void paced_while_waiting(void)
     IS(quay_read(BOX, 0), QUAY_READER_WAITS);
 }
 
-/* An image of version 1, a reader with a last page of its own in it: what it is upgraded to, in another buffer and in its own. */
+/* What an older image is upgraded to, in another buffer and in its own. */
+static void upgrades(const uint8_t *older, size_t older_length, const uint8_t *newer)
+{
+    static uint8_t copy[QUAY_IMAGE_SIZE];
+    memcpy(copy, older, older_length);
+    IS(quay_steal(copy, older_length), QUAY_BAD_IMAGE);
+    memset(image, 0xa5, sizeof image);
+    SAYS(quay_upgrade_image(BOX, older, older_length), QUAY_DONE, 0, 0);
+    IS(memcmp(image, newer, sizeof image), 0);
+    memset(image, 0xa5, sizeof image);
+    memcpy(image, older, older_length);
+    SAYS(quay_upgrade_image(BOX, image, older_length), QUAY_DONE, 0, 0);
+    IS(memcmp(image, newer, sizeof image), 0);
+    SAYS(quay_upgrade_image(BOX, image, length), QUAY_DONE, 0, 0);
+    IS(memcmp(image, newer, sizeof image), 0);
+    SAYS(quay_read(BOX, 0), QUAY_END, 0, 0);
+    IS(memcmp(image, newer, sizeof image), 0);
+}
+
+/* An image of version 1, a reader with a last page of its own in it; and one of version 3, with marks of its own. */
 static void older_images(void)
 {
-    static uint8_t older[QUAY_IMAGE_SIZE_V1], newer[sizeof image];
+    static uint8_t older[QUAY_IMAGE_SIZE_V3], newer[sizeof image];
     start();
     seat(0, 1, 5, 0);
     seat(3, 1, 2, 4);
     seat(15, 1, 0, 0);
-    memcpy(older, image, sizeof older);
+    memcpy(older, image, QUAY_IMAGE_SIZE_V1);
     seat(0, 1, 5, 5);
     seat(15, 1, 0, 5);
     put(QUAY_AT_MARKS, 2, 5);
     put(QUAY_AT_MARKS + 2 * 3, 2, 2);
     image[QUAY_IMAGE_SIZE] = 0xa5;
     memcpy(newer, image, sizeof image);
+    upgrades(older, QUAY_IMAGE_SIZE_V1, newer);
 
-    IS(quay_steal(older, sizeof older), QUAY_BAD_IMAGE);
-    memset(image, 0xa5, sizeof image);
-    SAYS(quay_upgrade_image(BOX, older, sizeof older), QUAY_DONE, 0, 0);
-    IS(memcmp(image, newer, sizeof image), 0);
-    memset(image, 0xa5, sizeof image);
-    memcpy(image, older, sizeof older);
-    SAYS(quay_upgrade_image(BOX, image, sizeof older), QUAY_DONE, 0, 0);
-    IS(memcmp(image, newer, sizeof image), 0);
-    SAYS(quay_upgrade_image(BOX, image, length), QUAY_DONE, 0, 0);
-    IS(memcmp(image, newer, sizeof image), 0);
-    SAYS(quay_read(BOX, 0), QUAY_END, 0, 0);
-    IS(memcmp(image, newer, sizeof image), 0);
+    put(QUAY_AT_MARKS, 2, 4);
+    put(QUAY_AT_MARKS + 2 * 3, 2, 0);
+    memcpy(older, image, QUAY_IMAGE_SIZE_V3);
+    memcpy(newer, image, sizeof image);
+    upgrades(older, QUAY_IMAGE_SIZE_V3, newer);
+}
+
+/* The newest image is copied as it is, its rule, its expected readers and its attaches too. */
+static void newest_image(void)
+{
+    static uint8_t copy[sizeof image];
+    const uint64_t sizes[8] = {5}, expected[8] = {7, 1000};
+    start();
+    quay_first_image_by_rule(BOX, 2, 100, 20, sizes, QUAY_RULE_1993, expected);
+    SAYS(quay_attach(BOX, 0, 0, 10, 0, 5), QUAY_DONE, 0, 0);
+    memset(copy, 0xa5, sizeof copy);
+    SAYS(quay_upgrade_image(copy, length, image, length), QUAY_DONE, 0, 0);
+    IS(memcmp(copy, image, length), 0);
 }
 
 /* Lengths that are no image's, and bytes that are none: the buffer stays, or the next call refuses it. */
@@ -324,9 +398,12 @@ static void refused_upgrades(void)
     IS(quay_upgrade_image(BOX, older, 0), QUAY_BAD_IMAGE);
     IS(quay_upgrade_image(BOX, older, QUAY_IMAGE_SIZE_V1 - 1), QUAY_BAD_IMAGE);
     IS(quay_upgrade_image(BOX, older, QUAY_IMAGE_SIZE_V1 + 1), QUAY_BAD_IMAGE);
+    IS(quay_upgrade_image(BOX, older, QUAY_IMAGE_SIZE_V3 - 1), QUAY_BAD_IMAGE);
+    IS(quay_upgrade_image(BOX, older, QUAY_IMAGE_SIZE_V3 + 1), QUAY_BAD_IMAGE);
     IS(quay_upgrade_image(BOX, older, QUAY_IMAGE_SIZE - 1), QUAY_BAD_IMAGE);
     IS(quay_upgrade_image(BOX, older, QUAY_IMAGE_SIZE + 1), QUAY_BAD_IMAGE);
     IS(quay_upgrade_image(image, QUAY_IMAGE_SIZE - 1, older, QUAY_IMAGE_SIZE_V1), QUAY_BAD_IMAGE);
+    IS(quay_upgrade_image(image, QUAY_IMAGE_SIZE_V3, older, QUAY_IMAGE_SIZE_V3), QUAY_BAD_IMAGE);
     IS(quay_upgrade_image(image, QUAY_IMAGE_SIZE + 1, older, QUAY_IMAGE_SIZE), QUAY_BAD_IMAGE);
     IS(memcmp(image, before, sizeof image), 0);
     SAYS(quay_upgrade_image(BOX, older, QUAY_IMAGE_SIZE_V1), QUAY_DONE, 0, 0); /* no frames */
@@ -335,6 +412,12 @@ static void refused_upgrades(void)
     older[QUAY_AT_READERS + 1] = 8; /* no such file, so its last page stays 0 */
     SAYS(quay_upgrade_image(BOX, older, QUAY_IMAGE_SIZE_V1), QUAY_DONE, 0, 0);
     IS(number_at(QUAY_AT_READERS + 6), 0);
+    start();
+    seat(0, 1, 2, 0); /* a last page of 0, in a length that has none */
+    memcpy(older, image, sizeof older);
+    SAYS(quay_upgrade_image(BOX, older, QUAY_IMAGE_SIZE_V3), QUAY_DONE, 0, 0);
+    IS(memcmp(image, older, length), 0);
+    IS(quay_steal(BOX), QUAY_BAD_IMAGE);
 }
 
 /* Whether the box takes an image with this value at this place. */
@@ -415,6 +498,73 @@ static void ranges(void)
     IS(takes(QUAY_AT_SIZES + 2 * 7, 2, 1025), 0);
 }
 
+/* The ranges of the rule, the byte behind it, the expected readers and the attaches. */
+static void rule_ranges(void)
+{
+    IS(takes(QUAY_AT_RULE, 1, QUAY_RULE_1989), 1);
+    IS(takes(QUAY_AT_RULE, 1, QUAY_RULE_1993), 1);
+    IS(takes(QUAY_AT_RULE, 1, 2), 0);
+    IS(takes(QUAY_AT_RULE, 1, 255), 0);
+    IS(takes(QUAY_AT_RULE + 1, 1, 1), 0);
+    IS(takes(QUAY_AT_RULE + 1, 1, 128), 0);
+    for (size_t file = 0; file < 8; file++) {
+        IS(takes(QUAY_AT_EXPECTED + 2 * file, 2, 1000), 1);
+        IS(takes(QUAY_AT_EXPECTED + 2 * file, 2, 1001), 0);
+        IS(takes(QUAY_AT_EXPECTED + 2 * file, 2, 65535), 0);
+        IS(takes(QUAY_AT_ATTACHES + 2 * file, 2, 65535), 1);
+    }
+}
+
+/* R counts what is attached and not what is refused, under either rule, forgets no reader that is gone, and stops at 65,535. */
+static void attaches(uint8_t rule)
+{
+    start();
+    put(QUAY_AT_RULE, 1, rule);
+    put(QUAY_AT_ATTACHES, 2, 65533);
+    SAYS(quay_attach(BOX, 3, 7, 10, 0, 1024), QUAY_DONE, 0, 0);
+    IS(quay_attach(BOX, 3, 7, 10, 0, 1024), QUAY_SLOT_TAKEN);
+    SAYS(quay_detach(BOX, 3), QUAY_DONE, 0, 0);
+    SAYS(quay_attach(BOX, 3, 7, 10, 9, 1024), QUAY_DONE, 0, 0);
+    IS(number_at(QUAY_AT_ATTACHES + 2 * 7), 2);
+    IS(number_at(QUAY_AT_ATTACHES), 65533);
+    for (unsigned slot = 4; slot < 8; slot++)
+        SAYS(quay_attach(BOX, slot, 0, 10, 0, 5), QUAY_DONE, 0, 0);
+    IS(number_at(QUAY_AT_ATTACHES), 65535);
+    IS(number_at(QUAY_AT_ATTACHES + 2 * 1), 0);
+    IS(number_at(QUAY_AT_EXPECTED), 0);
+    IS(image[QUAY_AT_RULE], rule);
+}
+
+/* Four frames, all taken: pages 1 to 3 of file 0, page 8 of file 1, no reader; file 0 is expected so often. */
+static void full(uint64_t rule, uint64_t expected)
+{
+    const uint64_t sizes[8] = {8, 8}, both[8] = {expected, 1};
+    length = QUAY_IMAGE_SIZE;
+    SAYS(quay_first_image_by_rule(BOX, 4, 100, 0, sizes, rule, both), QUAY_DONE, 0, 0);
+    image[QUAY_AT_CACHED] = 7;
+    image[QUAY_AT_CACHED + 128] = 0x80;
+}
+
+/* The two rules drop in another order; with more readers to come a file keeps more, until they have come. */
+static void rules(void)
+{
+    full(QUAY_RULE_1989, 1);
+    SAYS(quay_steal(BOX), QUAY_STOLEN, 1, 8);
+    SAYS(quay_steal(BOX), QUAY_STOLEN, 0, 3);
+    full(QUAY_RULE_1993, 1); /* 3 - 2 against 1 - 2 */
+    SAYS(quay_steal(BOX), QUAY_STOLEN, 0, 3);
+    SAYS(quay_steal(BOX), QUAY_STOLEN, 0, 2);
+    SAYS(quay_steal(BOX), QUAY_STOLEN, 1, 8);
+    SAYS(quay_steal(BOX), QUAY_STOLEN, 0, 1);
+    SAYS(quay_steal(BOX), QUAY_NOTHING, 0, 0);
+    full(QUAY_RULE_1993, 3); /* 3 - 3 against 1 - 1: the higher file */
+    SAYS(quay_steal(BOX), QUAY_STOLEN, 1, 8);
+    full(QUAY_RULE_1993, 3); /* one has come, 3 - 8/3 against 1 - 4/3: page 3 is past its last */
+    SAYS(quay_attach(BOX, 0, 0, 10, 0, 2), QUAY_DONE, 0, 0);
+    image[QUAY_AT_FETCHING] = 0x10;
+    SAYS(quay_arrive(BOX, 0, 5), QUAY_ARRIVED, 0, 3);
+}
+
 /* The inline functions at their limits; Runs of 300 and of 16,384 fetches. */
 static void limits(void)
 {
@@ -448,7 +598,9 @@ int main(void)
 {
     version();
     first_image();
+    first_image_by_rule();
     refused_first_images();
+    refused_rules();
     refusals();
     refusals_in_order();
     wide_numbers();
@@ -457,10 +609,15 @@ int main(void)
     paces();
     paced_while_waiting();
     older_images();
+    newest_image();
     refused_upgrades();
     ranges();
     reader_ranges();
     mark_ranges();
+    rule_ranges();
+    attaches(QUAY_RULE_1989);
+    attaches(QUAY_RULE_1993);
+    rules();
     limits();
     if (failed > 0)
         printf("quay.h is not the archive's: %u faults\n", failed);

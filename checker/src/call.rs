@@ -47,21 +47,52 @@ pub enum Call {
 /// it. It changes the buffer and returns the number.
 pub type Entry = fn(&mut [u8], Call) -> u64;
 
-/// What Setup takes: "frames, L, T, eight sizes". The numbers are as they come.
+/// What Setup takes: "frames, L, T, eight sizes", and by A.6 the rule and "the number
+/// E of expected readers a file". The numbers are as they come.
 #[derive(Clone, Copy, Debug, PartialEq, Eq)]
-#[allow(missing_docs)] // the fields are the paper's own words
+#[allow(missing_docs)] // the fields are the papers' own words
 pub struct Settings {
     pub frames: u64,
     pub look_ahead: u64,
     pub fetch_time: u64,
     pub sizes: [u64; FILES as usize],
+    pub rule: u64,
+    pub expected: [u64; FILES as usize],
 }
 
-/// Something that writes a first image into a buffer: the header's function, or
-/// what stands for it. It changes the buffer and returns the number.
+impl Settings {
+    /// What an S line sets: "1989, E 0".
+    pub fn of_1989(
+        frames: u64,
+        look_ahead: u64,
+        fetch_time: u64,
+        sizes: [u64; FILES as usize],
+    ) -> Settings {
+        Settings {
+            frames,
+            look_ahead,
+            fetch_time,
+            sizes,
+            rule: 0,
+            expected: [0; FILES as usize],
+        }
+    }
+}
+
+/// Something that writes a first image into a buffer: one of the header's functions,
+/// or what stands for it. It changes the buffer and returns the number.
 pub type First = fn(&mut [u8], &Settings) -> u64;
 
-/// Where the image lies that is to be made one of 2,240 bytes.
+/// Something that does Setup of numbers, frames, L, T, eight sizes, rule and eight E,
+/// and saves the state into a buffer of any length: Setup and Save themselves, or what
+/// stands for them. A number that is missing is 0, further ones are not looked at. It
+/// returns Setup's number + 4,294,967,296 × Save's.
+pub type SetupProbe = fn(&[u64], &mut [u8]) -> u64;
+
+/// How many numbers Setup takes.
+pub const SETUP_NUMBERS: usize = 20;
+
+/// Where the image lies that is to be made one of 2,274 bytes.
 #[derive(Clone, Copy, Debug, PartialEq, Eq)]
 pub enum Older<'a> {
     /// In bytes of its own.
@@ -70,7 +101,7 @@ pub enum Older<'a> {
     InPlace(usize),
 }
 
-/// Something that writes into a buffer the image of 2,240 bytes that an older one
+/// Something that writes into a buffer the image of 2,274 bytes that an older one
 /// stands for: the header's function, or what stands for it. It changes the buffer
 /// and returns the number.
 pub type Upgrade = fn(&mut [u8], Older) -> u64;

@@ -1,5 +1,5 @@
 //! A state as a picture and two tables, and when pages will be read, for people to
-//! read.
+//! read; under the rule of 1993 a third table, of what the files weigh.
 //!
 //! An aid outside the proofs: what it shows is the model's, and tests compare
 //! its orders with the program's own.
@@ -10,18 +10,25 @@ mod questions;
 mod svg;
 mod tables;
 mod text;
+mod weights;
 
 pub use picture::{Mark, PageRow, ReaderMark, Shown, Sign, Strip};
 pub use tables::{Row, Stretch, Use};
+pub use weights::{Weighed, Weights};
 
-use crate::limits::OLDER_IMAGE_BYTES;
-use crate::model::{follow, Page, State};
+use crate::limits::{MARKED_IMAGE_BYTES, OLDER_IMAGE_BYTES};
+use crate::model::{follow, Page, Rule, State};
 
 /// What both forms say.
 const TITLE: &str = "The quay box, explained";
 const NOTE: &str = "An aid outside the proofs.";
 const ASKED: &str = "Pages asked about";
 const TIES: &str = "The seat distance is shown where use times are equal: there it decides.";
+
+/// What both forms say of the steal order under the rule of 1993.
+const LEFT: &str =
+    "In the steal order, cached is how many pages its file still has when a page's turn comes.";
+const IN_FILES: &str = "In the steal order it decides between pages of one file only.";
 
 /// What both forms say of q, where it counts.
 const TIMES: &str =
@@ -52,6 +59,8 @@ pub struct Explained {
     pub steal: Vec<Row>,
     /// The fetch order.
     pub fetch: Vec<Row>,
+    /// What the files weigh, under the rule of 1993.
+    pub weights: Option<Weights>,
     /// Whether every row is shown, of the files and of the orders.
     pub every_row: bool,
     /// When the pages will be read that were asked about, a sentence for each.
@@ -84,8 +93,9 @@ impl Explained {
         Explained {
             sentences,
             strips: picture::strips(state),
-            steal: tables::rows(state, state.steal_order()),
-            fetch: tables::rows(state, state.fetch_order()),
+            steal: tables::steal_rows(state),
+            fetch: tables::fetch_rows(state),
+            weights: (state.rule == Rule::Of1993).then(|| Weights::of(state)),
             every_row: false,
             asked: Vec::new(),
             state: state.clone(),
@@ -110,6 +120,9 @@ impl Explained {
                 "The state of an older image, of {OLDER_IMAGE_BYTES} bytes: \
                  each mark is where its reader is."
             ),
+            MARKED_IMAGE_BYTES => {
+                format!("The state of an older image, of {MARKED_IMAGE_BYTES} bytes.")
+            }
             _ => "The state of a saved image.".to_string(),
         };
         explained.sentences.insert(0, sentence);
@@ -147,10 +160,15 @@ impl Explained {
 
     /// What is said under the orders. Without a fetch time q does not count.
     fn notes(&self) -> Vec<&'static str> {
-        match self.state.fetch_time {
-            0 => vec![TIES],
-            _ => vec![TIMES, TIES],
+        let mut notes = Vec::new();
+        if self.state.fetch_time > 0 {
+            notes.push(TIMES);
         }
+        match self.state.rule {
+            Rule::Of1989 => notes.push(TIES),
+            Rule::Of1993 => notes.extend([LEFT, TIES, IN_FILES]),
+        }
+        notes
     }
 
     /// The pages of the steal order.

@@ -1,7 +1,7 @@
 //! The box itself, through its C entries: "calls the box on numbers and an
-//! image buffer"; the header's first image and its upgrade of an older one, through
-//! `ffi.c`; Restore and Save by themselves; Steal list and Fetch list with what they
-//! report; and when pages will be read.
+//! image buffer"; the header's first images and its upgrade of an older one, through
+//! `ffi.c`; Setup, Restore and Save by themselves; Steal list and Fetch list with what
+//! they report; and when pages will be read.
 
 #![allow(unsafe_code)]
 
@@ -33,9 +33,20 @@ extern "C" {
         fetch_time: u64,
         sizes: *const u64,
     ) -> u64;
+    fn header_first_image_by_rule(
+        image: *mut u8,
+        len: usize,
+        frames: u64,
+        look_ahead: u64,
+        fetch_time: u64,
+        sizes: *const u64,
+        rule: u64,
+        expected: *const u64,
+    ) -> u64;
     fn header_upgrade_image(image: *mut u8, len: usize, old: *const u8, old_len: usize) -> u64;
     fn probe_restore(image: *const u8, image_len: usize, buffer: *mut u8, buffer_len: usize)
         -> u64;
+    fn probe_setup(numbers: *const u64, count: usize, buffer: *mut u8, buffer_len: usize) -> u64;
     fn probe_steal_list(image: *const u8, image_len: usize, list: *mut u16, room: usize) -> u64;
     fn probe_fetch_list(image: *const u8, image_len: usize, list: *mut u16, room: usize) -> u64;
     fn probe_when_read(
@@ -78,20 +89,42 @@ pub fn entry(image: &mut [u8], call: Call) -> u64 {
     }
 }
 
-/// A first image by the inline function of `quay.h`.
+/// A first image by the inline function of `quay.h` that takes no rule and no E: "1989,
+/// E 0".
 pub fn first_image(image: &mut [u8], settings: &Settings) -> u64 {
     let Settings {
         frames,
         look_ahead,
         fetch_time,
         ref sizes,
+        ..
     } = *settings;
     let (at, len) = (image.as_mut_ptr(), image.len());
     // SAFETY: as for an entry; and it may read the eight sizes.
     unsafe { header_first_image(at, len, frames, look_ahead, fetch_time, sizes.as_ptr()) }
 }
 
-/// An older image made one of 2,240 bytes by the inline function of `quay.h`.
+/// A first image by the inline function of `quay.h` that takes all settings.
+pub fn first_image_by_rule(image: &mut [u8], settings: &Settings) -> u64 {
+    let Settings {
+        frames,
+        look_ahead,
+        fetch_time,
+        ref sizes,
+        rule,
+        ref expected,
+    } = *settings;
+    let (at, len) = (image.as_mut_ptr(), image.len());
+    let (sizes, expected) = (sizes.as_ptr(), expected.as_ptr());
+    // SAFETY: as for an entry; and it may read the eight sizes and the eight E.
+    unsafe {
+        header_first_image_by_rule(
+            at, len, frames, look_ahead, fetch_time, sizes, rule, expected,
+        )
+    }
+}
+
+/// An older image made one of 2,274 bytes by the inline function of `quay.h`.
 pub fn upgrade_image(image: &mut [u8], older: Older) -> u64 {
     let (at, len) = (image.as_mut_ptr(), image.len());
     let (old, old_len) = match older {
@@ -109,6 +142,14 @@ pub fn probe(image: &[u8], buffer: &mut [u8]) -> u64 {
     // SAFETY: it may read the image, and read and write the buffer, which is lent to
     // it alone.
     unsafe { probe_restore(image.as_ptr(), image.len(), at, len) }
+}
+
+/// Setup of numbers and Save into a buffer, by the box.
+pub fn setup(numbers: &[u64], buffer: &mut [u8]) -> u64 {
+    let (at, len) = (buffer.as_mut_ptr(), buffer.len());
+    // SAFETY: it may read the numbers, and read and write the buffer, which is lent to
+    // it alone.
+    unsafe { probe_setup(numbers.as_ptr(), numbers.len(), at, len) }
 }
 
 /// The list of an order on an image, by the box.

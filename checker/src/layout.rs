@@ -3,7 +3,7 @@
 //! Quick and the trials go by this table. The model does not: it writes and
 //! reads an image piece by piece, so that each tries the other.
 
-use crate::limits::{IMAGE_BYTES, OLDER_IMAGE_BYTES};
+use crate::limits::{IMAGE_BYTES, MARKED_IMAGE_BYTES, OLDER_IMAGE_BYTES};
 use std::ops::Range;
 
 /// "frames (2)".
@@ -48,6 +48,18 @@ pub const IN_FETCH: usize = 1_184;
 /// "sixteen 2-byte marks at its end". An older image ends here.
 pub const MARKS: usize = OLDER_IMAGE_BYTES;
 
+/// "a rule byte". An image of 2,240 bytes ends here.
+pub const RULE: usize = MARKED_IMAGE_BYTES;
+
+/// "a 0 byte".
+pub const FILLER: usize = 2_241;
+
+/// "then eight 2-byte E".
+pub const EXPECTED: usize = 2_242;
+
+/// "and eight R".
+pub const ATTACHES: usize = 2_258;
+
 /// Behind the last piece.
 pub const END: usize = IMAGE_BYTES;
 
@@ -69,6 +81,16 @@ pub fn last_page(slot: usize) -> Range<usize> {
 /// The bytes of a slot's mark.
 pub fn mark(slot: usize) -> Range<usize> {
     two(MARKS + 2 * slot)
+}
+
+/// The bytes of a file's E.
+pub fn expected(file: usize) -> Range<usize> {
+    two(EXPECTED + 2 * file)
+}
+
+/// The bytes of a file's R.
+pub fn attaches(file: usize) -> Range<usize> {
+    two(ATTACHES + 2 * file)
 }
 
 fn two(at: usize) -> Range<usize> {

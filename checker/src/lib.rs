@@ -9,15 +9,15 @@
 //!   first; this is what everything else is held to.
 //! * [`quick`]: the same rules on flat arrays, the yardstick of the benchmarks.
 //! * `ffi` (feature `box`): the box itself, through its C entries, its header, and
-//!   by themselves Restore, Save, the two lists and when pages will be read.
+//!   by themselves Setup, Restore, Save, the two lists and when pages will be read.
 //! * [`process`]: the program `quay` itself, as a process that gets a [`feed`].
 //! * [`scene`]: random valid states, random calls, random questions and random
 //!   streams of lines, from [`random`] dice.
 //! * [`cases`]: what a call meets that its answer does not tell.
 //! * [`trial`]: what holds an [`Entry`](call::Entry), a [`Lister`](call::Lister), a
 //!   [`WhenRead`](call::WhenRead) or a [`Program`](feed::Program) to the model.
-//! * [`explain`]: a state as a picture and two tables, and when pages will be read,
-//!   for people to read.
+//! * [`explain`]: a state as a picture and two tables, what its files weigh, and when
+//!   pages will be read, for people to read.
 
 #![deny(unsafe_code)]
 #![warn(missing_docs)]

@@ -1,5 +1,6 @@
 //! The paper's bounds, each with its sentence.
 
+use crate::call::Settings;
 use std::ops::RangeInclusive;
 
 /// "Files are 0 to 7": how many there are.
@@ -36,12 +37,27 @@ pub const INTERVAL: RangeInclusive<u64> = 1..=1_000_000;
 /// "the server puts up to 1,024 questions at a time".
 pub const MOST_QUESTIONS: usize = 1_024;
 
-/// "The image grows to 2,240 bytes", and "Saving and the C buffer use the new
-/// length".
-pub const IMAGE_BYTES: usize = 2_240;
+/// A.6: "a rule other than the two": "0 for 1989, 1 for 1993".
+pub const RULE: RangeInclusive<u64> = 0..=1;
 
-/// "2,208 bytes are still read".
+/// A.6: "the number E of expected readers a file, 0 to 1,000".
+pub const EXPECTED: RangeInclusive<u64> = 0..=1_000;
+
+/// A.6: "R counts attaches to the file and stops at 65,535."
+pub const MOST_ATTACHES: u64 = 65_535;
+
+/// A.6: "The image of 2,274 bytes", and "Saving and the C buffer use this length".
+pub const IMAGE_BYTES: usize = 2_274;
+
+/// A.2: "2,208 bytes are still read".
 pub const OLDER_IMAGE_BYTES: usize = 2_208;
+
+/// A.2: "The image grows to 2,240 bytes by sixteen 2-byte marks"; A.6: "shorter ones
+/// are read as 1989 with E and R 0".
+pub const MARKED_IMAGE_BYTES: usize = 2_240;
+
+/// Every length that Restore takes, the shortest first.
+pub const LENGTHS: [usize; 3] = [OLDER_IMAGE_BYTES, MARKED_IMAGE_BYTES, IMAGE_BYTES];
 
 /// The program's lines: "at most 200 bytes, the line end not counted".
 pub const LINE_BYTES: usize = 200;
@@ -49,10 +65,15 @@ pub const LINE_BYTES: usize = 200;
 /// The program's fields: "each at most 4,294,967,295".
 pub const MOST_IN_FIELD: u64 = 4_294_967_295;
 
-/// Whether no value of a setup is out of range.
-pub fn setup_fits(frames: u64, look_ahead: u64, fetch_time: u64, sizes: &[u64]) -> bool {
-    FRAMES.contains(&frames)
-        && LOOK_AHEAD.contains(&look_ahead)
-        && FETCH_TIME.contains(&fetch_time)
-        && sizes.iter().all(|size| SIZE.contains(size))
+/// Whether no value of a setup is out of range, whichever the rule is.
+pub fn setup_fits(settings: &Settings) -> bool {
+    FRAMES.contains(&settings.frames)
+        && LOOK_AHEAD.contains(&settings.look_ahead)
+        && FETCH_TIME.contains(&settings.fetch_time)
+        && settings.sizes.iter().all(|size| SIZE.contains(size))
+        && RULE.contains(&settings.rule)
+        && settings
+            .expected
+            .iter()
+            .all(|readers| EXPECTED.contains(readers))
 }

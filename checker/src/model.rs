@@ -14,12 +14,14 @@ mod orders;
 mod program;
 mod questions;
 mod state;
+mod weights;
 
 pub use answer::{Answer, Refusal};
 pub use entry::{entry, first_image};
 pub use lists::list;
-pub use older::{probe, upgrade_image};
+pub use older::{probe, probe_setup, upgrade_image};
 pub use orders::UseKey;
 pub use program::{follow, respond, run_program};
 pub use questions::{when_read, When};
-pub use state::{Page, Reader, State};
+pub use state::{Page, Reader, Rule, State};
+pub use weights::Fraction;

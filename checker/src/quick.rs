@@ -2,8 +2,10 @@
 //!
 //! This is the yardstick of the benchmarks: plain, good Rust without tricks. A
 //! decision walks every reader's look-ahead once into an array of use keys and
-//! then scans the pages; a list sorts them. A question is worked out by itself.
-//! Nothing is allocated. Tests hold it to the model.
+//! then scans the pages; a list sorts them. Under the 1993 rule a decision chooses the
+//! file first, and walks and scans that file alone; a list sorts each file's pages and
+//! then takes them by turns. A question is worked out by itself. Nothing is allocated.
+//! Tests hold it to the model.
 //!
 //! [`entry`] takes calls on an image, [`list`] lists an order of one, [`when_read`]
 //! answers questions about one and [`question`] a single one, [`Lines`] takes the
@@ -15,6 +17,7 @@ mod image;
 mod lines;
 mod lists;
 mod questions;
+mod weights;
 
 pub use lines::Lines;
 pub use lists::list;
@@ -27,6 +30,7 @@ const FILES: usize = 8;
 const SLOTS: usize = 16;
 const PAGES: usize = 8_192;
 const WORDS: usize = PAGES / 64;
+const FILE_WORDS: usize = WORDS / FILES;
 
 /// A slot's condition, by the image's numbers.
 const EMPTY: u8 = 0;
@@ -67,6 +71,10 @@ struct Flat {
     in_fetch: [u64; WORDS],
     /// How many pages are cached.
     taken: u32,
+    /// Whether the rule is that of 1993.
+    weighted: bool,
+    expected: [u32; FILES],
+    attaches: [u32; FILES],
 }
 
 /// One call on an image: Restore, call, Save, and the number.

@@ -20,21 +20,25 @@ pub mod rules;
 pub mod soundings;
 pub mod streams;
 mod walks;
+pub mod weights;
 pub mod worked;
 
 pub use hold::{hold, CALL_OUTCOMES};
 pub use options::seed_and_rounds;
 pub use report::{Outcomes, Report};
 
-use crate::limits::{IMAGE_BYTES, OLDER_IMAGE_BYTES};
+use crate::limits::{IMAGE_BYTES, MARKED_IMAGE_BYTES, OLDER_IMAGE_BYTES};
 
-/// "The buffer must be exactly" 2,240 bytes, "else 13", and so for 2,208 too.
-const WRONG_LENGTHS: [usize; 8] = [
+/// "The buffer must be exactly" 2,274 bytes, "else 13", and so for 2,240 and 2,208 too.
+const WRONG_LENGTHS: [usize; 11] = [
     0,
     1,
     OLDER_IMAGE_BYTES - 1,
     OLDER_IMAGE_BYTES,
     OLDER_IMAGE_BYTES + 1,
+    MARKED_IMAGE_BYTES - 1,
+    MARKED_IMAGE_BYTES,
+    MARKED_IMAGE_BYTES + 1,
     IMAGE_BYTES - 1,
     IMAGE_BYTES + 1,
     4_096,

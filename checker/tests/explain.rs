@@ -2,8 +2,8 @@
 //! model's.
 
 use checker::explain::Explained;
-use checker::limits::OLDER_IMAGE_BYTES;
-use checker::model::{Page, Reader, State};
+use checker::limits::{FILES, MARKED_IMAGE_BYTES, OLDER_IMAGE_BYTES};
+use checker::model::{Page, Reader, Rule, State};
 use checker::random::Dice;
 use checker::scene::any_state;
 use std::collections::{BTreeMap, BTreeSet};
@@ -86,6 +86,214 @@ fn use_times_by_pages_in_fetch_are_shown() {
     state.fetch_time = 0;
     let without = Explained::of(&state);
     assert!(!without.text().contains(said) && !without.svg().contains(said));
+}
+
+/// Three files under the rule of 1993: file 0 is awaited, all that were expected for
+/// file 1 are there, and two readers of it come to pages at the same time.
+fn three_files() -> State {
+    let mut state = State::idle();
+    state.rule = Rule::Of1993;
+    (state.frames, state.look_ahead) = (9, 60);
+    state.sizes[..3].copy_from_slice(&[9, 6, 12]);
+    state.expected[..3].copy_from_slice(&[4, 3, 2]);
+    state.attaches[..3].copy_from_slice(&[1, 3, 1]);
+    for (file, numbers) in [(0, [1, 2, 3]), (1, [1, 3, 6]), (2, [1, 2, 3])] {
+        let pages = numbers.map(|number| Page { file, number });
+        state.cached.extend(pages);
+    }
+    for (slot, file, pace, position) in [(0, 0, 10, 1), (3, 1, 10, 0), (4, 1, 10, 2), (5, 2, 30, 2)]
+    {
+        let last = state.size(file);
+        let reader = Reader::running(file, pace, position, last);
+        state.readers.insert(slot, reader);
+    }
+    state
+}
+
+/// 39 is 3 × 9 + 1 × 12; page 1 of file 1 and page 3, and no other two of a file, are read
+/// at the same time.
+const WEIGHED: &str = "
+Rule of 1993, frames 9, sum of weights 39: file 1 gives up the next page
+  file  E  R  size  weight    share  cached  cached - share
+     0  4  1     9      27   6 9/39       3         -3 9/39
+     1  3  3     6       0        0       3               3  next
+     2  2  1    12      12  2 30/39       3            9/39
+E readers are expected in all, R have attached. Weight is (E - R, or 0) x size.
+Share is frames x weight / sum of weights, or 0 where the sum is 0; nothing is rounded.
+
+Steal order, 9 in all, the first is the next to be dropped
+  place  file  page  cached  list                              use time  slot  seat distance
+      1     1     6       3  use time: in a look-ahead               40     4
+      2     1     3       2  use time: in a look-ahead               10     4              4
+      3     1     1       1  use time: in a look-ahead               10     3              3
+      4     2     2       3  behind last: no reader needs it
+      5     2     1       2  behind last: no reader needs it
+      6     2     3       1  use time: in a look-ahead               30     5
+      7     0     1       3  behind last: no reader needs it
+      8     0     3       2  use time: in a look-ahead               20     0
+      9     0     2       1  use time: in a look-ahead               10     0
+
+Fetch order, 8 in all, the first is the next to be fetched early
+  place  file  page  list                              use time  slot  seat distance
+      1     1     2  use time: in a look-ahead               20     3              3
+      2     1     4  use time: in a look-ahead               20     4              4
+";
+
+const UNDER_1993: &str = "
+In the steal order, cached is how many pages its file still has when a page's turn comes.
+The seat distance is shown where use times are equal: there it decides.
+In the steal order it decides between pages of one file only.
+";
+
+#[test]
+fn the_rule_of_1993_is_shown() {
+    let state = three_files();
+    let explained = Explained::of(&state);
+    let text = explained.text();
+    assert!(text.contains(WEIGHED), "{text}");
+    assert!(text.ends_with(UNDER_1993), "{text}");
+    let svg = explained.svg();
+    let notes = UNDER_1993.trim().lines();
+    let words = WEIGHED
+        .trim()
+        .lines()
+        .take(7)
+        .filter(|line| !line.starts_with(' '));
+    for line in words.chain(notes) {
+        assert!(svg.contains(&format!(">{line}</text>\n")), "{line}");
+    }
+    for cell in [
+        "6 9/39",
+        "-3 9/39",
+        "2 30/39",
+        "9/39",
+        "next",
+        "cached - share",
+    ] {
+        assert_eq!(
+            svg.matches(&format!(">{cell}</text>\n")).count(),
+            1,
+            "{cell}"
+        );
+    }
+
+    let image = Kept::new("weighed-image", &state.image());
+    let printed = explain(&["--image", image.name()]);
+    let shown = Explained::of_image(&state.image()).unwrap().text();
+    assert!(shown.contains(WEIGHED) && shown.contains("\nThe state of a saved image.\n"));
+    assert!(printed.status.success() && printed.stdout == shown.as_bytes());
+}
+
+/// Under the rule of 1989 the expected readers and the attaches decide nothing, and are
+/// not shown.
+#[test]
+fn the_rule_of_1989_is_shown_without_weights() {
+    let mut state = three_files();
+    state.rule = Rule::Of1989;
+    let explained = Explained::of(&state);
+    (state.expected, state.attaches) = ([0; 8], [0; 8]);
+    let without = Explained::of(&state);
+    assert_eq!(explained.text(), without.text());
+    assert_eq!(explained.svg(), without.svg());
+    assert!(!without.text().contains("1993") && !without.svg().contains("1993"));
+}
+
+/// The same state with a rule, expected readers and attaches of its own.
+fn weighed(dice: &mut Dice, mut state: State) -> State {
+    state.rule = Rule::Of1993;
+    for file in 0..FILES as usize {
+        state.expected[file] = dice.pick(&[0, 1, 3, 999, 1_000]);
+        state.attaches[file] = dice.pick(&[0, 0, 1, 2, 65_535]);
+    }
+    state
+}
+
+/// What is left of a number such as "-3 9/39" when so many parts make a whole, in parts.
+fn parts_of(number: &str, whole: i128) -> i128 {
+    let (sign, digits) = match number.strip_prefix('-') {
+        Some(digits) => (-1, digits),
+        None => (1, number),
+    };
+    let mut parts = 0;
+    for piece in digits.split(' ') {
+        parts += match piece.split_once('/') {
+            None => piece.parse::<i128>().unwrap() * whole,
+            Some((top, bottom)) => {
+                assert_eq!(bottom, whole.to_string());
+                top.parse::<i128>().unwrap()
+            }
+        };
+    }
+    sign * parts
+}
+
+/// The table of the files, read back from the text: each number is the state's, the
+/// fractions are exact, and the file that is next is that of the steal order's head.
+#[test]
+fn weights_and_shares_are_exact() {
+    let mut dice = Dice::new(19);
+    for nth in 0..300 {
+        let state = match nth % 5 {
+            0 => full_state(&mut dice),
+            _ => any_state(&mut dice),
+        };
+        let state = weighed(&mut dice, state);
+        let text = Explained::of(&state).text();
+        assert!(text.lines().all(|line| line.len() <= 100), "{text}");
+        let (_, table) = text.split_once("\nRule of 1993, ").unwrap();
+        let (table, _) = table.split_once("\nE readers ").unwrap();
+        let mut next = None;
+        let mut files = Vec::new();
+        for row in table.lines().skip(2) {
+            let cells: Vec<&str> = row.split("  ").filter(|cell| !cell.is_empty()).collect();
+            let cells: Vec<&str> = cells.iter().map(|cell| cell.trim()).collect();
+            let file = cells[0].parse::<u64>().unwrap();
+            check_weighed(&state, file, &cells);
+            files.push(file);
+            if cells.get(8) == Some(&"next") {
+                assert_eq!(next.replace(file), None);
+            }
+        }
+        let counts = state.cached_by_file();
+        let shown = |&file: &u64| counts[file as usize] > 0 || state.weight(file) > 0;
+        assert_eq!(files, (0..FILES).filter(shown).collect::<Vec<_>>());
+        let head = state.steal_order().first().map(|page| page.file);
+        assert_eq!(next, head, "{text}");
+    }
+}
+
+/// The cells of a file's row, by A.6.
+fn check_weighed(state: &State, file: u64, cells: &[&str]) {
+    let at = file as usize;
+    let sum: u64 = (0..FILES as usize)
+        .map(|at| state.expected[at].saturating_sub(state.attaches[at]) * state.sizes[at])
+        .sum();
+    let weight = state.expected[at].saturating_sub(state.attaches[at]) * state.sizes[at];
+    let cached = state.cached.iter().filter(|page| page.file == file).count();
+    let whole = i128::from(sum.max(1));
+    let share = i128::from(state.frames * weight);
+    let numbers = [
+        state.expected[at],
+        state.attaches[at],
+        state.sizes[at],
+        weight,
+    ];
+    for (cell, number) in cells[1..5].iter().zip(numbers) {
+        assert_eq!(*cell, number.to_string());
+    }
+    assert_eq!(cells[6], cached.to_string());
+    assert_eq!(parts_of(cells[5], whole), share);
+    assert_eq!(parts_of(cells[7], whole), cached as i128 * whole - share);
+}
+
+#[test]
+fn a_state_of_1993_without_pages_is_shown() {
+    let mut state = State::idle();
+    state.rule = Rule::Of1993;
+    let text = Explained::of(&state).text();
+    let shown = "\nRule of 1993, frames 1, sum of weights 0: no page is cached\nE readers ";
+    assert!(text.contains(shown), "{text}");
+    assert!(text.contains("\nSteal order: no page\n"));
 }
 
 #[test]
@@ -463,8 +671,11 @@ fn slots_of(list: &str) -> impl Iterator<Item = u64> + '_ {
 #[test]
 fn tables_list_the_orders() {
     let mut dice = Dice::new(13);
-    for _ in 0..300 {
-        let state = any_state(&mut dice);
+    for nth in 0..300 {
+        let mut state = any_state(&mut dice);
+        if nth % 2 == 1 {
+            state = weighed(&mut dice, state);
+        }
         let text = Explained::of(&state).with_every_row().text();
         assert!(text.lines().all(|line| line.len() <= 100), "{text}");
         let orders = (state.steal_order(), state.fetch_order());
@@ -521,10 +732,13 @@ fn label_end(line: &str) -> usize {
 fn svg_has_every_mark_and_row() {
     let mut dice = Dice::new(14);
     for nth in 0..100 {
-        let state = match nth % 4 {
+        let mut state = match nth % 4 {
             0 => full_state(&mut dice),
             _ => any_state(&mut dice),
         };
+        if nth % 8 < 4 {
+            state = weighed(&mut dice, state);
+        }
         let explained = Explained::of(&state).with_every_row();
         let svg = explained.svg();
         let in_legend = usize::from(!state.files().is_empty());
@@ -542,8 +756,12 @@ fn svg_has_every_mark_and_row() {
         let ends = ends.collect::<BTreeSet<_>>().len();
         assert_eq!(svg.matches("class=\"end\"").count(), ends);
         assert!(svg.lines().all(|line| label_end(line) <= 1_040), "{svg}");
-        let stretches = svg.matches("class=\"plain\" x=\"175\"").count();
-        assert_eq!(stretches, explained.steal.len());
+        let column = match state.rule {
+            Rule::Of1989 => 175,
+            Rule::Of1993 => 230,
+        };
+        let stretch = format!("class=\"plain\" x=\"{column}\"");
+        assert_eq!(svg.matches(&stretch).count(), explained.steal.len());
         assert_eq!(svg.matches("<text").count(), svg.matches("</text>").count());
         assert!(svg.starts_with("<svg ") && svg.ends_with("</svg>\n"));
     }
@@ -634,6 +852,11 @@ fn the_manual_page_is_true() {
     assert_eq!(shown.lines().count(), 5);
     assert!(asked.text().ends_with(&format!("\n{shown}")), "{shown}");
 
+    let (_, example) = page.split_once("'/^Rule of 1993/,/rounded/p'\n").unwrap();
+    let (shown, _) = example.split_once(".RE\n").unwrap();
+    let text = Explained::of(&three_files()).text();
+    assert!(text.contains(&format!("\n\n{shown}\n")), "{shown}");
+
     let help = String::from_utf8(explain(&["--help"]).stdout).unwrap();
     let options = help.lines().filter_map(|line| line.strip_prefix("  --"));
     let options: Vec<&str> = options.filter_map(|line| line.split(' ').next()).collect();
@@ -682,6 +905,28 @@ fn the_program_takes_an_older_image() {
     assert!(printed.status.success() && printed.stdout == text.as_bytes());
 }
 
+/// An image of the length before the rule: with its marks, and of 1989.
+#[test]
+fn the_program_takes_an_image_without_a_rule() {
+    let mut state = three_files();
+    state.readers.get_mut(&4).unwrap().mark = 1;
+    let image = state.image();
+    let older = Kept::new("marked-image", &image[..MARKED_IMAGE_BYTES]);
+    let text = Explained::of_image(&image[..MARKED_IMAGE_BYTES])
+        .unwrap()
+        .text();
+    assert!(
+        text.contains("\nThe state of an older image, of 2240 bytes.\n"),
+        "{text}"
+    );
+    assert!(text.contains("Slot 4 reads file 1, pace 10: page 2 of 6 read, 1 since its mark, "));
+    assert!(!text.contains("1993"));
+    let printed = explain(&["--image", older.name()]);
+    assert!(printed.status.success() && printed.stdout == text.as_bytes());
+    state.rule = Rule::Of1989;
+    assert_eq!(steal_and_fetch(&text).0, state.steal_order());
+}
+
 /// Readers of an image show how many pages the next Measure counts, those of lines
 /// do not: no line measures. All else is the same.
 #[test]
@@ -728,7 +973,8 @@ fn an_image_that_is_none_gets_a_message_and_the_status_1() {
     let image = Kept::new("short-image", &bytes);
     let refused = explain(&["--image", image.name()]);
     let said = String::from_utf8(refused.stderr).unwrap();
-    let words = "no image of the box (13): 2239 bytes, not 2240, or 2208 in an older image\n";
+    let words =
+        "no image of the box (13): 2273 bytes, not 2274, or 2240 or 2208 in an older image\n";
     assert_eq!(said, format!("quay-explain: {}: {words}", image.name()));
 
     let missing = explain(&["--image", "/no/such/folder/image"]);

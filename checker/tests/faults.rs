@@ -10,21 +10,27 @@ mod measure;
 mod older;
 #[path = "faults/questions.rs"]
 mod questions;
+#[path = "faults/setup.rs"]
+mod setup;
+#[path = "faults/weights.rs"]
+mod weights;
 
-use checker::call::{Call, Entry, First, Lister, Settings, WhenRead};
-use checker::cases::{CASES, LINK_CASES, LIST_LINK_CASES, MEASURE_CASES};
+use checker::call::{Call, Entry, First, Lister, Order, Settings, WhenRead};
+use checker::cases::{CASES, LINK_CASES, LIST_LINK_CASES, MEASURE_CASES, WEIGHT_CASES};
 use checker::feed::{Feed, Program};
 use checker::layout;
 use checker::limits::{IMAGE_BYTES, INTERVAL, LINE_BYTES, MOST_TURNS, PACE, SLOTS};
-use checker::model::{first_image, respond, run_program, Answer, Page, State};
+use checker::limits::{MARKED_IMAGE_BYTES, OLDER_IMAGE_BYTES};
+use checker::model::{first_image, list, respond, run_program, Answer, Page, Rule, State};
 use checker::quick;
 use checker::random::Dice;
 use checker::trial::fields::{self, FIELD_OUTCOMES};
-use checker::trial::first::first_images;
+use checker::trial::first::{first_images, first_images_by_rule, setups, FIRST_OUTCOMES};
 use checker::trial::lists::{built, random, LIST_OUTCOMES};
 use checker::trial::named::{self, Named};
 use checker::trial::older::{every_byte, probed, upgraded, OLDER_OUTCOMES};
 use checker::trial::questions::{self as asked, QUESTION_OUTCOMES};
+use checker::trial::weights::{by_steals, examples, STEAL_OUTCOMES};
 use checker::trial::worked::worked;
 use checker::trial::{calls, damage, fewest, rules, soundings, streams};
 use checker::trial::{Report, CALL_OUTCOMES};
@@ -33,8 +39,10 @@ use lists::LISTS;
 use measure::{marks_lost_by, older_taken, MEASURES};
 use older::{BYTES, PROBES, UPGRADES};
 use questions::QUESTIONS;
+use setup::{FIRSTS_BY_RULE, SETUPS};
 use std::collections::BTreeSet;
 use std::ops::Range;
+use weights::{SELDOM, WEIGHTS, WEIGHT_LISTS};
 
 fn failed(trial: impl FnOnce(&mut Report, &mut Dice)) -> u64 {
     let mut report = Report::default();
@@ -77,7 +85,11 @@ fn a_buffer_of_another_length_taken_is_found() {
         quick::entry(&mut image[..length], call)
     };
     let trial = trial("16 has two reasons");
-    for entry in [longer_taken, older_taken] {
+    let older = [
+        older_taken::<OLDER_IMAGE_BYTES>,
+        older_taken::<MARKED_IMAGE_BYTES>,
+    ];
+    for entry in [longer_taken].into_iter().chain(older) {
         assert!(failed(|report, dice| damage::lengths(report, entry, dice)) > 0);
         assert!(failed(|report, _| trial.by_entry(report, entry)) > 0);
     }
@@ -162,6 +174,63 @@ fn a_page_in_fetch_counted_wrongly_is_found() {
     }
 }
 
+/// Random calls find it too, where weights decide, or rules, E and R put into images.
+#[test]
+fn a_wrong_weighting_is_found() {
+    for (name, entry) in WEIGHTS.into_iter().chain(SELDOM) {
+        let found = found(|report, dice| {
+            calls::by_weight(report, entry, dice, 10);
+            fields::changed(report, entry, dice, 100);
+        });
+        assert!(found, "{name}, {entry:?}");
+    }
+}
+
+/// A Steal or a list that goes by another rule than the other does.
+#[test]
+fn a_list_that_is_not_of_the_steals_is_found() {
+    let pairs: [(Entry, Lister); 2] = [
+        (weights::rule_ignored, right_list),
+        (quick::entry, weights::list_by_1989),
+    ];
+    for (entry, lister) in pairs {
+        let trial = |report: &mut Report, dice: &mut Dice| {
+            by_steals(report, lister, entry, dice, 20);
+        };
+        assert!(found(trial));
+    }
+}
+
+fn right_list(order: Order, image: &[u8], lent: &mut [u16]) -> u64 {
+    let (number, after) = list(order, image, lent);
+    lent.copy_from_slice(&after);
+    number
+}
+
+#[test]
+fn a_wrong_example_is_found() {
+    let entries: [Entry; 6] = [
+        weights::rule_ignored,
+        weights::shares_ignored,
+        weights::least_surplus,
+        weights::shares_rounded_down,
+        weights::shares_rounded_up,
+        weights::surpluses_cut,
+    ];
+    for entry in entries {
+        let found = failed(|report, _| examples(report, right_first, entry));
+        assert!(found > 0, "{entry:?}");
+    }
+    let first: First = |buffer, settings| {
+        let plain = Settings {
+            rule: 0,
+            ..*settings
+        };
+        right_first(buffer, &plain)
+    };
+    assert!(failed(|report, _| examples(report, first, quick::entry)) > 0);
+}
+
 #[test]
 fn a_wrong_restore_or_save_is_found() {
     for (name, by_rule, probe) in PROBES {
@@ -200,7 +269,7 @@ fn a_wrong_upgrade_is_found() {
 
 #[test]
 fn a_wrong_list_or_report_is_found() {
-    for (name, by_chance, lister) in LISTS {
+    for (name, by_chance, lister) in LISTS.into_iter().chain(WEIGHT_LISTS) {
         let fixed = [soundings::by_list, rules::by_list, built];
         let is_found =
             |trial: &fn(&mut Report, Lister)| failed(|report, _| trial(report, lister)) > 0;
@@ -245,7 +314,10 @@ fn an_answer_never_met_is_found() {
         MEASURE_CASES,
         LINK_CASES,
         LIST_LINK_CASES,
+        WEIGHT_CASES,
         FIELD_OUTCOMES,
+        FIRST_OUTCOMES,
+        STEAL_OUTCOMES,
         OLDER_OUTCOMES,
         LIST_OUTCOMES,
         QUESTION_OUTCOMES,
@@ -270,7 +342,7 @@ fn a_length_tested_late_is_found() {
 
 #[test]
 fn a_wrong_first_image_is_found() {
-    let firsts: [(&str, First); 13] = [
+    let firsts: [(&str, First); 14] = [
         ("one byte of L", one_byte_of_l),
         ("two bytes of T", two_bytes_of_t),
         ("frames and sizes cut to 16 bits", cut_to::<16>),
@@ -280,6 +352,7 @@ fn a_wrong_first_image_is_found() {
         ("1,024 pages refused", full_file_refused),
         ("the maps left as they were", maps_left),
         ("the marks left as they were", marks_left),
+        ("rule, E and R left as they were", weights_left),
         ("2,208 bytes written", older_written),
         ("the buffer cleared before a refusal", cleared_first),
         ("1 before 13", length_last),
@@ -289,6 +362,24 @@ fn a_wrong_first_image_is_found() {
         let trial = |report: &mut Report, dice: &mut Dice| {
             first_images(report, first, quick::entry, dice, 100);
         };
+        assert!(failed(trial) > 0, "{name}");
+        let trial = |report: &mut Report, dice: &mut Dice| {
+            first_images_by_rule(report, first, quick::entry, dice, 100);
+        };
+        assert!(failed(trial) > 0, "{name}");
+    }
+    for (name, first) in FIRSTS_BY_RULE {
+        let trial = |report: &mut Report, dice: &mut Dice| {
+            first_images_by_rule(report, first, quick::entry, dice, 100);
+        };
+        assert!(failed(trial) > 0, "{name}");
+    }
+}
+
+#[test]
+fn a_wrong_setup_is_found() {
+    for (name, probe) in SETUPS {
+        let trial = |report: &mut Report, dice: &mut Dice| setups(report, probe, dice, 300);
         assert!(failed(trial) > 0, "{name}");
     }
 }
@@ -373,7 +464,9 @@ const ENTRIES: [(&str, Entry); 60] = [
 ];
 
 /// Stand-ins for the program.
-const PROGRAMS: [(&str, Program); 9] = [
+const PROGRAMS: [(&str, Program); 11] = [
+    ("an S line sets the 1989 rule", &s_of_1993),
+    ("an S line has eleven fields", &s_of_twenty_read),
     ("no line measures", &m_lines_read),
     ("14 comes before all else", &zeros_read),
     ("an A line has five fields", &a_of_three_read),
@@ -388,7 +481,8 @@ const PROGRAMS: [(&str, Program); 9] = [
 #[test]
 fn each_trial_by_name_finds_its_faults() {
     let mut faultless: BTreeSet<&str> = named::all().iter().map(|trial| trial.name).collect();
-    for (name, entry) in ENTRIES.into_iter().chain(MEASURES).chain(LINKS) {
+    let entries = ENTRIES.into_iter().chain(MEASURES).chain(LINKS);
+    for (name, entry) in entries.chain(WEIGHTS) {
         faultless.remove(name);
         let trial = trial(name);
         assert!(
@@ -408,6 +502,13 @@ fn each_trial_by_name_finds_its_faults() {
         faultless.is_empty(),
         "trials without a fault: {faultless:?}"
     );
+}
+
+/// Random streams find it too.
+#[test]
+fn an_s_line_of_1993_is_found() {
+    let found = found(|report, dice| streams::random_streams(report, &s_of_1993, dice, 1));
+    assert!(found);
 }
 
 fn trial(name: &str) -> Named {
@@ -453,7 +554,11 @@ fn maps_left(buffer: &mut [u8], settings: &Settings) -> u64 {
 }
 
 fn marks_left(buffer: &mut [u8], settings: &Settings) -> u64 {
-    without(buffer, settings, layout::MARKS..IMAGE_BYTES, true)
+    without(buffer, settings, layout::MARKS..layout::RULE, true)
+}
+
+fn weights_left(buffer: &mut [u8], settings: &Settings) -> u64 {
+    without(buffer, settings, layout::RULE..IMAGE_BYTES, true)
 }
 
 fn older_written(buffer: &mut [u8], settings: &Settings) -> u64 {
@@ -946,6 +1051,41 @@ fn taken_below_position(image: &mut [u8], call: Call) -> u64 {
 
 fn taken_waiting_at_last(image: &mut [u8], call: Call) -> u64 {
     taken_with(image, call, |position, _| position.saturating_add(1))
+}
+
+/// An S line that selects the 1993 rule.
+fn s_of_1993(feed: &Feed) -> Result<Vec<u8>, String> {
+    answered(feed, |state, line| {
+        if !line.starts_with('S') {
+            return None;
+        }
+        let (after, answer) = respond(state.clone(), line.as_bytes());
+        *state = after;
+        state.rule = Rule::Of1993;
+        Some(answer)
+    })
+}
+
+/// An S line with a rule and eight E behind its eleven fields.
+fn s_of_twenty_read(feed: &Feed) -> Result<Vec<u8>, String> {
+    answered(feed, |state, line| {
+        let fields: Vec<u64> = line.split(',').filter_map(|f| f.parse().ok()).collect();
+        if !line.starts_with('S') || fields.len() != 20 {
+            return None;
+        }
+        let expected = std::array::from_fn(|file| fields[12 + file]);
+        let sizes = std::array::from_fn(|file| fields[3 + file]);
+        let plain = Settings::of_1989(fields[0], fields[1], fields[2], sizes);
+        let rule = fields[11];
+        let settings = Settings {
+            rule,
+            expected,
+            ..plain
+        };
+        let (after, answer) = State::setup_by_rule(&settings);
+        *state = after;
+        Some(answer.map_or_else(|refusal| refusal.to_string(), |answer| answer.to_string()))
+    })
 }
 
 /// Lines for Measure.

@@ -1,5 +1,6 @@
 //! Save, Restore and the lent lists.
 
+use checker::call::Settings;
 use checker::limits::IMAGE_BYTES;
 use checker::model::{Page, Refusal, State};
 use checker::quick;
@@ -20,7 +21,11 @@ fn images_come_back_as_they_went() {
 
 #[test]
 fn images_lie_as_the_paper_says() {
-    let (mut state, _) = State::setup(515, 0x0001_0203, 70_000, [1_024, 0, 0, 0, 0, 0, 0, 258]);
+    let mut settings = Settings::of_1989(515, 0x0001_0203, 70_000, [1_024, 0, 0, 0, 0, 0, 0, 258]);
+    settings.rule = 1;
+    settings.expected = [1_000, 0, 0, 0, 0, 0, 0, 258];
+    let (mut state, _) = State::setup_by_rule(&settings);
+    state.attaches[7] = 0xFFFE;
     state.turn = 9;
     state.attach(3, 7, 999, 257, 258).unwrap();
     state.read(3).unwrap(); // page 258 of file 7: in fetch, waited for
@@ -42,8 +47,11 @@ fn images_lie_as_the_paper_says() {
     expected[160 + 127] = 0x80;
     expected[1_184 + 7 * 128 + 32] = 0x02;
     expected[2_208 + 6..2_208 + 8].copy_from_slice(&[0x01, 0x01]);
-    expected[2_238..].copy_from_slice(&[0xE8, 0x03]);
-    assert_eq!(expected.len(), 2_240);
+    expected[2_238..2_242].copy_from_slice(&[0xE8, 0x03, 1, 0]);
+    expected[2_242..2_244].copy_from_slice(&[0xE8, 0x03]);
+    expected[2_256..2_260].copy_from_slice(&[0x02, 0x01, 1, 0]);
+    expected[2_272..].copy_from_slice(&[0xFF, 0xFF]);
+    assert_eq!(expected.len(), 2_274);
     assert_eq!(image, expected);
 }
 
@@ -56,7 +64,7 @@ fn an_accepted_image_comes_back_unchanged() {
         let mut image = any_state(&mut dice).image();
         for _ in 0..dice.between(1, 3) {
             let at = match dice.below(2) {
-                0 => dice.between(2_208, 2_239),
+                0 => dice.between(2_208, 2_273),
                 _ => dice.below(160),
             };
             let any = dice.bits() as u8;
@@ -100,9 +108,37 @@ fn setup_takes_exactly_its_ranges() {
     assert!(!good(u64::MAX, 1, 0, 0) && !good(1, u64::MAX, 0, 0));
 }
 
+/// E "outside that, or a rule other than the two, is refusal 1", under either rule.
+#[test]
+fn setup_takes_two_rules_and_a_thousand_readers() {
+    let set_up = |rule, expected| {
+        let plain = Settings::of_1989(1, 1, 0, [0; 8]);
+        State::setup_by_rule(&Settings {
+            rule,
+            expected,
+            ..plain
+        })
+    };
+    for rule in [0, 1] {
+        let (state, answer) = set_up(rule, [1_000; 8]);
+        assert!(answer.is_ok());
+        assert_eq!((state.rule.number(), state.expected), (rule, [1_000; 8]));
+        assert_eq!(state.attaches, [0; 8]);
+        for file in 0..8 {
+            let mut expected = [0; 8];
+            expected[file] = 1_001;
+            let refused = (State::idle(), Err(Refusal::Setup));
+            assert_eq!(set_up(rule, expected), refused);
+        }
+    }
+    for rule in [2, 255, 256, 257, u64::MAX] {
+        assert_eq!(set_up(rule, [0; 8]).1, Err(Refusal::Setup));
+    }
+}
+
 /// Bytes written over an image, each piece with its place, and the rule that they
 /// break.
-const BROKEN: [(usize, &[u8], &str); 23] = [
+const BROKEN: [(usize, &[u8], &str); 28] = [
     (0, &[0, 0], "the number of frames is 0, not 1 to 1024"),
     (2, &[16], "the turn is 16, not 0 to 15"),
     (3, &[1], "a byte behind the turn is not 0"),
@@ -138,7 +174,22 @@ const BROKEN: [(usize, &[u8], &str); 23] = [
     (2_208, &[2], "the mark of slot 0 is 2, above its page 1"),
     (2_209, &[1], "the mark of slot 0 is 256, above its page 1"),
     (2_239, &[1], "the mark of the empty slot 15 is 256, not 0"),
+    (2_240, &[2], NO_RULE),
+    (2_241, &[1], "a byte behind the rule is not 0"),
+    (2_241, &[0x80], "a byte behind the rule is not 0"),
+    (
+        2_242,
+        &[0xE9, 0x03],
+        "the number of expected readers of file 0 is 1001, not 0 to 1000",
+    ),
+    (
+        2_257,
+        &[0xFF],
+        "the number of expected readers of file 7 is 65280, not 0 to 1000",
+    ),
 ];
+
+const NO_RULE: &str = "the rule byte is 2, not 0 for 1989 or 1 for 1993";
 
 /// Two frames, three pages in file 0; page 1 is cached, page 2 in fetch, and slot
 /// 0 waits for it.
@@ -163,7 +214,7 @@ fn a_refused_image_says_why() {
         Err("more cached pages (2) than frames (1)".to_string())
     );
     let said = State::of_image(&[0; 5]);
-    let words = "5 bytes, not 2240, or 2208 in an older image";
+    let words = "5 bytes, not 2274, or 2240 or 2208 in an older image";
     assert_eq!(said, Err(words.to_string()));
 }
 

@@ -2,7 +2,7 @@
 //! that they must meet.
 
 use checker::call::Order;
-use checker::limits::{IMAGE_BYTES, OLDER_IMAGE_BYTES};
+use checker::limits::{IMAGE_BYTES, LENGTHS, OLDER_IMAGE_BYTES};
 use checker::model::{self, Page, Reader, State};
 use checker::random::Dice;
 use checker::scene::any_state;
@@ -109,9 +109,16 @@ fn a_refusal_leaves_the_list_and_reports_nothing() {
         }
         let (number, _) = model::list(order, &image, &vec![0; count]);
         assert_eq!(number >> 16 & 0xFFFF, count as u64);
-        let older = model::list(order, &image[..OLDER_IMAGE_BYTES], &vec![0; count]);
-        assert_eq!(older.0, number);
-        for other in [0, OLDER_IMAGE_BYTES - 1, IMAGE_BYTES - 1] {
+        for length in LENGTHS {
+            let older = model::list(order, &image[..length], &vec![0; count]);
+            assert_eq!(older.0, number);
+        }
+        for other in [
+            0,
+            OLDER_IMAGE_BYTES - 1,
+            OLDER_IMAGE_BYTES + 1,
+            IMAGE_BYTES - 1,
+        ] {
             let (number, _) = model::list(order, &image[..other], &[0; 200]);
             assert_eq!(number, 13);
         }

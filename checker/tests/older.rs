@@ -1,8 +1,8 @@
 //! Older images: what the trials take for right, and all that they must meet.
 
 use checker::call::Older;
-use checker::limits::{IMAGE_BYTES, OLDER_IMAGE_BYTES};
-use checker::model::{probe, upgrade_image, Reader, State};
+use checker::limits::{IMAGE_BYTES, MARKED_IMAGE_BYTES, OLDER_IMAGE_BYTES};
+use checker::model::{probe, upgrade_image, Reader, Rule, State};
 use checker::quick;
 use checker::random::Dice;
 use checker::scene::any_state;
@@ -63,21 +63,49 @@ fn an_older_image_is_filled_in() {
     let mut expected = state.image();
     expected[2_208..2_210].copy_from_slice(&[4, 1]); // 260
     expected[2_238..2_240].copy_from_slice(&[4, 0]);
+    expected[2_240..].fill(0);
 
     let upgraded = upgrade_image(&[7; IMAGE_BYTES], Older::Apart(&older));
     assert_eq!(upgraded, (O, expected.clone()));
-    let in_place = [&older[..], &[7; 32]].concat();
+    let in_place = [&older[..], &[7; 66]].concat();
     let upgraded = upgrade_image(&in_place, Older::InPlace(OLDER_IMAGE_BYTES));
     assert_eq!(upgraded, (O, expected.clone()));
 
     for reader in state.readers.values_mut() {
         reader.mark = reader.position;
     }
+    state.attaches = [0; 8];
     assert_eq!(State::restore(&older), (state.clone(), Ok(())));
     assert_eq!(state.image(), expected);
     let (number, buffer) = probe(&older, &[7; IMAGE_BYTES + 3]);
     assert_eq!(number, O * 4_294_967_296 + O);
     assert_eq!(buffer, [&expected[..], &[7; 3]].concat());
+}
+
+/// "shorter ones are read as 1989 with E and R 0"; nothing else is changed in one of
+/// 2,240 bytes.
+#[test]
+fn an_image_without_a_rule_is_of_1989() {
+    let mut state = measured();
+    state.rule = Rule::Of1993;
+    state.expected = [3; 8];
+    let mut marked = state.image();
+    marked.truncate(MARKED_IMAGE_BYTES);
+    let expected = [&marked[..], &[0; 34]].concat();
+
+    let upgraded = upgrade_image(&[7; IMAGE_BYTES], Older::Apart(&marked));
+    assert_eq!(upgraded, (O, expected.clone()));
+    let in_place = [&marked[..], &[7; 34]].concat();
+    let upgraded = upgrade_image(&in_place, Older::InPlace(MARKED_IMAGE_BYTES));
+    assert_eq!(upgraded, (O, expected.clone()));
+
+    state.rule = Rule::Of1989;
+    (state.expected, state.attaches) = ([0; 8], [0; 8]);
+    assert_eq!(State::restore(&marked), (state, Ok(())));
+    let (number, buffer) = probe(&marked, &[7; IMAGE_BYTES]);
+    assert_eq!((number, buffer), (O * 4_294_967_296 + O, expected));
+    marked[28 + 6..28 + 8].fill(0); // the last page of slot 0
+    assert!(State::of_image(&marked).is_err());
 }
 
 #[test]
@@ -115,7 +143,7 @@ fn an_upgrade_judges_nothing() {
 #[test]
 fn other_lengths_are_refused_and_left() {
     let image = State::idle().image();
-    for length in [0, 2_207, 2_209, 2_239, 2_241] {
+    for length in [0, 2_207, 2_209, 2_239, 2_241, 2_273, 2_275] {
         let mut other = image.clone();
         other.resize(length, 0);
         let upgraded = upgrade_image(&[7; IMAGE_BYTES], Older::Apart(&other));
@@ -123,11 +151,11 @@ fn other_lengths_are_refused_and_left() {
         let idle = probe(&other, &[7; IMAGE_BYTES]);
         assert_eq!(idle, (O * 4_294_967_296 + 13, image.clone()));
     }
-    for length in [0, 2_207, 2_208, 2_239, 2_241] {
+    for length in [0, 2_207, 2_208, 2_239, 2_240, 2_273, 2_275] {
         let upgraded = upgrade_image(&vec![7; length], Older::Apart(&image));
         assert_eq!(upgraded, (13, vec![7; length]));
     }
-    for length in [0, 2_207, 2_208, 2_239] {
+    for length in [0, 2_207, 2_208, 2_240, 2_273] {
         let short = probe(&image, &vec![7; length]);
         assert_eq!(short, (12 * 4_294_967_296 + O, vec![7; length]));
         let both = probe(&image[1..], &vec![7; length]);
@@ -144,6 +172,8 @@ fn older_images_come_back_filled_in() {
     for _ in 0..1_000 {
         let mut state = any_state(&mut dice);
         let image = older_image(&mut dice, &state);
+        state.rule = Rule::Of1989;
+        (state.expected, state.attaches) = ([0; 8], [0; 8]);
         for (&slot, reader) in &mut state.readers {
             let at = 28 + 8 * slot as usize + 6;
             if image[at..at + 2] == [0, 0] {

@@ -1,7 +1,7 @@
 //! "When will these be read?": what the trials take for right, and all that they must
 //! meet.
 
-use checker::limits::{IMAGE_BYTES, OLDER_IMAGE_BYTES};
+use checker::limits::LENGTHS;
 use checker::model::{self, Page, Reader, Refusal, State, When};
 use checker::random::Dice;
 use checker::scene::{any_questions, any_state};
@@ -126,7 +126,7 @@ fn a_refusal_leaves_the_answers() {
     assert_eq!(number, ABOVE + 1);
     let row = ABOVE + 10 * 256;
     assert_eq!(answers, [vec![row; 1_024], vec![0, 5]].concat());
-    for length in [IMAGE_BYTES, OLDER_IMAGE_BYTES] {
+    for length in LENGTHS {
         let (number, _) = model::when_read(&image[..length], &[], &[]);
         assert_eq!(number, ABOVE + 1);
     }

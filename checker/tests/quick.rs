@@ -1,21 +1,27 @@
 //! Quick against the model: equal numbers, equal images, equal lists, equal answers.
 
-use checker::cases::{CASES, LINK_CASES, MEASURE_CASES};
-use checker::model::{Page, State};
+use checker::call::{Call, Order};
+use checker::cases::{CASES, LINK_CASES, MEASURE_CASES, WEIGHT_CASES};
+use checker::model::{self, Page, State};
 use checker::quick::{entry, list, question, when_read};
 use checker::random::Dice;
 use checker::scene::{any_questions, any_state};
 use checker::trial::fields::{self, FIELD_OUTCOMES};
 use checker::trial::lists::{self, LIST_OUTCOMES};
 use checker::trial::questions::{self, QUESTION_OUTCOMES};
+use checker::trial::weights::{self, STEAL_OUTCOMES};
 use checker::trial::worked::worked;
-use checker::trial::{calls, damage, rules, soundings, Report, CALL_OUTCOMES};
+use checker::trial::{calls, damage, named, rules, soundings, Report, CALL_OUTCOMES};
 
 #[test]
 fn random_calls_at_bounds_and_beyond() {
     let (mut report, mut dice) = (Report::default(), Dice::new(6));
     calls::random_calls(&mut report, entry, &mut dice, 600);
     calls::on_the_link(&mut report, entry, &mut dice, 400);
+    calls::by_weight(&mut report, entry, &mut dice, 600);
+    for trial in named::all() {
+        trial.by_entry(&mut report, entry);
+    }
     calls::bounds(&mut report, entry, &mut dice, 3);
     calls::long_runs(&mut report, entry, &mut dice);
     damage::every_byte(&mut report, entry, &mut dice);
@@ -23,7 +29,7 @@ fn random_calls_at_bounds_and_beyond() {
     damage::lengths(&mut report, entry, &mut dice);
     fields::changed(&mut report, entry, &mut dice, 4_000);
     let calls = [CALL_OUTCOMES, CASES, MEASURE_CASES, LINK_CASES].concat();
-    let outcomes = [&calls[..], FIELD_OUTCOMES].concat();
+    let outcomes = [&calls[..], WEIGHT_CASES, FIELD_OUTCOMES].concat();
     report.check_every_outcome_met(&outcomes);
     println!("{}", report.outcomes(&outcomes));
     assert_eq!(report.failed(), 0);
@@ -39,6 +45,28 @@ fn lists_and_what_they_report() {
     report.check_every_outcome_met(LIST_OUTCOMES);
     println!("{}", report.outcomes(LIST_OUTCOMES));
     assert_eq!(report.failed(), 0);
+}
+
+#[test]
+fn lists_beside_steals() {
+    let (mut report, mut dice) = (Report::default(), Dice::new(63));
+    weights::by_steals(&mut report, list, entry, &mut dice, 2_000);
+    weights::by_steals(&mut report, list_by_model, by_model, &mut dice, 2_000);
+    report.check_every_outcome_met(STEAL_OUTCOMES);
+    println!("{}", report.outcomes(STEAL_OUTCOMES));
+    assert_eq!(report.failed(), 0);
+}
+
+fn by_model(image: &mut [u8], call: Call) -> u64 {
+    let (number, after) = model::entry(image, call);
+    image.copy_from_slice(&after);
+    number
+}
+
+fn list_by_model(order: Order, image: &[u8], list: &mut [u16]) -> u64 {
+    let (number, after) = model::list(order, image, list);
+    list.copy_from_slice(&after);
+    number
 }
 
 #[test]

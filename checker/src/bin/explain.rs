@@ -1,6 +1,7 @@
 //! Shows the state that a stream of lines leads to, or that of a saved image: the
 //! files with their pages and readers, and both orders with the reason for each
-//! place; and when pages that are asked about will be read.
+//! place, under the rule of 1993 with the files' weights; and when pages that are asked
+//! about will be read.
 //!
 //!     cargo run --release --bin quay-explain < stream
 //!     cargo run --release --bin quay-explain -- --page FILE,PAGE < stream
@@ -21,9 +22,10 @@ usage: quay-explain [--all] [--page FILE,PAGE].. [--svg FILE] < stream
 
 Shows a state of the quay box: the files with their pages (cached, in fetch,
 neither) in rows, and their readers; then the steal order and the fetch order,
-each page with its stretch, its use time and the slot that reads it. The state is
-the one behind the last of the lines on standard input, which are lines of the
-program quay, or that of a saved image.
+each page with its stretch, its use time and the slot that reads it. Before them,
+under the rule of 1993, stand the weights and shares of the files. The state is the
+one behind the last of the lines on standard input, which are lines of the program
+quay, or that of a saved image; lines are always under the rule of 1989.
 
   --image FILE      take the state from FILE, an image of the box or an older
                     one; read no lines

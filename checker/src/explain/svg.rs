@@ -2,6 +2,7 @@
 
 use super::picture::RULER;
 use super::text::strip_title;
+use super::weights::{Weights, HEADS, WORDS};
 use super::{alike_words, labels, Explained, Mark, PageRow, ReaderMark, Row, Shown, Sign, Strip};
 use super::{ASKED, NOTE, RULED, TITLE};
 
@@ -46,6 +47,16 @@ const STEAL_COLUMNS: [(&str, usize); 7] = [
     ("slot", 460),
     ("seat distance", 560),
 ];
+const WEIGHTED_STEAL_COLUMNS: [(&str, usize); 8] = [
+    ("place", 40),
+    ("file", 80),
+    ("page", 125),
+    ("cached", 180),
+    ("list", 200),
+    ("use time", 450),
+    ("slot", 490),
+    ("seat distance", 590),
+];
 const FETCH_COLUMNS: [(&str, usize); 6] = [
     ("place", 40),
     ("file", 80),
@@ -55,6 +66,9 @@ const FETCH_COLUMNS: [(&str, usize); 6] = [
     ("seat distance", 340),
 ];
 const FETCH_LEFT: usize = 650;
+
+/// Where the columns of the files' weights end.
+const WEIGHTS_COLUMNS: [usize; 9] = [40, 90, 145, 190, 260, 420, 475, 640, 690];
 
 /// What has been drawn, and how far down.
 struct Sheet {
@@ -233,9 +247,16 @@ impl Sheet {
     /// Both tables, side by side.
     fn tables(&mut self, explained: &Explained) {
         self.y += 2 * LINE;
+        let steal_columns = match &explained.weights {
+            None => &STEAL_COLUMNS[..],
+            Some(weights) => {
+                self.weights(weights);
+                &WEIGHTED_STEAL_COLUMNS[..]
+            }
+        };
         let top = self.y;
         let (steal, fetch) = (&explained.steal, &explained.fetch);
-        self.table(explained, LEFT, "Steal order", &STEAL_COLUMNS, steal);
+        self.table(explained, LEFT, "Steal order", steal_columns, steal);
         let steal_end = self.y;
         self.y = top;
         self.table(explained, FETCH_LEFT, "Fetch order", &FETCH_COLUMNS, fetch);
@@ -243,6 +264,32 @@ impl Sheet {
         for note in explained.notes() {
             self.y += LINE;
             self.text("soft", LEFT, note);
+        }
+    }
+
+    /// The files under the rule of 1993.
+    fn weights(&mut self, weights: &Weights) {
+        self.text("name", LEFT, &weights.title());
+        self.y += 4;
+        if !weights.files.is_empty() {
+            self.weights_row("soft number", &HEADS.map(str::to_string));
+        }
+        for file in &weights.files {
+            self.weights_row("plain number", &file.cells());
+        }
+        for words in WORDS {
+            self.y += LINE;
+            self.text("soft", LEFT, words);
+        }
+        self.y += 2 * LINE;
+    }
+
+    fn weights_row(&mut self, class: &str, cells: &[String; 9]) {
+        self.y += LINE;
+        for (cell, at) in cells.iter().zip(WEIGHTS_COLUMNS) {
+            if !cell.is_empty() {
+                self.text(class, LEFT + at, cell);
+            }
         }
     }
 
@@ -311,6 +358,9 @@ fn cell_text(row: &Row, head: &str) -> String {
         "place" => row.place.to_string(),
         "file" => row.page.file.to_string(),
         "page" => row.page.number.to_string(),
+        "cached" => row
+            .file_cached
+            .map_or(String::new(), |cached| cached.to_string()),
         "list" => row.stretch.words().to_string(),
         "use time" => read(|read| Some(read.time)),
         "slot" => read(|read| Some(read.slot)),

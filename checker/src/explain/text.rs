@@ -1,6 +1,7 @@
 //! The picture and the tables as text.
 
 use super::picture::RULER;
+use super::weights::{Weighed, Weights, HEADS, WORDS};
 use super::{alike_words, labels, Explained, Mark, PageRow, ReaderMark, Row, Shown, Sign, Strip};
 use super::{ASKED, NOTE, RULED, TITLE};
 
@@ -19,6 +20,9 @@ pub fn text(explained: &Explained) -> String {
     }
     if explained.strips.iter().any(Strip::is_ruled) {
         text += &format!("{RULED}\n");
+    }
+    if let Some(weights) = &explained.weights {
+        text += &weights_text(weights);
     }
     text += &table(explained, "Steal order", "dropped", &explained.steal);
     text += &table(explained, "Fetch order", "fetched early", &explained.fetch);
@@ -116,14 +120,42 @@ fn reader_lines(row: &PageRow, indent: usize) -> String {
     lines.into_iter().map(|line| line + "\n").collect()
 }
 
+/// The files under the rule of 1993.
+fn weights_text(weights: &Weights) -> String {
+    let mut text = format!("\n{}\n", weights.title());
+    let rows: Vec<[String; 9]> = weights.files.iter().map(Weighed::cells).collect();
+    if !rows.is_empty() {
+        text += &columns(&[&[HEADS.map(str::to_string)], &rows[..]].concat());
+    }
+    text + &WORDS.map(|words| format!("{words}\n")).concat()
+}
+
+/// Rows of cells, each column as wide as its widest.
+fn columns(rows: &[[String; 9]]) -> String {
+    let mut widths = [0; 9];
+    for row in rows {
+        for (width, cell) in widths.iter_mut().zip(row) {
+            *width = cell.len().max(*width);
+        }
+    }
+    let line = |row: &[String; 9]| {
+        let cells = row.iter().zip(widths);
+        let cells = cells.map(|(cell, width)| format!("  {cell:>width$}"));
+        format!("{}\n", cells.collect::<String>().trim_end())
+    };
+    rows.iter().map(line).collect()
+}
+
 fn table(explained: &Explained, name: &str, done: &str, rows: &[Row]) -> String {
     if rows.is_empty() {
         return format!("\n{name}: no page\n");
     }
     let count = rows.len();
     let mut table = format!("\n{name}, {count} in all, the first is the next to be {done}\n");
-    table +=
-        "  place  file  page  list                              use time  slot  seat distance\n";
+    let cached = rows[0].file_cached.map_or("", |_| "  cached");
+    table += &format!(
+        "  place  file  page{cached}  list                              use time  slot  seat distance\n"
+    );
     let (shown, rest) = explained.cut(rows);
     for row in shown {
         table += &row_text(row);
@@ -136,7 +168,12 @@ fn table(explained: &Explained, name: &str, done: &str, rows: &[Row]) -> String 
 
 fn row_text(row: &Row) -> String {
     let (page, stretch) = (row.page, row.stretch.words());
-    let place = format!("  {:5}  {:4}  {:4}", row.place, page.file, page.number);
+    let cached = row.file_cached.map(|cached| format!("  {cached:6}"));
+    let cached = cached.unwrap_or_default();
+    let place = format!(
+        "  {:5}  {:4}  {:4}{cached}",
+        row.place, page.file, page.number
+    );
     let Some(read) = row.read else {
         return format!("{place}  {stretch}\n");
     };

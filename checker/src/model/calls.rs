@@ -3,37 +3,56 @@
 //! several refusals apply, the one listed first for the call is given."
 
 use super::answer::{Answer, Refusal};
-use super::state::{Page, Reader, State};
-use crate::limits::{setup_fits, FILES, INTERVAL, MOST_TURNS, PACE, SLOTS};
+use super::state::{Page, Reader, Rule, State};
+use crate::call::Settings;
+use crate::limits::{setup_fits, FILES, INTERVAL, MOST_ATTACHES, MOST_TURNS, PACE, SLOTS};
 
 type Outcome = Result<Answer, Refusal>;
 
 impl State {
     /// **Setup** "gives a state without readers, pages or fetches. 1: any value
-    /// out of range; the idle state comes back".
+    /// out of range; the idle state comes back". A.6: E "outside that, or a rule other
+    /// than the two, is refusal 1", and R starts at 0.
+    pub fn setup_by_rule(settings: &Settings) -> (State, Outcome) {
+        let Settings {
+            frames,
+            look_ahead,
+            fetch_time,
+            sizes,
+            rule,
+            expected,
+        } = *settings;
+        let Some(rule) = Rule::of_number(rule).filter(|_| setup_fits(settings)) else {
+            return (State::idle(), Err(Refusal::Setup));
+        };
+        let state = State {
+            frames,
+            look_ahead,
+            fetch_time,
+            sizes,
+            rule,
+            expected,
+            ..State::idle()
+        };
+        (state, Ok(Answer::Done))
+    }
+
+    /// Setup as an S line has it: "1989, E 0".
     pub fn setup(
         frames: u64,
         look_ahead: u64,
         fetch_time: u64,
         sizes: [u64; FILES as usize],
     ) -> (State, Outcome) {
-        if !setup_fits(frames, look_ahead, fetch_time, &sizes) {
-            return (State::idle(), Err(Refusal::Setup));
-        }
-        let state = State {
-            frames,
-            look_ahead,
-            fetch_time,
-            sizes,
-            ..State::idle()
-        };
-        (state, Ok(Answer::Done))
+        let settings = Settings::of_1989(frames, look_ahead, fetch_time, sizes);
+        State::setup_by_rule(&settings)
     }
 
     /// **Attach** "takes a start position and a last page": running, the mark "the
     /// position [...] at Attach". "2: slot above 15. 3: file above 7 or of size 0.
     /// 4: pace out of range. 5: slot not empty." "15, last page 0 or above the
-    /// size, or start above the last, after 4 and before 5."
+    /// size, or start above the last, after 4 and before 5." A.6: "R counts attaches
+    /// to the file and stops at 65,535", those that are carried out, under either rule.
     pub fn attach(&mut self, slot: u64, file: u64, pace: u64, start: u64, last: u64) -> Outcome {
         check_slot(slot)?;
         self.check_file(file)?;
@@ -48,6 +67,8 @@ impl State {
         }
         let reader = Reader::running(file, pace, start, last);
         self.readers.insert(slot, reader);
+        let count = &mut self.attaches[file as usize];
+        *count = MOST_ATTACHES.min(*count + 1);
         Ok(Answer::Done)
     }
 

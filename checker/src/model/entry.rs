@@ -5,7 +5,7 @@ use super::state::State;
 use crate::call::{Call, Settings};
 use crate::limits::IMAGE_BYTES;
 
-/// "each as Restore, call, Save. The buffer must be exactly" 2,240 bytes, "else
+/// "each as Restore, call, Save. The buffer must be exactly" 2,274 bytes, "else
 /// 13, tested first; a refusal leaves it. The number returned is the refusal's,
 /// or the answer['s]". Gives the number and the buffer's bytes after the call.
 pub fn entry(image: &[u8], call: Call) -> (u64, Vec<u8>) {
@@ -19,20 +19,14 @@ pub fn entry(image: &[u8], call: Call) -> (u64, Vec<u8>) {
     }
 }
 
-/// A first image: Setup, then Save, on a buffer as for any call: "exactly" 2,240
+/// A first image: Setup, then Save, on a buffer as for any call: "exactly" 2,274
 /// bytes, "else 13, tested first; a refusal leaves it". Gives the number and the
 /// buffer's bytes after it.
 pub fn first_image(buffer: &[u8], settings: &Settings) -> (u64, Vec<u8>) {
     if buffer.len() != IMAGE_BYTES {
         return (Refusal::Image.number(), buffer.to_vec());
     }
-    let Settings {
-        frames,
-        look_ahead,
-        fetch_time,
-        sizes,
-    } = *settings;
-    match State::setup(frames, look_ahead, fetch_time, sizes) {
+    match State::setup_by_rule(settings) {
         (state, Ok(answer)) => (answer.number(), state.image()),
         (_, Err(refusal)) => (refusal.number(), buffer.to_vec()),
     }

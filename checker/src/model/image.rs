@@ -1,9 +1,9 @@
 //! The saved image: Save and Restore.
 
 use super::answer::Refusal;
-use super::state::{Page, Reader, State};
-use crate::limits::{FETCH_TIME, FILES, FRAMES, LOOK_AHEAD, PACE, SIZE, SLOTS};
-use crate::limits::{IMAGE_BYTES, OLDER_IMAGE_BYTES};
+use super::state::{Page, Reader, Rule, State};
+use crate::limits::{EXPECTED, FETCH_TIME, FILES, FRAMES, LOOK_AHEAD, PACE, SIZE, SLOTS};
+use crate::limits::{IMAGE_BYTES, LENGTHS, MARKED_IMAGE_BYTES, OLDER_IMAGE_BYTES};
 use std::collections::{BTreeMap, BTreeSet};
 use std::ops::RangeInclusive;
 
@@ -17,15 +17,16 @@ const RUNNING: u64 = 1;
 const WAITING: u64 = 2;
 
 impl State {
-    /// **Save**: "12: buffer shorter; bytes after" 2,240 "keep."
+    /// **Save**: "12: buffer shorter; bytes after" 2,274 "keep."
     pub fn save(&self, buffer: &mut [u8]) -> Result<(), Refusal> {
         let room = buffer.get_mut(..IMAGE_BYTES).ok_or(Refusal::TooShort)?;
         room.copy_from_slice(&self.image());
         Ok(())
     }
 
-    /// The bytes of Save, piece by piece as the paper lists them; "sixteen 2-byte
-    /// marks at its end, 0 for an empty slot".
+    /// The bytes of Save, piece by piece as the paper lists them; A.2: "sixteen 2-byte
+    /// marks at its end, 0 for an empty slot"; A.6: "a rule byte [...], a 0 byte, then
+    /// eight 2-byte E and eight R".
     pub fn image(&self) -> Vec<u8> {
         let mut image = Vec::with_capacity(IMAGE_BYTES);
         put(&mut image, 2, self.frames);
@@ -56,6 +57,11 @@ impl State {
             let mark = self.readers.get(&slot).map_or(0, |reader| reader.mark);
             put(&mut image, 2, mark);
         }
+        put(&mut image, 1, self.rule.number());
+        put(&mut image, 1, 0);
+        for number in self.expected.into_iter().chain(self.attaches) {
+            put(&mut image, 2, number);
+        }
         image
     }
 
@@ -82,7 +88,8 @@ impl State {
         Ok(state)
     }
 
-    /// No "value out of range" among the settings and the turn.
+    /// No "value out of range" among the settings and the turn, and no "E above 1,000".
+    /// Any R is one.
     fn check_numbers(&self) -> Result<(), String> {
         in_range("number of frames", self.frames, FRAMES)?;
         in_range("turn", self.turn, 0..=SLOTS - 1)?;
@@ -90,6 +97,10 @@ impl State {
         in_range("fetch time", self.fetch_time, FETCH_TIME)?;
         for (file, size) in (0..).zip(self.sizes) {
             in_range(&format!("size of file {file}"), size, SIZE)?;
+        }
+        for (file, readers) in (0..).zip(self.expected) {
+            let name = format!("number of expected readers of file {file}");
+            in_range(&name, readers, EXPECTED)?;
         }
         Ok(())
     }
@@ -182,13 +193,15 @@ fn in_range(name: &str, value: u64, range: RangeInclusive<u64>) -> Result<(), St
 }
 
 /// Reads what an image says, sound or not. Refused are "another length", a
-/// condition that is none of the three, "an empty slot not all 0" and "a 0 byte
-/// that is not 0".
+/// condition that is none of the three, "an empty slot not all 0", "a 0 byte
+/// that is not 0" and "A rule byte above 1".
 fn read_image(image: &[u8]) -> Result<State, String> {
     let length = image.len();
-    let older = length == OLDER_IMAGE_BYTES;
-    rule(older || length == IMAGE_BYTES, || {
-        format!("{length} bytes, not {IMAGE_BYTES}, or {OLDER_IMAGE_BYTES} in an older image")
+    rule(LENGTHS.contains(&length), || {
+        format!(
+            "{length} bytes, not {IMAGE_BYTES}, or {MARKED_IMAGE_BYTES} or \
+             {OLDER_IMAGE_BYTES} in an older image"
+        )
     })?;
     let mut rest = image;
     let frames = take(&mut rest, 2);
@@ -205,10 +218,11 @@ fn read_image(image: &[u8]) -> Result<State, String> {
     }
     take_zero(&mut rest, 4, "behind the readers")?;
     let (cached, rest) = rest.split_at(MAP_BYTES);
-    let (in_fetch, marks) = rest.split_at(MAP_BYTES);
-    if !older {
-        take_marks(marks, &mut readers)?;
+    let (in_fetch, mut rest) = rest.split_at(MAP_BYTES);
+    if !rest.is_empty() {
+        take_marks(&mut rest, &mut readers)?;
     }
+    let weighting = take_weighting(rest)?;
     Ok(State {
         frames,
         look_ahead,
@@ -218,7 +232,24 @@ fn read_image(image: &[u8]) -> Result<State, String> {
         turn,
         cached: pages_of(cached),
         in_fetch: pages_of(in_fetch),
+        ..weighting
     })
+}
+
+/// The idle state with the rule, E and R that stand at an image's end: "shorter ones are
+/// read as 1989 with E and R 0".
+fn take_weighting(mut rest: &[u8]) -> Result<State, String> {
+    let mut state = State::idle();
+    if rest.is_empty() {
+        return Ok(state);
+    }
+    let number = take(&mut rest, 1);
+    state.rule = Rule::of_number(number)
+        .ok_or_else(|| format!("the rule byte is {number}, not 0 for 1989 or 1 for 1993"))?;
+    take_zero(&mut rest, 1, "behind the rule")?;
+    state.expected = std::array::from_fn(|_| take(&mut rest, 2));
+    state.attaches = std::array::from_fn(|_| take(&mut rest, 2));
+    Ok(state)
 }
 
 /// One record of 8 bytes: "condition [...]; file; pace 2; position 2", and "The
@@ -242,9 +273,9 @@ fn take_reader(rest: &mut &[u8], slot: u64) -> Result<Option<Reader>, String> {
 }
 
 /// "sixteen 2-byte marks at its end, 0 for an empty slot [...] else 13".
-fn take_marks(mut marks: &[u8], readers: &mut BTreeMap<u64, Reader>) -> Result<(), String> {
+fn take_marks(rest: &mut &[u8], readers: &mut BTreeMap<u64, Reader>) -> Result<(), String> {
     for slot in 0..SLOTS {
-        let mark = take(&mut marks, 2);
+        let mark = take(rest, 2);
         match readers.get_mut(&slot) {
             Some(reader) => reader.mark = mark,
             None => rule(mark == 0, || {

@@ -1,11 +1,11 @@
-//! Older images: the image of 2,240 bytes that one of 2,208 stands for; and
-//! Restore and Save on bytes of any length.
+//! Older images: the image of 2,274 bytes that one of 2,240 or 2,208 stands for; and
+//! Restore, Setup and Save by themselves, on buffers of any length.
 
 use super::answer::{Answer, Refusal};
 use super::image::{put, take};
 use super::state::State;
-use crate::call::Older;
-use crate::limits::{FILES, IMAGE_BYTES, OLDER_IMAGE_BYTES, SLOTS};
+use crate::call::{Older, Settings};
+use crate::limits::{FILES, IMAGE_BYTES, MARKED_IMAGE_BYTES, OLDER_IMAGE_BYTES, SLOTS};
 
 /// Restore of an image, then Save of the state that comes back. Gives Restore's
 /// number + 4,294,967,296 × Save's, and the buffer's bytes after it.
@@ -13,15 +13,40 @@ pub fn probe(image: &[u8], buffer: &[u8]) -> (u64, Vec<u8>) {
     let (state, restored) = State::restore(image);
     let mut after = buffer.to_vec();
     let saved = state.save(&mut after);
-    let number = |outcome: Result<(), Refusal>| match outcome {
+    (number_of(restored) + (number_of(saved) << 32), after)
+}
+
+/// Setup of numbers, then Save of the state that comes back. A number that is missing is 0,
+/// further ones are not looked at. Gives Setup's number + 4,294,967,296 × Save's, and
+/// the buffer's bytes after it.
+pub fn probe_setup(numbers: &[u64], buffer: &[u8]) -> (u64, Vec<u8>) {
+    let mut numbers = numbers.iter().copied().chain(std::iter::repeat(0));
+    let mut next = || numbers.next().expect("no end of zeros");
+    let settings = Settings {
+        frames: next(),
+        look_ahead: next(),
+        fetch_time: next(),
+        sizes: std::array::from_fn(|_| next()),
+        rule: next(),
+        expected: std::array::from_fn(|_| next()),
+    };
+    let (state, set_up) = State::setup_by_rule(&settings);
+    let mut after = buffer.to_vec();
+    let saved = state.save(&mut after);
+    let set_up = set_up.map(|_| ());
+    (number_of(set_up) + (number_of(saved) << 32), after)
+}
+
+/// O for a call that is done, or the refusal's number.
+fn number_of(outcome: Result<(), Refusal>) -> u64 {
+    match outcome {
         Ok(()) => Answer::Done.number(),
         Err(refusal) => refusal.number(),
-    };
-    (number(restored) + (number(saved) << 32), after)
+    }
 }
 
 /// What the header makes of an older image: 13 where the buffer has not the new
-/// length or the older image neither of the two, and the buffer is left; else O.
+/// length or the older image none of the three, and the buffer is left; else O.
 /// Gives the number and the buffer's bytes after it.
 pub fn upgrade_image(buffer: &[u8], older: Older) -> (u64, Vec<u8>) {
     let older = match older {
@@ -35,14 +60,17 @@ pub fn upgrade_image(buffer: &[u8], older: Older) -> (u64, Vec<u8>) {
     }
 }
 
-/// An image of 2,240 bytes as it is, one of 2,208 with its last pages and marks
-/// written in; nothing for another length. Nothing else is judged.
+/// An image of 2,274 bytes as it is, a shorter one as "1989 with E and R 0": all that
+/// follows is 0; one of 2,208 with its last pages and marks written in. Nothing for
+/// another length. Nothing else is judged.
 fn upgraded(older: &[u8]) -> Option<Vec<u8>> {
-    match older.len() {
-        IMAGE_BYTES => Some(older.to_vec()),
-        OLDER_IMAGE_BYTES => Some(filled_in(older)),
-        _ => None,
-    }
+    let mut image = match older.len() {
+        IMAGE_BYTES | MARKED_IMAGE_BYTES => older.to_vec(),
+        OLDER_IMAGE_BYTES => filled_in(older),
+        _ => return None,
+    };
+    image.resize(IMAGE_BYTES, 0);
+    Some(image)
 }
 
 /// "0 there, in an old image, means the file's size" for a slot that is taken, and

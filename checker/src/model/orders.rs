@@ -1,6 +1,6 @@
 //! Use times, the two orders, and what making one reports.
 
-use super::state::{Page, Reader, State};
+use super::state::{Page, Reader, Rule, State};
 use crate::call::Order;
 use std::cmp::Reverse;
 use std::collections::BTreeMap;
@@ -91,7 +91,7 @@ impl State {
     /// The pages of an order that goes by these use keys.
     pub fn order_by(&self, order: Order, keys: BTreeMap<Page, UseKey>) -> Vec<Page> {
         match order {
-            Order::Steal => self.steal_order_by(keys),
+            Order::Steal => self.steal_order_by(&keys),
             Order::Fetch => self.fetch_order_by(keys),
         }
     }
@@ -106,8 +106,16 @@ impl State {
         self.order(Order::Fetch)
     }
 
+    /// The steal order by the state's rule.
+    fn steal_order_by(&self, keys: &BTreeMap<Page, UseKey>) -> Vec<Page> {
+        match self.rule {
+            Rule::Of1989 => self.three_stretches(keys),
+            Rule::Of1993 => self.weighted_order(keys),
+        }
+    }
+
     /// "The steal order is all cached pages, each once, in three stretches".
-    fn steal_order_by(&self, keys: BTreeMap<Page, UseKey>) -> Vec<Page> {
+    pub(super) fn three_stretches(&self, keys: &BTreeMap<Page, UseKey>) -> Vec<Page> {
         let (mut past, mut far, mut near) = (Vec::new(), Vec::new(), Vec::new());
         for &page in &self.cached {
             if let Some(&key) = keys.get(&page) {

@@ -85,6 +85,31 @@ impl Reader {
     }
 }
 
+/// A.6: "a second steal rule, selected at Setup". The numbers are the image's.
+#[derive(Clone, Copy, Debug, PartialEq, Eq)]
+pub enum Rule {
+    /// "0 for 1989".
+    Of1989 = 0,
+    /// "1 for 1993".
+    Of1993 = 1,
+}
+
+impl Rule {
+    /// The rule that has this number, if one of "the two" has it.
+    pub fn of_number(number: u64) -> Option<Rule> {
+        match number {
+            0 => Some(Rule::Of1989),
+            1 => Some(Rule::Of1993),
+            _ => None,
+        }
+    }
+
+    /// Its number.
+    pub fn number(self) -> u64 {
+        self as u64
+    }
+}
+
 /// All that the box knows. "A page is cached, in fetch, or neither."
 #[derive(Clone, Debug, PartialEq, Eq)]
 pub struct State {
@@ -104,10 +129,16 @@ pub struct State {
     pub cached: BTreeSet<Page>,
     /// The pages that are in fetch.
     pub in_fetch: BTreeSet<Page>,
+    /// The rule that pages are stolen by.
+    pub rule: Rule,
+    /// E of each file, its expected readers.
+    pub expected: [u64; FILES as usize],
+    /// R of each file: "R counts attaches to the file".
+    pub attaches: [u64; FILES as usize],
 }
 
 impl State {
-    /// "the idle state [...] (frames 1, L 1, T 0, sizes 0)".
+    /// "the idle state [...] (frames 1, L 1, T 0, sizes 0)": 1989, E and R 0.
     pub fn idle() -> State {
         State {
             frames: 1,
@@ -118,6 +149,9 @@ impl State {
             turn: 0,
             cached: BTreeSet::new(),
             in_fetch: BTreeSet::new(),
+            rule: Rule::Of1989,
+            expected: [0; FILES as usize],
+            attaches: [0; FILES as usize],
         }
     }
 

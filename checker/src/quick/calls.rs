@@ -74,6 +74,8 @@ impl Flat {
             last: last as u32,
             mark: start as u32,
         };
+        let attaches = &mut self.attaches[file as usize];
+        *attaches = (*attaches + 1).min(65_535);
         Ok(letter(b'O'))
     }
 

@@ -1,7 +1,8 @@
 //! The two decisions: the page to give up and the next page to fetch; and the walk
 //! that they, and the lists, go by.
 
-use super::{has, put_stretch, Flat, Reader, EMPTY, PAGES, SLOTS, WORDS};
+use super::{has, put_stretch, Flat, Reader, EMPTY, FILES, FILE_WORDS, PAGES, SLOTS, WORDS};
+use std::ops::Range;
 
 /// The use key of a page in no look-ahead.
 pub(super) const NONE: u32 = u32::MAX;
@@ -9,12 +10,21 @@ pub(super) const NONE: u32 = u32::MAX;
 impl Flat {
     /// The head of the steal order.
     pub(super) fn page_to_give_up(&self) -> Option<usize> {
+        if !self.weighted {
+            return self.first_to_go(0..FILES);
+        }
+        let file = self.weights().file_to_give_up(&self.cached_by_file())?;
+        self.first_to_go(file..file + 1)
+    }
+
+    /// The head of the three stretches of these files alone.
+    fn first_to_go(&self, files: Range<usize>) -> Option<usize> {
         let mut use_keys = [NONE; PAGES];
-        self.walk(&mut use_keys);
+        self.walk_files(&files, &mut use_keys);
         let ahead = self.pages_ahead();
         let mut head = None;
-        for (index, &word) in self.cached.iter().enumerate() {
-            let mut left = word;
+        for index in files.start * FILE_WORDS..files.end * FILE_WORDS {
+            let mut left = self.cached[index];
             while left != 0 {
                 let key = index * 64 + left.trailing_zeros() as usize;
                 left &= left - 1;
@@ -45,10 +55,15 @@ impl Flat {
     /// Walks every reader's look-ahead once and leaves each page's smallest use
     /// key. Gives how many pages were tested for being cached.
     pub(super) fn walk(&self, use_keys: &mut [u32; PAGES]) -> u64 {
+        self.walk_files(&(0..FILES), use_keys)
+    }
+
+    /// The same for the readers of these files.
+    fn walk_files(&self, files: &Range<usize>, use_keys: &mut [u32; PAGES]) -> u64 {
         let present = self.present();
         let mut tested = 0;
         for (slot, reader) in self.readers.iter().enumerate() {
-            if reader.condition != EMPTY {
+            if reader.condition != EMPTY && files.contains(&reader.file) {
                 let seat = (slot + SLOTS - self.turn) % SLOTS;
                 tested += self.walk_ahead_of(reader, seat as u32, &present, use_keys);
             }

@@ -2,8 +2,8 @@
 
 use super::{Flat, Reader, EMPTY, FILES, SLOTS, WAITING, WORDS};
 use crate::layout::{
-    CACHED, END, FETCH_TIME, FOUR_ZEROS, FRAMES, IN_FETCH, LOOK_AHEAD, MARKS, READERS,
-    READER_BYTES, SIZES, TURN, ZERO_BYTE,
+    ATTACHES, CACHED, END, EXPECTED, FETCH_TIME, FILLER, FOUR_ZEROS, FRAMES, IN_FETCH, LOOK_AHEAD,
+    MARKS, READERS, READER_BYTES, RULE, SIZES, TURN, ZERO_BYTE,
 };
 
 fn u16_at(image: &[u8], at: usize) -> u32 {
@@ -34,7 +34,7 @@ fn above(size: u32, word: usize) -> u64 {
     u64::MAX.checked_shl(below).unwrap_or(0)
 }
 
-/// An older image with the last pages and marks that it stands for.
+/// An image of 2,208 bytes with the last pages and marks that it stands for.
 fn filled_in(older: &[u8; MARKS]) -> [u8; END] {
     let mut image = [0; END];
     image[..MARKS].copy_from_slice(older);
@@ -68,13 +68,19 @@ impl Flat {
             cached: read_map(&image[CACHED..IN_FETCH]),
             in_fetch: read_map(&image[IN_FETCH..MARKS]),
             taken: 0,
+            weighted: image[RULE] == 1,
+            expected: std::array::from_fn(|file| u16_at(image, EXPECTED + 2 * file)),
+            attaches: std::array::from_fn(|file| u16_at(image, ATTACHES + 2 * file)),
         };
         let numbers_fit = (1..=1_024).contains(&flat.frames)
             && flat.turn < SLOTS
             && image[ZERO_BYTE] == 0
             && (1..=2_000_000).contains(&flat.look_ahead)
             && flat.fetch_time <= 2_000_000
-            && image[FOUR_ZEROS..CACHED] == [0; 4];
+            && image[FOUR_ZEROS..CACHED] == [0; 4]
+            && image[RULE] <= 1
+            && image[FILLER] == 0
+            && flat.expected.iter().all(|&readers| readers <= 1_000);
         if !numbers_fit {
             return None;
         }
@@ -93,12 +99,18 @@ impl Flat {
         Some(flat)
     }
 
-    /// The same for an image of either length.
-    pub(super) fn restore_either(image: &[u8]) -> Option<Flat> {
-        match <&[u8; MARKS]>::try_from(image) {
-            Ok(older) => Flat::restore(&filled_in(older)),
-            Err(_) => Flat::restore(image),
+    /// The same for an image of any length that there is: what a shorter one lacks at its
+    /// end is 0.
+    pub(super) fn restore_any(image: &[u8]) -> Option<Flat> {
+        if let Ok(older) = <&[u8; MARKS]>::try_from(image) {
+            return Flat::restore(&filled_in(older));
         }
+        if image.len() == RULE {
+            let mut longer = [0; END];
+            longer[..RULE].copy_from_slice(image);
+            return Flat::restore(&longer);
+        }
+        Flat::restore(image)
     }
 
     /// Counts the cached pages, if the maps may stand beside each other.
@@ -163,8 +175,14 @@ impl Flat {
         image[FOUR_ZEROS..CACHED].fill(0);
         write_map(&mut image[CACHED..IN_FETCH], &self.cached);
         write_map(&mut image[IN_FETCH..MARKS], &self.in_fetch);
-        for (field, reader) in image[MARKS..END].chunks_exact_mut(2).zip(&self.readers) {
+        for (field, reader) in image[MARKS..RULE].chunks_exact_mut(2).zip(&self.readers) {
             field.copy_from_slice(&(reader.mark as u16).to_le_bytes());
+        }
+        image[RULE] = self.weighted.into();
+        image[FILLER] = 0;
+        let counts = self.expected.iter().chain(&self.attaches);
+        for (field, &count) in image[EXPECTED..END].chunks_exact_mut(2).zip(counts) {
+            field.copy_from_slice(&(count as u16).to_le_bytes());
         }
     }
 }

@@ -2,7 +2,7 @@
 //! L, Q and C, come from the model.
 
 use super::{Flat, Reader, FILES, SLOTS, WORDS};
-use crate::call::Call;
+use crate::call::{Call, Settings};
 use crate::layout;
 use crate::limits::{setup_fits, LINE_BYTES, MOST_IN_FIELD};
 use crate::model::{respond, State};
@@ -121,7 +121,7 @@ enum Reply {
 }
 
 impl Flat {
-    /// "a state without readers, pages or fetches".
+    /// "a state without readers, pages or fetches", as an S line sets it: 1989, E 0.
     fn empty(frames: u32, look_ahead: u32, fetch_time: u32, sizes: [u32; FILES]) -> Flat {
         Flat {
             frames,
@@ -133,6 +133,9 @@ impl Flat {
             cached: [0; WORDS],
             in_fetch: [0; WORDS],
             taken: 0,
+            weighted: false,
+            expected: [0; FILES],
+            attaches: [0; FILES],
         }
     }
 
@@ -141,8 +144,9 @@ impl Flat {
         let &[frames, look_ahead, fetch_time, ref sizes @ ..] = values else {
             return None;
         };
-        let fits = setup_fits(frames, look_ahead, fetch_time, sizes);
-        let sizes = std::array::from_fn(|file| sizes[file] as u32);
+        let sizes = sizes.try_into().ok()?;
+        let fits = setup_fits(&Settings::of_1989(frames, look_ahead, fetch_time, sizes));
+        let sizes = sizes.map(|size| size as u32);
         fits.then(|| Flat::empty(frames as u32, look_ahead as u32, fetch_time as u32, sizes))
     }
 

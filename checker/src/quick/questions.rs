@@ -10,10 +10,10 @@ use std::ops::Range;
 const BEHIND: u64 = 256;
 const NOT_SEEN: u64 = 257;
 
-/// Questions on an image of either length: Restore, each question by itself, and the
-/// number.
+/// Questions on an image of any length that there is: Restore, each question by itself,
+/// and the number.
 pub fn when_read(image: &[u8], questions: &[u64], answers: &mut [u64]) -> u64 {
-    let Some(flat) = Flat::restore_either(image) else {
+    let Some(flat) = Flat::restore_any(image) else {
         return 13;
     };
     let handed = answers.len().min(ROWS_HANDED);
@@ -31,7 +31,7 @@ pub fn when_read(image: &[u8], questions: &[u64], answers: &mut [u64]) -> u64 {
 
 /// One question on an image by itself: Restore, and the number of the answer.
 pub fn question(image: &[u8], file: u64, page: u64) -> u64 {
-    match Flat::restore_either(image) {
+    match Flat::restore_any(image) {
         Some(flat) => flat.when(file, page),
         None => 13,
     }

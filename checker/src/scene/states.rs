@@ -1,5 +1,6 @@
 //! Random valid states. Bounds are met far more often than by even odds.
 
+use super::weights::{weigh, weight_state};
 use crate::limits::{FETCH_TIME, FILES, LOOK_AHEAD, SLOTS};
 use crate::model::{Page, Reader, State};
 use crate::random::Dice;
@@ -8,11 +9,18 @@ const EDGE_SIZES: [u64; 6] = [1, 63, 64, 65, 1_023, 1_024];
 const EDGE_FRAMES: [u64; 9] = [1, 2, 3, 63, 64, 65, 500, 1_023, 1_024];
 const EDGE_PACES: [u64; 8] = [1, 2, 3, 10, 100, 333, 999, 1_000];
 
-/// A state that Restore accepts.
+/// A state that Restore accepts, under either rule.
 pub fn any_state(dice: &mut Dice) -> State {
-    if dice.once_in(6) {
-        return link_state(dice);
-    }
+    let mut state = match dice.below(12) {
+        0..=1 => link_state(dice),
+        2 => return weight_state(dice),
+        _ => usual_state(dice),
+    };
+    weigh(dice, &mut state);
+    state
+}
+
+fn usual_state(dice: &mut Dice) -> State {
     let mut state = State::idle();
     state.frames = match dice.below(3) {
         0 => dice.between(1, 1_024),
@@ -32,7 +40,7 @@ pub fn any_state(dice: &mut Dice) -> State {
 
 /// A state in which pages in fetch may decide: fetches take time, every frame is taken
 /// by a page ahead of some reader, and of those between some are in fetch and some
-/// neither. Now and then no fetch is open, as before a Run.
+/// neither. Now and then no fetch is open, as before a Run. The rule is that of 1989.
 pub fn link_state(dice: &mut Dice) -> State {
     let mut state = State::idle();
     state.turn = dice.below(SLOTS);
@@ -79,6 +87,7 @@ fn place_ahead(dice: &mut Dice, state: &mut State) {
 /// No page is in fetch; `frames` and the pages of look-ahead are given.
 pub fn long_run_state(dice: &mut Dice, frames: u64, reach: u64) -> State {
     let mut state = State::idle();
+    weigh(dice, &mut state);
     let pace = any_pace(dice);
     state.frames = frames;
     state.look_ahead = reach * pace;
@@ -271,7 +280,7 @@ fn pages_ahead(dice: &mut Dice, state: &State) -> Vec<Page> {
     pages
 }
 
-fn let_some_wait(dice: &mut Dice, state: &mut State) {
+pub(super) fn let_some_wait(dice: &mut Dice, state: &mut State) {
     for reader in state.readers.values_mut() {
         let may_wait = !reader.is_at_end() && state.in_fetch.contains(&reader.next_page());
         reader.waiting = may_wait && !dice.once_in(3);

@@ -126,8 +126,9 @@ impl Stream {
         }
     }
 
-    /// Lines that lead to this state, if its readers' marks are their positions: pages
-    /// are read one by one and arrive, or stay in fetch, and then its readers dock.
+    /// Lines that lead to this state but for R, if its rule is that of 1989, E is 0 and its
+    /// readers' marks are their positions: pages are read one by one and arrive, or stay
+    /// in fetch, and then its readers dock. R counts all who did.
     pub fn lead_to(&mut self, wanted: &State) {
         self.say(setup_line(&setup_values(wanted)));
         self.say(format!("N,{}", wanted.turn));

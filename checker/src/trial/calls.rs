@@ -2,10 +2,12 @@
 
 use super::{hold, Report};
 use crate::call::{Call, Entry};
-use crate::limits::MOST_TURNS;
-use crate::model::{Page, State};
+use crate::limits::{FILES, MOST_TURNS, SLOTS};
+use crate::model::{Page, Rule, State};
 use crate::random::Dice;
-use crate::scene::{any_call, any_state, calls_at_bounds, link_state, long_run_state};
+use crate::scene::{
+    any_call, any_state, calls_at_bounds, link_state, long_run_state, weight_state,
+};
 
 /// Calls made one after the other from each random state.
 const CALLS_PER_STATE: u64 = 30;
@@ -40,6 +42,41 @@ pub fn on_the_link(report: &mut Report, entry: Entry, dice: &mut Dice, states: u
     }
 }
 
+/// Calls that the 1993 rule decides, on so many states: Steals until nothing is cached,
+/// each page in fetch that arrives, and once all fetches are lost a short Run, before
+/// an Attach to each file and after.
+pub fn by_weight(report: &mut Report, entry: Entry, dice: &mut Dice, states: u64) {
+    for _ in 0..states {
+        let state = weight_state(dice);
+        let image = state.image();
+        let mut left = image.clone();
+        for _ in 0..=state.cached.len() {
+            (_, left) = hold(report, entry, &left, Call::Steal);
+        }
+        let mut left = image.clone();
+        for &Page { file, number: page } in &state.in_fetch {
+            hold(report, entry, &image, Call::Arrive { file, page });
+            (_, left) = hold(report, entry, &left, Call::Lost { file, page });
+        }
+        let run = Call::Run {
+            turns: dice.between(1, 64),
+        };
+        hold(report, entry, &left, run);
+        for file in 0..FILES {
+            let (slot, pace, start, last) = (dice.below(SLOTS), 10, 0, 1);
+            let attach = Call::Attach {
+                slot,
+                file,
+                pace,
+                start,
+                last,
+            };
+            (_, left) = hold(report, entry, &left, attach);
+        }
+        hold(report, entry, &left, run);
+    }
+}
+
 /// On each of so many states every call at every bound. The states are ones
 /// with few reads left, so that a Run of 16,384 turns is not long for the model.
 pub fn bounds(report: &mut Report, entry: Entry, dice: &mut Dice, states: u64) {
@@ -61,10 +98,14 @@ fn reads_left(state: &State) -> u64 {
 }
 
 /// Runs of 16,384 turns with sixteen readers on full files: narrow and wide
-/// caches, short and longer look-aheads.
+/// caches, short and longer look-aheads, under either rule.
 pub fn long_runs(report: &mut Report, entry: Entry, dice: &mut Dice) {
     for (frames, reach) in [(1, 8), (64, 4), (64, 20), (300, 6)] {
-        let image = long_run_state(dice, frames, reach).image();
-        hold(report, entry, &image, Call::Run { turns: MOST_TURNS });
+        let mut state = long_run_state(dice, frames, reach);
+        for rule in [Rule::Of1989, Rule::Of1993] {
+            state.rule = rule;
+            let run = Call::Run { turns: MOST_TURNS };
+            hold(report, entry, &state.image(), run);
+        }
     }
 }

@@ -3,21 +3,27 @@
 
 use super::{hold, Report, WRONG_LENGTHS};
 use crate::call::Entry;
-use crate::layout::{CACHED, END, FOUR_ZEROS, IN_FETCH, MARKS, READERS, SIZES};
+use crate::layout::{
+    ATTACHES, CACHED, END, EXPECTED, FOUR_ZEROS, IN_FETCH, MARKS, READERS, RULE, SIZES,
+};
 use crate::limits::IMAGE_BYTES;
 use crate::random::Dice;
 use crate::scene::{any_call, any_state};
 use std::ops::Range;
 
-/// The whole image; then numbers, sizes, readers, cached map, fetch map, marks.
-pub(super) const PIECES: [Range<usize>; 7] = [
+/// The whole image; then numbers, sizes, readers, cached map, fetch map, marks, rule with
+/// its filler, E, R.
+pub(super) const PIECES: [Range<usize>; 10] = [
     0..END,
     0..SIZES,
     SIZES..READERS,
     READERS..FOUR_ZEROS,
     CACHED..IN_FETCH,
     IN_FETCH..MARKS,
-    MARKS..END,
+    MARKS..RULE,
+    RULE..EXPECTED,
+    EXPECTED..ATTACHES,
+    ATTACHES..END,
 ];
 
 /// Every byte changed, each in some valid images: one bit of it, or several.

@@ -1,11 +1,13 @@
 //! The third statement on small instances: no schedule has fewer fetches than
-//! Run, found by trying them all.
+//! Run, found by trying them all. A.6: "A user who selects 1993 has no best-schedule
+//! result", so these are of the 1989 rule, whatever E and R are.
 
 use super::{hold, Report};
 use crate::call::{Call, Entry};
 use crate::limits::{FILES, MOST_TURNS, SLOTS};
-use crate::model::{Page, Reader, State};
+use crate::model::{Page, Reader, Rule, State};
 use crate::random::Dice;
+use crate::scene::weigh;
 
 /// All pages of all files in a small instance; all their sets are tried.
 const MOST_PAGES: u64 = 10;
@@ -39,6 +41,8 @@ pub fn fewest(report: &mut Report, entry: Entry, dice: &mut Dice, instances: u64
 /// reader".
 fn small_state(dice: &mut Dice) -> State {
     let mut state = State::idle();
+    weigh(dice, &mut state);
+    state.rule = Rule::Of1989;
     state.frames = dice.between(1, 4);
     state.turn = dice.below(SLOTS);
     let mut pages_left = MOST_PAGES;
@@ -74,6 +78,11 @@ fn small_state(dice: &mut Dice) -> State {
         state.cached.insert(dice.pick(&pages));
     }
     state
+}
+
+/// The fewest fetches that any schedule of so many turns needs.
+pub fn by_any_schedule(start: &State, turns: u64) -> u64 {
+    fewest_fetches(start, &reads_laid_down(start, turns))
 }
 
 /// Holds one Run to the brute force. True if it dropped a page.

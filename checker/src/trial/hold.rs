@@ -40,8 +40,10 @@ pub fn hold(report: &mut Report, entry: Entry, image: &[u8], call: Call) -> (u64
     if expected.0 != Refusal::Image.number() {
         let (before, _) = State::restore(image);
         let mut met = cases::measured(&before, call, &answer);
+        met.extend(cases::counted(&before, call, &answer));
         if !answer.starts_with('E') {
             met.extend(cases::on_the_link(&before, call));
+            met.extend(cases::by_weight(&before, call));
         }
         for (name, case) in met {
             report.note(name, case.to_string());
@@ -129,7 +131,11 @@ pub(super) fn describe(image: &[u8]) -> String {
         return format!("image of {} bytes that Restore refuses", image.len());
     }
     format!(
-        "frames {}, L {}, T {}, sizes {:?}, turn {}, {} cached, {} in fetch, readers {:?}",
+        "{:?}, E {:?}, R {:?}, frames {}, L {}, T {}, sizes {:?}, turn {}, {} cached, \
+         {} in fetch, readers {:?}",
+        state.rule,
+        state.expected,
+        state.attaches,
         state.frames,
         state.look_ahead,
         state.fetch_time,

@@ -3,10 +3,13 @@
 
 use super::{hold, older, walks, Outcomes, Report};
 use crate::call::{Lister, Order};
-use crate::limits::{FILES, FILE_PAGES, IMAGE_BYTES, OLDER_IMAGE_BYTES, SLOTS};
-use crate::model::{self, Page, Reader, State};
+use crate::cases::{by_1989, choices, CHOICES};
+use crate::limits::{FILES, FILE_PAGES, SLOTS};
+use crate::limits::{IMAGE_BYTES, MARKED_IMAGE_BYTES, OLDER_IMAGE_BYTES};
+use crate::model::{self, Page, Reader, Rule, State};
 use crate::random::Dice;
-use crate::scene::any_state;
+use crate::scene::{any_state, weight_state};
+use std::collections::BTreeSet;
 
 /// What must be met, by each of the two: its answers, lists and images; and, where
 /// it was carried out, what its walks have met.
@@ -16,6 +19,8 @@ pub const LIST_OUTCOMES: &Outcomes = &[
     ("Steal list", walks::WORDS),
     ("Steal list", walks::READERS),
     ("Steal list", walks::LINK),
+    ("Steal list", LISTED),
+    ("Steal list", CHOICES),
     ("Fetch list", ANSWERS),
     ("Fetch list", walks::ENDS),
     ("Fetch list", walks::WORDS),
@@ -26,11 +31,18 @@ pub const LIST_OUTCOMES: &Outcomes = &[
 #[rustfmt::skip]
 const ANSWERS: &[&str] = &[
     "13", "12", "carried out",
-    "2,240 bytes", "2,208 bytes",
+    "2,274 bytes", "2,240 bytes", "2,208 bytes",
     "into just enough", "into more", "nothing into a list", "nothing into an empty list",
     "12, one too short", "12, far too short", "12, an empty list",
-    "13, 2,240 bytes", "13, 2,208 bytes", "13, another length",
+    "13, 2,274 bytes", "13, 2,240 bytes", "13, 2,208 bytes", "13, another length",
     "13, a list", "13, an empty list",
+];
+
+/// What the rule of a state makes of its list.
+#[rustfmt::skip]
+const LISTED: &[&str] = &[
+    "under 1989", "under 1993", "another list by 1989", "counts held, another list",
+    "a file comes back", "of all eight files", "1,024 keys by weight",
 ];
 
 /// A list that is never too short: every page of every file.
@@ -98,6 +110,9 @@ fn met(order: Order, image: &[u8], room: usize, number: u64) -> Vec<&'static str
             let count = (number >> 16 & 0xFFFF) as usize;
             let mut met = carried_out(image.len(), count, room);
             met.extend(walks::met(&state, order));
+            if order == Order::Steal {
+                met.extend(listed(&state));
+            }
             met
         }
     }
@@ -105,7 +120,8 @@ fn met(order: Order, image: &[u8], room: usize, number: u64) -> Vec<&'static str
 
 fn refused_13(image: usize, room: usize) -> Vec<&'static str> {
     let length = match image {
-        IMAGE_BYTES => "13, 2,240 bytes",
+        IMAGE_BYTES => "13, 2,274 bytes",
+        MARKED_IMAGE_BYTES => "13, 2,240 bytes",
         OLDER_IMAGE_BYTES => "13, 2,208 bytes",
         _ => "13, another length",
     };
@@ -127,7 +143,8 @@ fn refused_12(count: usize, room: usize) -> Vec<&'static str> {
 
 fn carried_out(image: usize, count: usize, room: usize) -> Vec<&'static str> {
     let length = match image {
-        IMAGE_BYTES => "2,240 bytes",
+        IMAGE_BYTES => "2,274 bytes",
+        MARKED_IMAGE_BYTES => "2,240 bytes",
         _ => "2,208 bytes",
     };
     let lent = match room {
@@ -139,14 +156,55 @@ fn carried_out(image: usize, count: usize, room: usize) -> Vec<&'static str> {
     vec!["carried out", length, lent]
 }
 
-/// An image of either length, mostly a sound one.
+/// What the rule makes of a steal list.
+fn listed(state: &State) -> Vec<&'static str> {
+    if state.rule == Rule::Of1989 {
+        return vec!["under 1989"];
+    }
+    let order = state.steal_order();
+    let mut files: Vec<u64> = order.iter().map(|page| page.file).collect();
+    files.dedup();
+    let of_files: BTreeSet<u64> = files.iter().copied().collect();
+    let comes_back = files.len() > of_files.len();
+    let mut met = vec!["under 1993"];
+    met.extend(choices(state));
+    met.extend(walks::applying(&[
+        (
+            order != by_1989(state).steal_order(),
+            "another list by 1989",
+        ),
+        (order != counts_held(state), "counts held, another list"),
+        (comes_back, "a file comes back"),
+        (of_files.len() == FILES as usize, "of all eight files"),
+        (order.len() == 1_024, "1,024 keys by weight"),
+    ]));
+    met
+}
+
+/// The list if the counts of cached pages did not fall: all pages of one file, and then
+/// of the next.
+fn counts_held(state: &State) -> Vec<Page> {
+    let mut left = by_1989(state).steal_order();
+    let mut cached = state.cached_by_file();
+    let mut order = Vec::new();
+    while let Some(file) = state.file_to_give_up(cached) {
+        cached[file as usize] = 0;
+        order.extend(left.iter().filter(|page| page.file == file));
+        left.retain(|page| page.file != file);
+    }
+    order
+}
+
+/// An image of any length that there is, mostly a sound one.
 pub(super) fn any_image(dice: &mut Dice) -> Vec<u8> {
-    match dice.below(6) {
+    match dice.below(8) {
         0 => older::any_image(dice),
         1 => {
             let state = any_state(dice);
             older::older_image(dice, &state)
         }
+        2 => older::marked_image(&any_state(dice)),
+        3 => weight_state(dice).image(),
         _ => any_state(dice).image(),
     }
 }
@@ -170,17 +228,24 @@ fn any_list(dice: &mut Dice, order: Order, image: &[u8]) -> Vec<u16> {
 
 /// Two readers at the start of each file, whose look-aheads reach its end, late in
 /// time: with T 0 and above, with nothing cached and with every frame taken; and with
-/// every other page in fetch, so that T may be as large as it gets.
+/// every other page in fetch, so that T may be as large as it gets. Each under either
+/// rule, with as many expected readers as there may be for file 7.
 pub(super) fn largest() -> Vec<State> {
     let mut states = Vec::new();
     for fetch_time in [0, 1_953, 2_000_000] {
-        for cached in [0, 1_024] {
+        for (cached, rule) in [
+            (0, Rule::Of1993),
+            (1_024, Rule::Of1989),
+            (1_024, Rule::Of1993),
+        ] {
             let mut state = State::idle();
             state.frames = 1_024;
             state.look_ahead = 2_000_000;
             state.fetch_time = fetch_time;
             state.sizes = [FILE_PAGES; FILES as usize];
             state.turn = 11;
+            state.rule = rule;
+            state.expected = [0, 1, 30, 333, 500, 777, 999, 1_000];
             for slot in 0..SLOTS {
                 let reader = Reader::running(slot % FILES, 1_000 - slot, 0, FILE_PAGES);
                 state.readers.insert(slot, reader);

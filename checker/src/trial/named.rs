@@ -1,20 +1,22 @@
 //! Trials by name: sentences of the papers that random calls may miss, each as a
 //! few lines with their answers. The program gets the lines, the C entries the
-//! calls among them. Some are of images or of Measure, and so for the entries alone.
+//! calls among them. Some are of images, of Measure or of the 1993 rule, and so for the
+//! entries alone.
 
 use super::fields::{put_two, two_in};
 use super::{hold, streams, Report};
 use crate::call::{Call, Entry};
 use crate::feed::{Cut, Feed, Program};
 use crate::layout;
-use crate::limits::OLDER_IMAGE_BYTES;
+use crate::limits::{MARKED_IMAGE_BYTES, OLDER_IMAGE_BYTES};
 use crate::model::{respond, State};
 use crate::scene::Stream;
 
 /// A trial: lines, each with the answer that the papers give it. Between them
 /// `MEASURE,slot,interval,blocked` stands for the call that has no line. `LAST,slot,page:
 /// put` writes a reader's last page over the image, and `LAST,slot: page` says what
-/// stands there; so do MARK and PACE.
+/// stands there; so do MARK and PACE, and by file EXPECTED and ATTACHES, E and R.
+/// `RULE,number: put` writes the rule byte, and the filler behind it as its high byte.
 pub struct Named {
     /// What it tries.
     pub name: &'static str,
@@ -39,10 +41,15 @@ const DOCKED: &str = "S,64,1,0,64,0,0,0,0,0,0,0: O / A,0,0,500,10,60: O";
 const BESIDE: &str = "S,3,40,20,16,16,0,0,0,0,0,0: O / A,0,0,10,4,5: O / A,1,1,10,0,2: O / \
     N,32: N,3,3 / D,0: O / D,1: O / A,0,0,10,3,16: O / A,1,1,12,0,16: O";
 
-/// The trials: WAITING, FIVE, DOCKED and BESIDE stand for the lines above, LONG for a
-/// line of 200 bytes, THREE for one with three fields for each letter.
+/// Files 0 and 1 have 8 pages, of which 7 and 8 of file 0 and 1 of file 1 take all frames;
+/// then the readers that brought them leave. The rule is that of 1993.
+const WEIGHED: &str = "S,3,1,0,8,8,0,0,0,0,0,0: O / A,0,0,1,6,8: O / A,1,1,1,0,1: O / \
+    N,32: N,3,3 / D,0: O / D,1: O / RULE,1: put";
+
+/// The trials: WAITING, FIVE, DOCKED, BESIDE and WEIGHED stand for the lines above, LONG
+/// for a line of 200 bytes, THREE for one with three fields for each letter.
 #[rustfmt::skip]
-const TABLE: [(&str, &str); 61] = [
+const TABLE: [(&str, &str); 85] = [
     ("each refusal has its number",
      "WAITING / S,0,10,0,5,0,0,0,0,0,0,0: E,1 / A,16,0,1,0,5: E,2 / A,1,8,1,0,5: E,3 / \
       A,1,0,1001,0,5: E,4 / A,1,0,1,0,6: E,15 / A,0,0,1,0,5: E,5 / D,16: E,2 / D,1: E,6 / \
@@ -278,6 +285,122 @@ const TABLE: [(&str, &str); 61] = [
     ("no reader waits at its last page",
      "FIVE / A,0,0,1,2,5: O / R,0: F,0,3 / LAST,0,2: put / R,0: E,13 / I,0,3: E,13 / P: E,13 / \
       LAST,0,3: put / R,0: E,7"),
+
+    // "The S line keeps its form: 1989, E 0." By weights, or none, file 0 would be fuller.
+    ("an S line sets the 1989 rule",
+     "S,3,1,0,8,8,0,0,0,0,0,0: O / A,0,0,1,0,2: O / A,1,1,1,7,8: O / N,32: N,3,3 / D,0: O / \
+      D,1: O / L: L,3,1,8,0,2,0,1 / T: S,1,8 / T: S,0,2 / T: S,0,1"),
+    ("an S line has eleven fields",
+     "FIVE / S,5,10,0,5,0,0,0,0,0,0,0,1: E,14 / S,5,10,0,5,0,0,0,0,0,0,0,0,0,0,0,0,0,0,0,0: E,14 / \
+      A,0,0,1,0,5: O"),
+
+    // "cached pages − frames × weight ÷ sum of weights is greatest": shares of 3 and 0, then
+    // of 0 and 3; 1989 takes the largest page
+    ("a file above its share goes first",
+     "WEIGHED / EXPECTED,0,2: put / T: S,1,1 / T: S,0,8 / T: S,0,7 / T: U / \
+      WEIGHED / EXPECTED,1,2: put / T: S,0,8 / T: S,0,7 / T: S,1,1 / T: U / \
+      WEIGHED / EXPECTED,0,2: put / RULE,0: put / T: S,0,8 / T: S,0,7 / T: S,1,1"),
+    // shares of 4/3 and 8/3 beside 1 and 2 cached pages
+    ("shares are not rounded",
+     "S,4,1,0,8,8,0,0,0,0,0,0: O / A,0,0,1,0,1: O / A,1,1,1,0,2: O / N,32: N,3,3 / RULE,1: put / \
+      D,0: O / D,1: O / EXPECTED,0,2: put / EXPECTED,1,3: put / T: S,0,1 / T: S,1,2 / T: S,1,1"),
+    // "a sum of 0 makes every share 0": the fullest file goes
+    ("with a sum of 0 the fullest file goes",
+     "WEIGHED / T: S,0,8 / T: S,1,1 / T: S,0,7 / WEIGHED / EXPECTED,0,1: put / EXPECTED,1,1: put / \
+      EXPECTED,7,1000: put / T: S,0,8 / T: S,1,1 / T: S,0,7"),
+    // "equal: higher file": 2 − 2 and 2 − 2
+    ("equal surpluses: the higher file",
+     "S,4,1,0,8,8,0,0,0,0,0,0: O / A,0,0,1,4,6: O / A,1,1,1,0,2: O / N,32: N,4,4 / RULE,1: put / \
+      D,0: O / D,1: O / EXPECTED,0,2: put / EXPECTED,1,2: put / T: S,1,2 / T: S,0,6 / T: S,1,1 / \
+      T: S,0,5"),
+    // "(E − R, or 0 if negative)": R is 2 for E 1, and the other file has the weight alone
+    ("a weight is not below 0",
+     "WEIGHED / ATTACHES,1,2: put / EXPECTED,1,1: put / EXPECTED,0,2: put / T: S,1,1 / \
+      WEIGHED / ATTACHES,0,65535: put / EXPECTED,0,1000: put / EXPECTED,1,2: put / T: S,0,8 / \
+      T: S,0,7 / T: S,1,1"),
+    // "× size": 4 × 2 beside 1 × 8
+    ("a weight is by the size",
+     "S,4,1,0,2,8,0,0,0,0,0,0: O / A,0,0,1,0,2: O / A,1,1,1,6,8: O / N,32: N,4,4 / RULE,1: put / \
+      D,0: O / D,1: O / EXPECTED,0,5: put / EXPECTED,1,2: put / T: S,1,8 / T: S,0,2 / T: S,1,7"),
+    // "0: no such file": what is expected of it takes no share
+    ("a file of size 0 weighs nothing",
+     "WEIGHED / EXPECTED,0,2: put / EXPECTED,7,1000: put / T: S,1,1 / T: S,0,8 / T: S,0,7 / \
+      EXPECTED,7: 1000"),
+    // "one with cached pages": file 2 has none, and a surplus of 0
+    ("a file without cached pages gives up none",
+     "S,4,1,0,8,8,8,0,0,0,0,0: O / A,0,0,1,0,1: O / A,1,1,1,0,1: O / N,32: N,2,2 / RULE,1: put / \
+      D,0: O / D,1: O / EXPECTED,0,2: put / EXPECTED,1,3: put / T: S,0,1 / T: S,1,1 / T: U"),
+    // the "sum of weights" is over all files: file 2 is expected, and takes the frames
+    ("the sum is over all files",
+     "S,5,1,0,8,8,8,0,0,0,0,0: O / A,0,0,1,0,2: O / A,1,1,1,0,3: O / N,48: N,5,5 / RULE,1: put / \
+      D,0: O / D,1: O / EXPECTED,0,2: put / EXPECTED,1,5: put / T: S,0,2 / T: S,0,1 / \
+      S,5,1,0,8,8,8,0,0,0,0,0: O / A,0,0,1,0,2: O / A,1,1,1,0,3: O / N,48: N,5,5 / RULE,1: put / \
+      D,0: O / D,1: O / EXPECTED,0,2: put / EXPECTED,1,5: put / EXPECTED,2,1000: put / T: S,1,3"),
+    // "the largest page of the first stretch, else the largest ahead but in no look-ahead,
+    // else the largest use key", in file 1, though all pages of file 0 are past
+    ("in the file the three stretches",
+     "S,6,2,0,8,8,0,0,0,0,0,0: O / A,0,0,1,0,1: O / A,1,1,1,0,5: O / N,80: N,6,6 / D,0: O / \
+      D,1: O / RULE,1: put / EXPECTED,0,1000: put / A,2,1,1,2,8: O / T: S,1,2 / T: S,1,1 / \
+      T: S,1,5 / T: S,1,4 / T: S,1,3 / T: S,0,1"),
+    // "R counts attaches to the file", under either rule
+    ("R counts attaches",
+     "S,3,1,0,8,8,0,0,0,0,0,9: O / ATTACHES,0: 0 / A,0,0,1,0,8: O / A,1,7,1,9,9: O / \
+      A,2,0,1,0,8: O / ATTACHES,0: 2 / ATTACHES,1: 0 / ATTACHES,7: 1 / RULE,1: put / \
+      A,3,0,1,0,8: O / ATTACHES,0: 3 / S,3,1,0,8,8,0,0,0,0,0,9: O / ATTACHES,0: 0"),
+    ("no other call counts",
+     "WEIGHED / ATTACHES,0: 1 / ATTACHES,1: 1 / A,0,0,1,0,8: O / R,0: F,0,1 / I,0,1: I,0,8 / \
+      R,0: H,0,1 / R,0: F,0,2 / X,0,2: O / P: F,0,2 / X,0,2: O / N,16: N,1,1 / \
+      MEASURE,0,9,0: O / T: S,0,2 / D,0: O / ATTACHES,0: 2 / ATTACHES,1: 1"),
+    ("a refused Attach does not count",
+     "WEIGHED / A,16,0,1,0,8: E,2 / A,2,2,1,0,8: E,3 / A,2,0,0,0,8: E,4 / A,2,0,1,0,9: E,15 / \
+      A,2,0,1,5,4: E,15 / A,2,0,1,0,8: O / A,2,0,1,0,8: E,5 / A,2,1,1,0,8: E,5 / ATTACHES,0: 2 / \
+      ATTACHES,1: 1 / ATTACHES,2: 0"),
+    // "and stops at 65,535"
+    ("R stops at 65,535",
+     "WEIGHED / ATTACHES,0,65533: put / A,0,0,1,0,8: O / ATTACHES,0: 65534 / A,1,0,1,0,8: O / \
+      ATTACHES,0: 65535 / A,2,0,1,0,8: O / ATTACHES,0: 65535 / RULE,0: put / A,3,0,1,0,8: O / \
+      ATTACHES,0: 65535"),
+    // R takes from the weight at once, and for good: shares of 3/2 and 3/2, then of 3 and 0,
+    // or of 0 and 3
+    ("an attach takes from the weight",
+     "WEIGHED / EXPECTED,0,2: put / EXPECTED,1,2: put / A,0,1,1,1,1: O / T: S,1,1 / \
+      WEIGHED / EXPECTED,0,2: put / EXPECTED,1,2: put / A,0,0,1,8,8: O / T: S,0,8 / \
+      WEIGHED / EXPECTED,0,2: put / EXPECTED,1,2: put / A,0,1,1,1,1: O / D,0: O / T: S,1,1"),
+    // "the head of the steal order is dropped first", by the state's rule
+    ("Arrive goes by the rule",
+     "WEIGHED / EXPECTED,1,2: put / A,0,0,1,0,8: O / R,0: F,0,1 / I,0,1: I,0,8 / \
+      RULE,0: put / R,0: H,0,1 / R,0: F,0,2 / I,0,2: I,1,1"),
+    ("Run goes by the rule",
+     "WEIGHED / EXPECTED,0,3: put / A,0,0,1,6,8: O / A,1,1,1,0,2: O / N,32: N,1,4 / T: S,1,2 / \
+      T: S,0,8 / T: S,0,7 / T: U"),
+    // "A user who selects 1993 has no best-schedule result": more fetches than under 1989,
+    // by a page that is expected to be read; or fewer, where no page is seen before its turn
+    ("Run has another number of fetches by weight",
+     "S,2,100,0,2,1,0,0,0,0,0,0: O / A,0,0,10,1,2: O / A,1,1,10,0,1: O / N,16: N,2,2 / D,0: O / \
+      D,1: O / RULE,1: put / EXPECTED,1,6: put / A,0,0,10,0,2: O / N,32: N,2,2 / \
+      S,2,100,0,2,1,0,0,0,0,0,0: O / A,0,0,10,1,2: O / A,1,1,10,0,1: O / N,16: N,2,2 / D,0: O / \
+      D,1: O / EXPECTED,1,6: put / A,0,0,10,0,2: O / N,32: N,1,2 / \
+      S,2,1,0,8,8,0,0,0,0,0,0: O / A,0,0,1,4,5: O / A,1,1,1,7,8: O / N,16: N,2,2 / D,0: O / \
+      D,1: O / RULE,1: put / EXPECTED,1,3: put / A,0,0,1,0,5: O / A,1,1,1,6,8: O / N,18: N,3,4 / \
+      S,2,1,0,8,8,0,0,0,0,0,0: O / A,0,0,1,4,5: O / A,1,1,1,7,8: O / N,16: N,2,2 / D,0: O / \
+      D,1: O / EXPECTED,1,3: put / A,0,0,1,0,5: O / A,1,1,1,6,8: O / N,18: N,4,4"),
+    // The fetch order, "smaller use key first", knows no weight.
+    ("Prefetch looks at no weight",
+     "WEIGHED / EXPECTED,1,1000: put / A,0,0,1,0,8: O / A,1,1,1,1,8: O / P: F,0,1 / P: F,1,2 / \
+      P: U"),
+    // "A rule byte above 1, a filler byte not 0 [...] gets 13"
+    ("there are two rules",
+     "WEIGHED / RULE,2: put / T: E,13 / RULE,255: put / P: E,13 / RULE,256: put / N,1: E,13 / \
+      RULE,257: put / T: E,13 / RULE,32769: put / T: E,13 / RULE,1: put / T: S,0,8 / \
+      RULE,0: put / T: S,0,7"),
+    // "or an E above 1,000 gets 13", under either rule
+    ("no more than 1,000 are expected",
+     "WEIGHED / EXPECTED,0,1001: put / T: E,13 / RULE,0: put / T: E,13 / EXPECTED,0,65535: put / \
+      P: E,13 / EXPECTED,0,1000: put / EXPECTED,7,1001: put / T: E,13 / EXPECTED,7,1000: put / \
+      T: S,0,8 / RULE,1: put / T: S,1,1 / EXPECTED,0: 1000 / EXPECTED,7: 1000"),
+    ("any R is one",
+     "WEIGHED / ATTACHES,0,65535: put / ATTACHES,7,65535: put / T: S,0,8 / ATTACHES,0: 65535 / \
+      ATTACHES,7: 65535 / ATTACHES,7,1001: put / T: S,1,1 / ATTACHES,7: 1001"),
 ];
 
 /// Every trial.
@@ -289,6 +412,7 @@ pub fn all() -> Vec<Named> {
     let written_out = |steps: &str| {
         let steps = steps.replace("WAITING", WAITING).replace("FIVE", FIVE);
         let steps = steps.replace("DOCKED", DOCKED).replace("BESIDE", BESIDE);
+        let steps = steps.replace("WEIGHED", WEIGHED);
         let steps = steps.replace("THREE", &three);
         steps.replace("LONG", &long)
     };
@@ -378,19 +502,22 @@ fn measure_of(step: &str) -> Option<Call> {
     })
 }
 
-/// Writes a slot's last page, mark or pace over the image, or holds it to what is
-/// said.
+/// Writes a slot's last page, mark or pace, a file's E or R, or the rule over the image,
+/// or holds it to what is said.
 fn field(report: &mut Report, image: &mut [u8], step: &str, answer: &str) {
     let mut pieces = step.split(',');
-    let place = match pieces.next() {
-        Some("LAST") => layout::last_page,
-        Some("MARK") => layout::mark,
-        Some("PACE") => layout::pace,
+    let name = pieces.next().unwrap_or_default();
+    let number = |field: &str| field.parse::<u16>().expect("a number");
+    let mut index = || usize::from(pieces.next().map(number).expect("a slot or a file"));
+    let at = match name {
+        "LAST" => layout::last_page(index()),
+        "MARK" => layout::mark(index()),
+        "PACE" => layout::pace(index()),
+        "EXPECTED" => layout::expected(index()),
+        "ATTACHES" => layout::attaches(index()),
+        "RULE" => layout::RULE..layout::EXPECTED,
         _ => panic!("{step}: no such step"),
     };
-    let number = |field: &str| field.parse::<u16>().expect("a number");
-    let slot = pieces.next().map(number).expect("a slot");
-    let at = place(slot.into());
     if let Some(put) = pieces.next() {
         put_two(image, at, number(put));
     } else {
@@ -402,7 +529,7 @@ fn field(report: &mut Report, image: &mut [u8], step: &str, answer: &str) {
 }
 
 /// One call on an image, and on buffers that are none: "The buffer must be exactly"
-/// 2,240 bytes, "else 13, tested first". Gives the image behind it.
+/// 2,274 bytes, "else 13, tested first". Gives the image behind it.
 fn hold_call(
     report: &mut Report,
     entry: Entry,
@@ -411,12 +538,13 @@ fn hold_call(
     expected: u64,
 ) -> Vec<u8> {
     let longer = [image, &[0]].concat();
-    let older = &image[..OLDER_IMAGE_BYTES];
+    let [older, marked] = [OLDER_IMAGE_BYTES, MARKED_IMAGE_BYTES].map(|length| &image[..length]);
     let tries = [
         (image, expected),
         (&image[1..], 13),
         (&longer, 13),
         (older, 13),
+        (marked, 13),
     ];
     let [after, ..] = tries.map(|(buffer, expected)| {
         let (number, after) = hold(report, entry, buffer, call);

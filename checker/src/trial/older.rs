@@ -1,13 +1,14 @@
-//! Older images, of 2,208 bytes: through Restore and Save themselves, and through
-//! the header's function that makes them images of 2,240.
+//! Older images, of 2,240 and 2,208 bytes: through Restore and Save themselves, and
+//! through the header's function that makes them images of 2,274.
 
-use super::fields::{changed_image, put_two, two_in};
+use super::fields::{changed_image, put_two, two_in, weighed_image};
 use super::hold::{describe, hold_buffer};
 use super::{damage, hold, Outcomes, Report, WRONG_LENGTHS};
 use crate::call::{Entry, Older, Probe, Upgrade};
 use crate::layout;
-use crate::limits::{FILES, IMAGE_BYTES, OLDER_IMAGE_BYTES, SLOTS};
-use crate::model::{self, Answer, State};
+use crate::limits::{FILES, LENGTHS, SLOTS};
+use crate::limits::{IMAGE_BYTES, MARKED_IMAGE_BYTES, OLDER_IMAGE_BYTES};
+use crate::model::{self, Answer, Rule, State};
 use crate::random::Dice;
 use crate::scene::{any_call, any_state};
 
@@ -16,14 +17,17 @@ use crate::scene::{any_call, any_state};
 /// length, apart and in place, of what is an image and what is none.
 #[rustfmt::skip]
 pub const OLDER_OUTCOMES: &Outcomes = &[
-    (RESTORED, &["2,240 bytes", "2,208 bytes"]),
-    (NOT_RESTORED, &["2,240 bytes", "2,208 bytes", "fewer", "between", "more"]),
-    (SAVED, &["into 2,240 bytes", "into more", "the idle state", "a state"]),
-    (NOT_SAVED, &["into 2,239 bytes", "into 2,208 bytes", "into fewer"]),
+    (RESTORED, &["2,274 bytes", "2,240 bytes", "2,208 bytes"]),
+    (RESTORED, &["1989", "1993", "1989 with E and R"]),
+    (NOT_RESTORED, &["2,274 bytes", "2,240 bytes", "2,208 bytes"]),
+    (NOT_RESTORED, &["fewer", "between 2,208 and 2,240", "between 2,240 and 2,274", "more"]),
+    (SAVED, &["into 2,274 bytes", "into more", "the idle state", "a state"]),
+    (NOT_SAVED, &["into 2,273 bytes", "into 2,240 bytes", "into 2,208 bytes", "into fewer"]),
     (NOT_SAVED, &["the idle state", "a state"]),
-    (ZEROS, &["in no slot", "in some", "in all", "in 2,240 bytes, refused"]),
-    (UPGRADED, &["2,240 bytes", "2,208 bytes"]),
-    (UPGRADED, &["2,240 bytes in place", "2,208 bytes in place"]),
+    (ZEROS, &["in no slot", "in some", "in all"]),
+    (ZEROS, &["in 2,274 bytes, refused", "in 2,240 bytes, refused"]),
+    (UPGRADED, &["2,274 bytes", "2,240 bytes", "2,208 bytes"]),
+    (UPGRADED, &["2,274 bytes in place", "2,240 bytes in place", "2,208 bytes in place"]),
     (UPGRADED, &["an image", "no image"]),
     (UPGRADED, &["zeros", "a zero in no file", "a zero of no condition"]),
     (NOT_UPGRADED, &["the buffer", "the older image", "both", "in place"]),
@@ -40,9 +44,9 @@ const NOT_UPGRADED: &str = "13 for length";
 /// Calls made one after the other on an upgraded image.
 const CALLS_PER_IMAGE: u64 = 3;
 
-/// Restore and Save, with every byte of an image changed, in either length.
+/// Restore and Save, with every byte of an image changed, in each length.
 pub fn every_byte(report: &mut Report, probe: Probe, dice: &mut Dice) {
-    for length in [IMAGE_BYTES, OLDER_IMAGE_BYTES] {
+    for length in LENGTHS {
         for position in 0..length {
             let mut image = sound_image(dice, length);
             image[position] ^= damage::any_change(dice);
@@ -102,6 +106,7 @@ pub(super) fn hold_probe(report: &mut Report, probe: Probe, image: &[u8], buffer
     });
     note_probe(report, image.len(), buffer.len(), restored, saved);
     note_zeros(report, image, restored);
+    note_rule(report, image);
     restored
 }
 
@@ -135,13 +140,21 @@ pub(super) fn hold_upgrade(
     Some(image)
 }
 
-/// An image of 2,240 bytes, or an older one.
+/// An image of 2,274 bytes, or an older one.
 fn sound_image(dice: &mut Dice, length: usize) -> Vec<u8> {
     let state = any_state(dice);
     match length {
         OLDER_IMAGE_BYTES => older_image(dice, &state),
+        MARKED_IMAGE_BYTES => marked_image(&state),
         _ => state.image(),
     }
+}
+
+/// The image of 2,240 bytes of a state, but for its rule, E and R.
+pub fn marked_image(state: &State) -> Vec<u8> {
+    let mut image = state.image();
+    image.truncate(MARKED_IMAGE_BYTES);
+    image
 }
 
 /// The image of 2,208 bytes of a state, in which no taken slot, some or all have 0
@@ -158,9 +171,10 @@ pub fn older_image(dice: &mut Dice, state: &State) -> Vec<u8> {
     image
 }
 
-/// An image of either length, sound or damaged, random bytes, or another length.
+/// An image of any length that there is, sound or damaged, random bytes, or another
+/// length.
 pub(super) fn any_image(dice: &mut Dice) -> Vec<u8> {
-    let length = dice.pick(&[IMAGE_BYTES, OLDER_IMAGE_BYTES, OLDER_IMAGE_BYTES]);
+    let length = dice.pick(&LENGTHS);
     let mut image = sound_image(dice, length);
     match dice.below(8) {
         0 => {
@@ -168,12 +182,16 @@ pub(super) fn any_image(dice: &mut Dice) -> Vec<u8> {
             image[at] ^= damage::any_change(dice);
         }
         1 => {
-            let piece = &damage::PIECES[dice.below(7) as usize];
+            let pieces = damage::PIECES.len() as u64;
+            let piece = &damage::PIECES[dice.below(pieces) as usize];
             damage::spoil(dice, &mut image, piece);
         }
         2 => {
             let state = any_state(dice);
-            (.., image) = changed_image(dice, &state);
+            (.., image) = match dice.below(2) {
+                0 => weighed_image(dice, &state),
+                _ => changed_image(dice, &state),
+            };
             image.truncate(length);
         }
         3 => image.resize(dice.pick(&WRONG_LENGTHS), 0),
@@ -214,10 +232,12 @@ fn any_buffer(dice: &mut Dice) -> Vec<u8> {
 
 fn note_probe(report: &mut Report, image: usize, buffer: usize, restored: u64, saved: u64) {
     let length = match image {
-        IMAGE_BYTES => "2,240 bytes",
+        IMAGE_BYTES => "2,274 bytes",
+        MARKED_IMAGE_BYTES => "2,240 bytes",
         OLDER_IMAGE_BYTES => "2,208 bytes",
         _ if image < OLDER_IMAGE_BYTES => "fewer",
-        _ if image < IMAGE_BYTES => "between",
+        _ if image < MARKED_IMAGE_BYTES => "between 2,208 and 2,240",
+        _ if image < IMAGE_BYTES => "between 2,240 and 2,274",
         _ => "more",
     };
     let (name, state) = match restored == Answer::Done.number() {
@@ -226,9 +246,10 @@ fn note_probe(report: &mut Report, image: usize, buffer: usize, restored: u64, s
     };
     report.note(name, length.to_string());
     let room = match buffer {
-        IMAGE_BYTES => "into 2,240 bytes",
+        IMAGE_BYTES => "into 2,274 bytes",
+        MARKED_IMAGE_BYTES => "into 2,240 bytes",
         OLDER_IMAGE_BYTES => "into 2,208 bytes",
-        _ if buffer == IMAGE_BYTES - 1 => "into 2,239 bytes",
+        _ if buffer == IMAGE_BYTES - 1 => "into 2,273 bytes",
         _ if buffer < IMAGE_BYTES => "into fewer",
         _ => "into more",
     };
@@ -245,7 +266,8 @@ fn note_zeros(report: &mut Report, image: &[u8], restored: u64) {
     let taken = restored == Answer::Done.number();
     let (zeros, slots) = zeros_of(image);
     let case = match image.len() {
-        IMAGE_BYTES if zeros > 0 && !taken => "in 2,240 bytes, refused",
+        IMAGE_BYTES if zeros > 0 && !taken => "in 2,274 bytes, refused",
+        MARKED_IMAGE_BYTES if zeros > 0 && !taken => "in 2,240 bytes, refused",
         OLDER_IMAGE_BYTES if taken && slots > 0 => match zeros {
             0 => "in no slot",
             _ if zeros == slots => "in all",
@@ -254,6 +276,19 @@ fn note_zeros(report: &mut Report, image: &[u8], restored: u64) {
         _ => return,
     };
     report.note(ZEROS, case.to_string());
+}
+
+/// Notes the rule of an image that is taken.
+fn note_rule(report: &mut Report, image: &[u8]) {
+    if let Ok(state) = State::of_image(image) {
+        let weighed = state.expected.into_iter().chain(state.attaches);
+        let rule = match state.rule {
+            Rule::Of1993 => "1993",
+            Rule::Of1989 if weighed.sum::<u64>() > 0 => "1989 with E and R",
+            Rule::Of1989 => "1989",
+        };
+        report.note(RESTORED, rule.to_string());
+    }
 }
 
 /// How many taken slots have 0 for their last page, and how many are taken.
@@ -269,7 +304,7 @@ fn zeros_of(image: &[u8]) -> (usize, usize) {
 }
 
 fn note_upgrade(report: &mut Report, older: &[u8], buffer: usize, place: &str, number: u64) {
-    let known = older.len() == IMAGE_BYTES || older.len() == OLDER_IMAGE_BYTES;
+    let known = LENGTHS.contains(&older.len());
     if number != Answer::Done.number() {
         let case = match (buffer == IMAGE_BYTES, known) {
             (false, true) => "the buffer",
@@ -283,7 +318,8 @@ fn note_upgrade(report: &mut Report, older: &[u8], buffer: usize, place: &str, n
         return;
     }
     let length = match older.len() {
-        IMAGE_BYTES => "2,240 bytes",
+        IMAGE_BYTES => "2,274 bytes",
+        MARKED_IMAGE_BYTES => "2,240 bytes",
         _ => "2,208 bytes",
     };
     report.note(UPGRADED, format!("{length}{place}"));

@@ -3,8 +3,8 @@
 
 use super::{answers, hold, lists, Outcomes, Report};
 use crate::call::{WhenRead, ROWS_HANDED};
-use crate::limits::{IMAGE_BYTES, MOST_QUESTIONS, OLDER_IMAGE_BYTES};
-use crate::model::{self, Page, Reader, State};
+use crate::limits::{IMAGE_BYTES, MARKED_IMAGE_BYTES, MOST_QUESTIONS, OLDER_IMAGE_BYTES};
+use crate::model::{self, Page, Reader, Rule, State};
 use crate::random::Dice;
 use crate::scene::any_questions;
 
@@ -24,8 +24,8 @@ const NAME: &str = "When read";
 #[rustfmt::skip]
 const CALLS: &[&str] = &[
     "13", "12", "carried out",
-    "2,240 bytes", "2,208 bytes",
-    "13, 2,240 bytes", "13, 2,208 bytes", "13, another length",
+    "2,274 bytes", "2,240 bytes", "2,208 bytes", "under 1993",
+    "13, 2,274 bytes", "13, 2,240 bytes", "13, 2,208 bytes", "13, another length",
     "13, answers", "13, no answers", "13 before 12",
     "12, too many", "12, too few answers", "12, both",
     "12, 1,025 questions", "12, 1,026 questions", "12, far more questions",
@@ -130,6 +130,9 @@ fn met(image: &[u8], questions: &[u64], room: usize, number: u64) -> Vec<&'stati
         _ => {
             let (state, _) = State::restore(image);
             let mut met = carried_out(image.len(), questions.len(), room);
+            if state.rule == Rule::Of1993 {
+                met.push("under 1993");
+            }
             met.extend(answers::met(&state, &pages_of(questions)));
             met
         }
@@ -138,7 +141,8 @@ fn met(image: &[u8], questions: &[u64], room: usize, number: u64) -> Vec<&'stati
 
 fn refused_13(image: usize, rows: usize, room: usize) -> Vec<&'static str> {
     let length = match image {
-        IMAGE_BYTES => "13, 2,240 bytes",
+        IMAGE_BYTES => "13, 2,274 bytes",
+        MARKED_IMAGE_BYTES => "13, 2,240 bytes",
         OLDER_IMAGE_BYTES => "13, 2,208 bytes",
         _ => "13, another length",
     };
@@ -179,7 +183,8 @@ fn refused_12(rows: usize, room: usize) -> Vec<&'static str> {
 fn carried_out(image: usize, numbers: usize, room: usize) -> Vec<&'static str> {
     let (rows, left_over) = (numbers / 2, numbers % 2 == 1);
     let length = match image {
-        IMAGE_BYTES => "2,240 bytes",
+        IMAGE_BYTES => "2,274 bytes",
+        MARKED_IMAGE_BYTES => "2,240 bytes",
         _ => "2,208 bytes",
     };
     let mut met = vec!["carried out", length];

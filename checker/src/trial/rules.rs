@@ -8,11 +8,11 @@ use super::questions::hold_questions;
 use super::{hold, Report};
 use crate::call::{Call, Entry, Lister, Older, Order, Probe, Upgrade, WhenRead};
 use crate::layout::{
-    CACHED, FETCH_TIME, FOUR_ZEROS, FRAMES, IN_FETCH, LAST, LOOK_AHEAD, MARKS, READERS,
-    READER_BYTES, SIZES, TURN, ZERO_BYTE,
+    ATTACHES, CACHED, EXPECTED, FETCH_TIME, FILLER, FOUR_ZEROS, FRAMES, IN_FETCH, LAST, LOOK_AHEAD,
+    MARKS, READERS, READER_BYTES, RULE, SIZES, TURN, ZERO_BYTE,
 };
-use crate::limits::{IMAGE_BYTES, OLDER_IMAGE_BYTES};
-use crate::model::{Page, Reader, State};
+use crate::limits::{IMAGE_BYTES, MARKED_IMAGE_BYTES, OLDER_IMAGE_BYTES};
+use crate::model::{Page, Reader, Rule, State};
 
 /// Each rule broken alone: every call answers 13. The bounds met exactly: none
 /// does. (Every entry restores for itself, so every call is tried.)
@@ -35,17 +35,17 @@ pub fn rules(report: &mut Report, entry: Entry) {
     }
 }
 
-/// The same by Restore itself, in either length.
+/// The same by Restore itself, in each length.
 pub fn by_probe(report: &mut Report, probe: Probe) {
-    for (rule, image, refused) in in_both_lengths() {
+    for (rule, image, refused) in in_each_length() {
         let number = hold_probe(report, probe, &image, &[7; IMAGE_BYTES + 1]);
         report.check((number == 13) == refused, || format!("{rule}: {number}"));
     }
 }
 
-/// The same by both lists, in either length.
+/// The same by both lists, in each length.
 pub fn by_list(report: &mut Report, lister: Lister) {
-    for (rule, image, refused) in in_both_lengths() {
+    for (rule, image, refused) in in_each_length() {
         for order in Order::BOTH {
             let (number, _) = hold_list(report, lister, order, &image, &[7; 40]);
             report.check((number == 13) == refused, || format!("{rule}: {number}"));
@@ -53,10 +53,10 @@ pub fn by_list(report: &mut Report, lister: Lister) {
     }
 }
 
-/// The same by questions, in either length.
+/// The same by questions, in each length.
 pub fn by_question(report: &mut Report, when_read: WhenRead) {
     let questions = [0, 4, 0, 5, 1, 5, 6, 1, 0, 21];
-    for (rule, image, refused) in in_both_lengths() {
+    for (rule, image, refused) in in_each_length() {
         for answers in [&[7; 6][..], &[]] {
             let (number, _) = hold_questions(report, when_read, &image, &questions, answers);
             report.check((number == 13) == refused, || format!("{rule}: {number}"));
@@ -64,13 +64,16 @@ pub fn by_question(report: &mut Report, when_read: WhenRead) {
     }
 }
 
-/// Every rule with the image that tries it, and whether this is refused. In 2,208
-/// bytes there are no marks, and a last page of 0 is the size.
-fn in_both_lengths() -> Vec<(String, Vec<u8>, bool)> {
+/// Every rule with the image that tries it, and whether this is refused. In 2,240 bytes
+/// there are no rule, E and R; in 2,208 there are no marks either, and a last page of 0
+/// is the size.
+fn in_each_length() -> Vec<(String, Vec<u8>, bool)> {
     let mut images = Vec::new();
     for (length, refused, rules) in [
         (IMAGE_BYTES, true, all_broken()),
         (IMAGE_BYTES, false, all_unbroken()),
+        (MARKED_IMAGE_BYTES, true, marked_broken()),
+        (MARKED_IMAGE_BYTES, false, marked_unbroken()),
         (OLDER_IMAGE_BYTES, true, broken()),
         (OLDER_IMAGE_BYTES, false, older_unbroken()),
     ] {
@@ -84,20 +87,26 @@ fn in_both_lengths() -> Vec<(String, Vec<u8>, bool)> {
     images
 }
 
-/// The same by the header's upgrade of 2,208 bytes and a call on what comes of it.
+/// The same by the header's upgrade of 2,240 and 2,208 bytes and a call on what comes of
+/// it.
 pub fn by_upgrade(report: &mut Report, upgrade: Upgrade, entry: Entry) {
-    for (rules, refused) in [(broken(), true), (older_unbroken(), false)] {
+    for (length, refused, rules) in [
+        (MARKED_IMAGE_BYTES, true, marked_broken()),
+        (MARKED_IMAGE_BYTES, false, marked_unbroken()),
+        (OLDER_IMAGE_BYTES, true, broken()),
+        (OLDER_IMAGE_BYTES, false, older_unbroken()),
+    ] {
         for (rule, changes) in rules {
             let buffer = changed(&changes);
-            let older = Older::Apart(&buffer[..OLDER_IMAGE_BYTES]);
+            let older = Older::Apart(&buffer[..length]);
             hold_upgrade(report, upgrade, &[7; IMAGE_BYTES], older);
-            let older = Older::InPlace(OLDER_IMAGE_BYTES);
+            let older = Older::InPlace(length);
             let Some(image) = hold_upgrade(report, upgrade, &buffer, older) else {
                 continue;
             };
             let (number, _) = hold(report, entry, &image, Call::Steal);
             report.check((number == 13) == refused, || {
-                format!("{rule} {changes:?}, upgraded: {number}")
+                format!("{rule} {changes:?}, {length} bytes upgraded: {number}")
             });
         }
     }
@@ -148,7 +157,8 @@ const FILE_SIZES: [u64; 8] = [20, 1_024, 1_024, 1_024, 64, 1, 0, 0];
 /// 5 has 1, 6 and 7 none. Slot 0 runs in file 0, slot 1 waits for page 5 of
 /// file 1, slot 2 runs in file 2; slot 3 is empty. Slot 0 reads up to page 12, the
 /// others up to their files' ends. Slot 0 was measured at page 1 and slot 1 where it
-/// is; slot 2 has docked at page 0.
+/// is; slot 2 has docked at page 0. The rule is that of 1993; the files expect 3 readers
+/// each, and 1 has been attached to each.
 fn sound_state() -> State {
     let mut state = State::idle();
     state.frames = 2;
@@ -165,6 +175,8 @@ fn sound_state() -> State {
     }
     state.cached = [page(0, 4), page(4, 64)].into();
     state.in_fetch = [page(1, 5), page(2, 1)].into();
+    state.rule = Rule::Of1993;
+    (state.expected, state.attaches) = ([3; 8], [1; 8]);
     state
 }
 
@@ -213,12 +225,21 @@ fn four(at: usize, number: u32) -> (usize, Vec<u8>) {
     (at, number.to_le_bytes().to_vec())
 }
 
-/// Each rule of 2,240 bytes.
+/// Each rule of 2,274 bytes.
 fn all_broken() -> Rules {
-    [broken(), broken_marks(), zero_last_pages()].concat()
+    [marked_broken(), broken_weights()].concat()
 }
 
 fn all_unbroken() -> Rules {
+    [marked_unbroken(), unbroken_weights()].concat()
+}
+
+/// Each rule of 2,240 bytes.
+fn marked_broken() -> Rules {
+    [broken(), broken_marks(), zero_last_pages()].concat()
+}
+
+fn marked_unbroken() -> Rules {
     [unbroken(), unbroken_marks()].concat()
 }
 
@@ -226,7 +247,7 @@ fn older_unbroken() -> Rules {
     [unbroken(), zero_last_pages()].concat()
 }
 
-/// Each rule of either length.
+/// Each rule of every length.
 fn broken() -> Rules {
     let mut list = vec![
         ("frames 0", vec![two(FRAMES, 0), nothing_cached()]),
@@ -305,6 +326,52 @@ fn broken_marks() -> Rules {
         ("the last slot's mark, empty", vec![mark(15, 1)]),
         ("the same by its high byte", vec![mark(15, 0x8000)]),
     ]
+}
+
+/// "A rule byte above 1, a filler byte not 0 or an E above 1,000 gets 13."
+fn broken_weights() -> Rules {
+    let mut rules = vec![
+        ("rule 2", vec![(RULE, vec![2])]),
+        ("rule 3", vec![(RULE, vec![3])]),
+        ("rule 128", vec![(RULE, vec![128])]),
+        ("rule 255", vec![(RULE, vec![255])]),
+        ("a filler of 1", vec![(FILLER, vec![1])]),
+        ("a filler of 128", vec![(FILLER, vec![128])]),
+        ("a filler of 1 under 1989", vec![(RULE, vec![0, 1])]),
+    ];
+    for file in 0..8 {
+        let at = EXPECTED + 2 * file;
+        rules.extend([
+            ("E 1,001", vec![two(at, 1_001)]),
+            ("E 1,001 under 1989", vec![(RULE, vec![0]), two(at, 1_001)]),
+            ("E 1,024", vec![two(at, 1_024)]),
+            ("E 65,535", vec![two(at, u16::MAX)]),
+        ]);
+    }
+    rules
+}
+
+/// Any R is one, whatever E is.
+fn unbroken_weights() -> Rules {
+    let mut rules = vec![
+        ("rule 1989", vec![(RULE, vec![0])]),
+        ("rule 1993", vec![(RULE, vec![1])]),
+    ];
+    for file in 0..8 {
+        let (expected, attaches) = (EXPECTED + 2 * file, ATTACHES + 2 * file);
+        rules.extend([
+            ("E 0", vec![two(expected, 0)]),
+            ("E 1,000", vec![two(expected, 1_000)]),
+            (
+                "E 1,000 under 1989",
+                vec![(RULE, vec![0]), two(expected, 1_000)],
+            ),
+            ("R 0", vec![two(attaches, 0)]),
+            ("R 1,001", vec![two(attaches, 1_001)]),
+            ("R 65,535", vec![two(attaches, u16::MAX)]),
+        ]);
+    }
+    rules
 }
 
 /// "a taken slot's last page of 0": 13, but in an older image the file's size.

@@ -1,9 +1,10 @@
 //! The paper's "Soundings to check by (marked 1 to 12)" and its listing, and more
-//! soundings, of a reader with a last page and of pages in fetch.
+//! soundings, of a reader with a last page, of pages in fetch and of the 1993 rule.
 
+use super::weights::EXAMPLES;
 use super::{hold, lists, Report};
 use crate::call::{Call, Entry, Lister, Order};
-use crate::model::{Answer, Page, Reader, State};
+use crate::model::{Answer, Page, Reader, Rule, State};
 
 /// One sounding: a state and what the paper says of it.
 struct Sounding {
@@ -76,6 +77,22 @@ fn farther() -> State {
         fetch_time: 40,
         ..on_the_link()
     }
+}
+
+/// The state of the soundings beside file 1, under the 1993 rule: 5 pages of file 0 are
+/// cached and 2 of file 1, of which 1 is past its reader. By weights of 16 and 48 the
+/// shares of 8 frames are 2 and 6.
+fn weighed() -> State {
+    let mut state = usual(0);
+    state.rule = Rule::Of1993;
+    state.frames = 8;
+    state.sizes[1] = 16;
+    (state.expected[0], state.expected[1]) = (3, 3);
+    state.attaches[0] = 2;
+    let of_1 = [1, 9].map(|number| Page { file: 1, number });
+    state.cached.extend(of_1);
+    state.readers.insert(1, Reader::running(1, 10, 1, 16));
+    state
 }
 
 /// No reader, and only these pages cached.
@@ -156,7 +173,8 @@ fn later() -> Vec<Line> {
     let stolen = Says::Steal(of([(1, 2), (0, 5), (1, 1)]));
     let fetched = Says::Fetch(of([(0, 6), (1, 3), (0, 7)]));
     let timed = times(&[(4, 10), (5, 20), (6, 30), (7, 60)]);
-    vec![
+    let mut lines = by_weight();
+    lines.extend([
         ("A.1", shortened(), 3, steal(&[7, 3, 2, 1, 5])),
         ("A.1", shortened(), 3, fetch(&[4, 6])),
         ("A.5", on_the_link(), 4, steal(&[3, 2, 1, 7, 5])),
@@ -166,7 +184,23 @@ fn later() -> Vec<Line> {
         ("A.5", farther(), 3, fetch(&[6])),
         ("A.5", beside_another(), 7, stolen),
         ("A.5", beside_another(), 7, fetched),
-    ]
+    ]);
+    lines
+}
+
+/// The examples, and a state with readers: surpluses of 3, 2, 1, 0 and −1 for file 0
+/// before one of −4 for file 1, of which page 9 is ahead but in no look-ahead.
+fn by_weight() -> Vec<Line> {
+    let (of_0, of_1) = ([3, 2, 1, 7, 5], [1, 9]);
+    let order = of_0.map(|number| Page { file: 0, number }).into_iter();
+    let order = order.chain(of_1.map(|number| Page { file: 1, number }));
+    let examples = EXAMPLES.iter().map(|example| {
+        let order = Says::Steal(example.order_of_pages().collect());
+        ("A.6", example.state(), 0, order)
+    });
+    let mut lines: Vec<Line> = examples.collect();
+    lines.push(("A.6", weighed(), 8, Says::Steal(order.collect())));
+    lines
 }
 
 impl Sounding {

@@ -70,7 +70,7 @@ pub fn awaited_alone(state: &State) -> State {
 
 /// Who asks for the head of an order.
 #[derive(Clone, Copy)]
-enum Asks {
+pub enum Asks {
     Steal,
     Prefetch,
     /// An arrival by itself, or within a Run, of this page.
@@ -79,7 +79,7 @@ enum Asks {
 }
 
 impl Asks {
-    fn order(self) -> Order {
+    pub fn order(self) -> Order {
         match self {
             Asks::Prefetch => Order::Fetch,
             _ => Order::Steal,
@@ -88,10 +88,10 @@ impl Asks {
 }
 
 /// The orders that a stand-in goes by.
-type Orders = fn(&State, Asks) -> Vec<Page>;
+pub type Orders = fn(&State, Asks) -> Vec<Page>;
 
 /// The four calls that decide, by other orders.
-fn deciding(image: &mut [u8], call: Call, orders: Orders) -> u64 {
+pub fn deciding(image: &mut [u8], call: Call, orders: Orders) -> u64 {
     let Some(mut state) = restored(image) else {
         return quick::entry(image, call);
     };
@@ -172,7 +172,7 @@ fn walked(state: &State, asks: Asks, walk: fn(&State, &Reader) -> Vec<(Page, u64
     state.order_by(asks.order(), keys)
 }
 
-fn right(state: &State, asks: Asks) -> Vec<Page> {
+pub fn right(state: &State, asks: Asks) -> Vec<Page> {
     state.order(asks.order())
 }
 

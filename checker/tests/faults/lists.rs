@@ -3,13 +3,13 @@
 use crate::link::{awaited_alone, pruned_by_cached_map, times_by_cached_map};
 use checker::call::{Lister, Order};
 use checker::cases::by_cached_map;
-use checker::limits::{FILE_PAGES, IMAGE_BYTES};
-use checker::model::{self, Page, Reader, State, UseKey};
+use checker::limits::{FILE_PAGES, MARKED_IMAGE_BYTES, OLDER_IMAGE_BYTES};
+use checker::model::{self, Page, Reader, Rule, State, UseKey};
 use std::collections::{BTreeMap, BTreeSet};
 
 /// Each with whether random images find it too, and not the fixed ones alone.
 #[rustfmt::skip]
-pub const LISTS: [(&str, bool, Lister); 53] = [
+pub const LISTS: [(&str, bool, Lister); 55] = [
     ("the page after a look-ahead tested", true, next_tested),
     ("the page after K tested", true, next_tested_after_k),
     ("the page after the last one tested", true, next_tested_after_last),
@@ -62,7 +62,9 @@ pub const LISTS: [(&str, bool, Lister); 53] = [
     ("a number past the keys written", true, written_past_the_keys),
     ("13 that writes", true, written_by_13),
     ("the idle state's list for 13", true, idle_listed),
-    ("older images refused", true, older_refused),
+    ("images of 2,208 bytes refused", true, refused::<OLDER_IMAGE_BYTES>),
+    ("images of 2,240 bytes refused", true, refused::<MARKED_IMAGE_BYTES>),
+    ("images of 1993 refused", true, of_1993_refused),
 ];
 
 /// The model's list.
@@ -610,9 +612,16 @@ fn idle_listed(order: Order, image: &[u8], list: &mut [u16]) -> u64 {
     }
 }
 
-fn older_refused(order: Order, image: &[u8], list: &mut [u16]) -> u64 {
-    match image.len() {
-        IMAGE_BYTES => right(order, image, list),
-        _ => 13,
+fn refused<const LENGTH: usize>(order: Order, image: &[u8], list: &mut [u16]) -> u64 {
+    match image.len() == LENGTH {
+        true => 13,
+        false => right(order, image, list),
+    }
+}
+
+fn of_1993_refused(order: Order, image: &[u8], list: &mut [u16]) -> u64 {
+    match State::restore(image).0.rule {
+        Rule::Of1989 => right(order, image, list),
+        Rule::Of1993 => 13,
     }
 }

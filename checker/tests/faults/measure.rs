@@ -3,7 +3,7 @@
 use super::restored;
 use checker::call::{Call, Entry, Older};
 use checker::layout;
-use checker::limits::{IMAGE_BYTES, OLDER_IMAGE_BYTES};
+use checker::limits::IMAGE_BYTES;
 use checker::model::{upgrade_image, Reader, State};
 use checker::quick;
 
@@ -360,20 +360,20 @@ fn refused_and_marked(image: &mut [u8], call: Call) -> u64 {
 pub fn marks_lost_by<const LETTER: char>(image: &mut [u8], call: Call) -> u64 {
     let number = quick::entry(image, call);
     if number >> 16 == u64::from(LETTER) {
-        image[layout::MARKS..].fill(0);
+        image[layout::MARKS..layout::RULE].fill(0);
     }
     number
 }
 
-/// A buffer of 2,208 bytes taken for an older image, and saved as one.
-pub fn older_taken(image: &mut [u8], call: Call) -> u64 {
-    if image.len() != OLDER_IMAGE_BYTES {
+/// A buffer of this length taken for an older image, and saved as one.
+pub fn older_taken<const LENGTH: usize>(image: &mut [u8], call: Call) -> u64 {
+    if image.len() != LENGTH {
         return quick::entry(image, call);
     }
     let (_, mut longer) = upgrade_image(&[0; IMAGE_BYTES], Older::Apart(image));
     let number = quick::entry(&mut longer, call);
     if number >= 65_536 {
-        image.copy_from_slice(&longer[..OLDER_IMAGE_BYTES]);
+        image.copy_from_slice(&longer[..LENGTH]);
     }
     number
 }

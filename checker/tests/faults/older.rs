@@ -1,10 +1,11 @@
 //! Stand-ins for Restore and Save by themselves, and for the header's upgrade.
 
+use super::weights::{mend_expected, mend_filler, mend_rule};
 use super::{mend_empty_marks, mend_marks, mend_zeros};
 use checker::call::{Older, Probe, Upgrade};
 use checker::layout;
-use checker::limits::{IMAGE_BYTES, OLDER_IMAGE_BYTES, SLOTS};
-use checker::model::{probe, upgrade_image, State};
+use checker::limits::{IMAGE_BYTES, MARKED_IMAGE_BYTES, OLDER_IMAGE_BYTES, SLOTS};
+use checker::model::{probe, upgrade_image, Rule, State};
 use std::ops::Range;
 
 /// The number of O at the C boundary.
@@ -15,22 +16,42 @@ const FILE_6: usize = 128 * 6;
 
 /// Those of Restore and Save. True for one that a rule alone finds.
 #[rustfmt::skip]
-pub const PROBES: [(&str, bool, Probe); 19] = [
+pub const PROBES: [(&str, bool, Probe); 39] = [
     ("marks of an older image restored as 0", true, marks_as_0),
-    ("marks restored as positions", true, marks_as_positions),
+    ("marks restored as positions", true, marks_as_positions::<IMAGE_BYTES>),
+    ("marks of 2,240 bytes restored as positions", true, marks_as_positions::<MARKED_IMAGE_BYTES>),
     ("an older image's zeros refused", true, zeros_refused),
     ("an older image's zeros taken all or none", true, zeros_all_or_none),
     ("an older image's last pages all taken for the size", true, last_pages_as_sizes),
-    ("a last page of 0 taken in 2,240 bytes", true, zero_taken),
-    ("a mark above the position taken", true, mark_taken),
-    ("an empty slot's mark taken", true, empty_mark_taken),
-    ("older images refused", true, older_refused),
-    ("a length between the two taken", false, between_taken),
+    ("a last page of 0 taken in 2,274 bytes", true, zero_taken::<IMAGE_BYTES>),
+    ("a last page of 0 taken in 2,240 bytes", true, zero_taken::<MARKED_IMAGE_BYTES>),
+    ("a mark above the position taken", true, mark_taken::<IMAGE_BYTES>),
+    ("a mark above it taken in 2,240 bytes", true, mark_taken::<MARKED_IMAGE_BYTES>),
+    ("an empty slot's mark taken", true, empty_mark_taken::<IMAGE_BYTES>),
+    ("an empty slot's mark taken in 2,240", true, empty_mark_taken::<MARKED_IMAGE_BYTES>),
+    ("images of 2,208 bytes refused", true, refused::<OLDER_IMAGE_BYTES>),
+    ("images of 2,240 bytes refused", true, refused::<MARKED_IMAGE_BYTES>),
+    ("a length between two taken", false, between_taken),
     ("a longer image taken", false, longer_taken),
-    ("a buffer of 2,208 bytes taken", false, older_saved),
+    ("a buffer of 2,208 bytes taken", false, older_saved::<OLDER_IMAGE_BYTES>),
+    ("a buffer of 2,240 bytes taken", false, older_saved::<MARKED_IMAGE_BYTES>),
     ("a short buffer filled and refused", false, cut_and_refused),
-    ("bytes after 2,240 written", true, saved_past_the_end),
-    ("an older image saved as one", true, saved_as_it_came),
+    ("bytes after 2,274 written", true, saved_past_the_end),
+    ("an image of 2,208 bytes saved as one", true, saved_as_it_came::<OLDER_IMAGE_BYTES>),
+    ("an image of 2,240 bytes saved as one", true, saved_as_it_came::<MARKED_IMAGE_BYTES>),
+    ("2,208 bytes restored under 1993", true, shorter_of_1993::<OLDER_IMAGE_BYTES>),
+    ("2,240 bytes restored under 1993", true, shorter_of_1993::<MARKED_IMAGE_BYTES>),
+    ("a shorter image's readers counted as attaches", true, readers_counted),
+    ("every image restored under 1989", true, rule_lost),
+    ("E lost", true, expected_lost),
+    ("R lost", true, attaches_lost),
+    ("E and R swapped", true, weights_swapped),
+    ("R held to 1,000", true, attaches_held),
+    ("a rule byte above 1 taken", true, rule_taken),
+    ("the filler not tested", true, filler_taken),
+    ("an E above 1,000 taken", true, expected_taken),
+    ("an E above 1,000 taken under 1989", true, expected_of_1989_taken),
+    ("an R above E refused", true, above_expected_refused),
     ("nothing saved where Restore refuses", true, refused_not_saved),
     ("another state than the idle one", true, refused_not_idle),
     ("Restore's number for Save's", true, numbers_swapped),
@@ -85,8 +106,8 @@ fn marks_as_0(image: &[u8], buffer: &mut [u8]) -> u64 {
     })
 }
 
-fn marks_as_positions(image: &[u8], buffer: &mut [u8]) -> u64 {
-    restored_as(image, buffer, IMAGE_BYTES, |state, _| {
+fn marks_as_positions<const LENGTH: usize>(image: &[u8], buffer: &mut [u8]) -> u64 {
+    restored_as(image, buffer, LENGTH, |state, _| {
         for reader in state.readers.values_mut() {
             reader.mark = reader.position;
         }
@@ -115,26 +136,27 @@ fn last_pages_as_sizes(image: &[u8], buffer: &mut [u8]) -> u64 {
     })
 }
 
-fn zero_taken(image: &[u8], buffer: &mut [u8]) -> u64 {
-    mended(image, buffer, IMAGE_BYTES, mend_zeros)
+fn zero_taken<const LENGTH: usize>(image: &[u8], buffer: &mut [u8]) -> u64 {
+    mended(image, buffer, LENGTH, mend_zeros)
 }
 
-fn mark_taken(image: &[u8], buffer: &mut [u8]) -> u64 {
-    mended(image, buffer, IMAGE_BYTES, mend_marks)
+fn mark_taken<const LENGTH: usize>(image: &[u8], buffer: &mut [u8]) -> u64 {
+    mended(image, buffer, LENGTH, mend_marks)
 }
 
-fn empty_mark_taken(image: &[u8], buffer: &mut [u8]) -> u64 {
-    mended(image, buffer, IMAGE_BYTES, mend_empty_marks)
+fn empty_mark_taken<const LENGTH: usize>(image: &[u8], buffer: &mut [u8]) -> u64 {
+    mended(image, buffer, LENGTH, mend_empty_marks)
 }
 
-fn older_refused(image: &[u8], buffer: &mut [u8]) -> u64 {
+fn refused<const LENGTH: usize>(image: &[u8], buffer: &mut [u8]) -> u64 {
     let state = State::of_image(image).ok();
-    saved(state.filter(|_| image.len() == IMAGE_BYTES), buffer)
+    saved(state.filter(|_| image.len() != LENGTH), buffer)
 }
 
 fn between_taken(image: &[u8], buffer: &mut [u8]) -> u64 {
     let length = match image.len() {
-        OLDER_IMAGE_BYTES..IMAGE_BYTES => OLDER_IMAGE_BYTES,
+        OLDER_IMAGE_BYTES..MARKED_IMAGE_BYTES => OLDER_IMAGE_BYTES,
+        MARKED_IMAGE_BYTES..IMAGE_BYTES => MARKED_IMAGE_BYTES,
         length => length,
     };
     saved(State::of_image(&image[..length]).ok(), buffer)
@@ -152,9 +174,9 @@ fn cut(image: &[u8], buffer: &mut [u8]) {
     buffer[..room].copy_from_slice(&state.image()[..room]);
 }
 
-fn older_saved(image: &[u8], buffer: &mut [u8]) -> u64 {
+fn older_saved<const LENGTH: usize>(image: &[u8], buffer: &mut [u8]) -> u64 {
     let number = saved(State::of_image(image).ok(), buffer);
-    if buffer.len() != OLDER_IMAGE_BYTES {
+    if buffer.len() != LENGTH {
         return number;
     }
     cut(image, buffer);
@@ -174,15 +196,90 @@ fn saved_past_the_end(image: &[u8], buffer: &mut [u8]) -> u64 {
     number
 }
 
-/// An older image's 2,208 bytes, and no marks behind them.
-fn saved_as_it_came(image: &[u8], buffer: &mut [u8]) -> u64 {
+/// As many bytes as an image of this length had, and nothing behind them.
+fn saved_as_it_came<const LENGTH: usize>(image: &[u8], buffer: &mut [u8]) -> u64 {
     let before = buffer.to_vec();
     let number = saved(State::of_image(image).ok(), buffer);
-    if image.len() == OLDER_IMAGE_BYTES && buffer.len() >= IMAGE_BYTES {
-        let marks = OLDER_IMAGE_BYTES..IMAGE_BYTES;
-        buffer[marks.clone()].copy_from_slice(&before[marks]);
+    if image.len() == LENGTH && buffer.len() >= IMAGE_BYTES {
+        let behind = LENGTH..IMAGE_BYTES;
+        buffer[behind.clone()].copy_from_slice(&before[behind]);
     }
     number
+}
+
+fn shorter_of_1993<const LENGTH: usize>(image: &[u8], buffer: &mut [u8]) -> u64 {
+    restored_as(image, buffer, LENGTH, |state, _| state.rule = Rule::Of1993)
+}
+
+/// Restore with the state changed that any image gives.
+fn changed(image: &[u8], buffer: &mut [u8], change: fn(&mut State)) -> u64 {
+    let mut state = State::of_image(image).ok();
+    if let Some(state) = &mut state {
+        change(state);
+    }
+    saved(state, buffer)
+}
+
+fn readers_counted(image: &[u8], buffer: &mut [u8]) -> u64 {
+    let mut state = State::of_image(image).ok();
+    if let (Some(state), true) = (&mut state, image.len() < IMAGE_BYTES) {
+        for reader in state.readers.values() {
+            state.attaches[reader.file as usize] += 1;
+        }
+    }
+    saved(state, buffer)
+}
+
+fn rule_lost(image: &[u8], buffer: &mut [u8]) -> u64 {
+    changed(image, buffer, |state| state.rule = Rule::Of1989)
+}
+
+fn expected_lost(image: &[u8], buffer: &mut [u8]) -> u64 {
+    changed(image, buffer, |state| state.expected = [0; 8])
+}
+
+fn attaches_lost(image: &[u8], buffer: &mut [u8]) -> u64 {
+    changed(image, buffer, |state| state.attaches = [0; 8])
+}
+
+fn weights_swapped(image: &[u8], buffer: &mut [u8]) -> u64 {
+    changed(image, buffer, |state| {
+        std::mem::swap(&mut state.expected, &mut state.attaches);
+    })
+}
+
+fn attaches_held(image: &[u8], buffer: &mut [u8]) -> u64 {
+    changed(image, buffer, |state| {
+        state.attaches = state.attaches.map(|count| count.min(1_000));
+    })
+}
+
+fn rule_taken(image: &[u8], buffer: &mut [u8]) -> u64 {
+    mended(image, buffer, IMAGE_BYTES, mend_rule)
+}
+
+fn filler_taken(image: &[u8], buffer: &mut [u8]) -> u64 {
+    mended(image, buffer, IMAGE_BYTES, mend_filler)
+}
+
+fn expected_taken(image: &[u8], buffer: &mut [u8]) -> u64 {
+    mended(image, buffer, IMAGE_BYTES, mend_expected)
+}
+
+fn expected_of_1989_taken(image: &[u8], buffer: &mut [u8]) -> u64 {
+    mended(image, buffer, IMAGE_BYTES, |image| {
+        if image[layout::RULE] == 0 {
+            mend_expected(image);
+        }
+    })
+}
+
+fn above_expected_refused(image: &[u8], buffer: &mut [u8]) -> u64 {
+    let state = State::of_image(image).ok().filter(|state| {
+        let mut both = state.expected.iter().zip(state.attaches);
+        image.len() < IMAGE_BYTES || both.all(|(&expected, attaches)| attaches <= expected)
+    });
+    saved(state, buffer)
 }
 
 fn refused_not_saved(image: &[u8], buffer: &mut [u8]) -> u64 {
@@ -215,9 +312,10 @@ fn twelve_alone(image: &[u8], buffer: &mut [u8]) -> u64 {
 /// Those of Restore that are wrong about a byte, which no rule finds. True for one that
 /// chance finds seldom: every byte has to be changed.
 #[rustfmt::skip]
-pub const BYTES: [(&str, bool, Probe); 6] = [
+pub const BYTES: [(&str, bool, Probe); 7] = [
     ("an older image's L of three bytes", true, three_bytes_of_l),
-    ("T of three bytes in 2,240", true, three_bytes_of_t),
+    ("T of three bytes in 2,274", true, three_bytes_of_t::<IMAGE_BYTES>),
+    ("T of three bytes in 2,240", true, three_bytes_of_t::<MARKED_IMAGE_BYTES>),
     ("a byte above the size overlooked in an older image", true, byte_overlooked),
     ("the four 0 bytes told by their lowest bit", true, lowest_bit_told),
     ("two bytes of an older image swapped", false, bytes_swapped),
@@ -230,8 +328,8 @@ fn three_bytes_of_l(image: &[u8], buffer: &mut [u8]) -> u64 {
     })
 }
 
-fn three_bytes_of_t(image: &[u8], buffer: &mut [u8]) -> u64 {
-    mended(image, buffer, IMAGE_BYTES, |image| {
+fn three_bytes_of_t<const LENGTH: usize>(image: &[u8], buffer: &mut [u8]) -> u64 {
+    mended(image, buffer, LENGTH, |image| {
         image[layout::FETCH_TIME + 3] = 0;
     })
 }
@@ -271,7 +369,7 @@ fn high_byte_of_another(image: &[u8], buffer: &mut [u8]) -> u64 {
 
 /// Those of the upgrade. True for one that a rule alone finds.
 #[rustfmt::skip]
-pub const UPGRADES: [(&str, bool, Upgrade); 20] = [
+pub const UPGRADES: [(&str, bool, Upgrade); 27] = [
     ("last pages forgotten", true, last_pages_forgotten),
     ("marks forgotten", true, marks_forgotten),
     ("marks of one byte", true, marks_of_one_byte),
@@ -281,13 +379,20 @@ pub const UPGRADES: [(&str, bool, Upgrade); 20] = [
     ("zeros told by their low byte", true, low_byte_told),
     ("an empty slot's zero filled in", true, empty_filled_in),
     ("a file cut to three bits", false, file_of_three_bits),
-    ("zeros filled in in 2,240 bytes", false, filled_in_now),
-    ("marks rewritten in 2,240 bytes", false, marks_rewritten),
+    ("zeros filled in in 2,274 bytes", false, filled_in_now::<IMAGE_BYTES>),
+    ("zeros filled in in 2,240 bytes", true, filled_in_now::<MARKED_IMAGE_BYTES>),
+    ("marks rewritten in 2,274 bytes", false, marks_rewritten::<IMAGE_BYTES>),
+    ("marks rewritten in 2,240 bytes", true, marks_rewritten::<MARKED_IMAGE_BYTES>),
+    ("2,208 bytes made ones of 1993", true, upgraded_to_1993::<OLDER_IMAGE_BYTES>),
+    ("2,240 bytes made ones of 1993", true, upgraded_to_1993::<MARKED_IMAGE_BYTES>),
+    ("rule, E and R of 2,274 bytes cleared", false, weights_cleared),
+    ("what follows 2,240 bytes left as it was", true, tail_left),
+    ("2,240 bytes refused", true, marked_refused),
     ("what is no image refused", true, no_image_refused),
     ("a buffer cleared before it is read", true, cleared_first),
     ("a longer buffer taken", false, longer_buffer_taken),
     ("a buffer of 2,208 bytes taken", false, older_buffer_taken),
-    ("a length between the two taken", false, between_upgraded),
+    ("a length between two taken", false, between_upgraded),
     ("a longer image taken", false, longer_upgraded),
     ("a buffer cleared by a refusal", false, cleared_by_refusal),
     ("the letter alone for a number", true, letter_alone),
@@ -396,12 +501,47 @@ fn file_of_three_bits(buffer: &mut [u8], older: Older) -> u64 {
     })
 }
 
-fn filled_in_now(buffer: &mut [u8], older: Older) -> u64 {
-    upgraded(buffer, older, |image, _| mend_zeros(image))
+/// The same for an image of this length alone.
+fn of_length(buffer: &mut [u8], older: Older, length: usize, change: fn(&mut [u8])) -> u64 {
+    upgraded(buffer, older, |image, older| {
+        if older.len() == length {
+            change(image);
+        }
+    })
 }
 
-fn marks_rewritten(buffer: &mut [u8], older: Older) -> u64 {
-    upgraded(buffer, older, |image, _| {
+fn filled_in_now<const LENGTH: usize>(buffer: &mut [u8], older: Older) -> u64 {
+    of_length(buffer, older, LENGTH, mend_zeros)
+}
+
+fn upgraded_to_1993<const LENGTH: usize>(buffer: &mut [u8], older: Older) -> u64 {
+    of_length(buffer, older, LENGTH, |image| image[layout::RULE] = 1)
+}
+
+fn weights_cleared(buffer: &mut [u8], older: Older) -> u64 {
+    of_length(buffer, older, IMAGE_BYTES, |image| {
+        image[layout::RULE..].fill(0);
+    })
+}
+
+fn tail_left(buffer: &mut [u8], older: Older) -> u64 {
+    let before = buffer.to_vec();
+    upgraded(buffer, older, |image, older| {
+        if older.len() == MARKED_IMAGE_BYTES {
+            put(image, layout::RULE..IMAGE_BYTES, &before[layout::RULE..]);
+        }
+    })
+}
+
+fn marked_refused(buffer: &mut [u8], older: Older) -> u64 {
+    match bytes_of(buffer, older).len() {
+        MARKED_IMAGE_BYTES => 13,
+        _ => upgraded(buffer, older, |_, _| {}),
+    }
+}
+
+fn marks_rewritten<const LENGTH: usize>(buffer: &mut [u8], older: Older) -> u64 {
+    of_length(buffer, older, LENGTH, |image| {
         for slot in 0..SLOTS as usize {
             let position = layout::pace(slot).end;
             let position = [image[position], image[position + 1]];
@@ -442,8 +582,10 @@ fn older_buffer_taken(buffer: &mut [u8], older: Older) -> u64 {
 
 fn between_upgraded(buffer: &mut [u8], older: Older) -> u64 {
     let mut bytes = bytes_of(buffer, older);
-    if bytes.len() < IMAGE_BYTES && bytes.len() > OLDER_IMAGE_BYTES {
-        bytes.truncate(OLDER_IMAGE_BYTES);
+    match bytes.len() {
+        OLDER_IMAGE_BYTES..MARKED_IMAGE_BYTES => bytes.truncate(OLDER_IMAGE_BYTES),
+        length if length < IMAGE_BYTES => bytes.truncate(MARKED_IMAGE_BYTES),
+        _ => {}
     }
     upgraded(buffer, Older::Apart(&bytes), |_, _| {})
 }

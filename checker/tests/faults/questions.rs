@@ -3,13 +3,14 @@
 use crate::link::{awaited_alone, pruned_by_cached_map, times_by_cached_map};
 use checker::call::{WhenRead, ROWS_HANDED};
 use checker::cases::by_cached_map;
-use checker::limits::{FILES, FILE_PAGES, IMAGE_BYTES, MOST_QUESTIONS};
-use checker::model::{self, Page, Reader, Refusal, State, UseKey, When};
+use checker::limits::{FILES, FILE_PAGES, MOST_QUESTIONS};
+use checker::limits::{MARKED_IMAGE_BYTES, OLDER_IMAGE_BYTES};
+use checker::model::{self, Page, Reader, Refusal, Rule, State, UseKey, When};
 use std::collections::{BTreeMap, BTreeSet};
 
 /// Each with whether random images find it too, and not the fixed ones alone.
 #[rustfmt::skip]
-pub const QUESTIONS: [(&str, bool, WhenRead); 89] = [
+pub const QUESTIONS: [(&str, bool, WhenRead); 91] = [
     ("the seat distance for the slot", true, seat_for_slot),
     ("ties told by slots", true, slots_for_seats),
     ("a seat distance of turn less slot", true, turn_less_slot),
@@ -77,7 +78,9 @@ pub const QUESTIONS: [(&str, bool, WhenRead); 89] = [
     ("13 that makes the answers 0", true, cleared_by_13),
     ("12 before 13", true, short_before_image),
     ("the idle state asked for 13", true, idle_asked),
-    ("older images refused", true, older_refused),
+    ("images of 2,208 bytes refused", true, refused::<OLDER_IMAGE_BYTES>),
+    ("images of 2,240 bytes refused", true, refused::<MARKED_IMAGE_BYTES>),
+    ("images of 1993 refused", true, of_1993_refused),
     ("words by pages, rounded up", true, words_by_pages_up),
     ("words by pages, rounded down", true, words_by_pages_down),
     ("words by page numbers", true, words_by_numbers),
@@ -834,10 +837,17 @@ fn idle_asked(image: &[u8], questions: &[u64], answers: &mut [u64]) -> u64 {
     }
 }
 
-fn older_refused(image: &[u8], questions: &[u64], answers: &mut [u64]) -> u64 {
-    match image.len() {
-        IMAGE_BYTES => right(image, questions, answers),
-        _ => 13,
+fn refused<const LENGTH: usize>(image: &[u8], questions: &[u64], answers: &mut [u64]) -> u64 {
+    match image.len() == LENGTH {
+        true => 13,
+        false => right(image, questions, answers),
+    }
+}
+
+fn of_1993_refused(image: &[u8], questions: &[u64], answers: &mut [u64]) -> u64 {
+    match State::restore(image).0.rule {
+        Rule::Of1989 => right(image, questions, answers),
+        Rule::Of1993 => 13,
     }
 }
 

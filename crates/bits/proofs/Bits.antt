@@ -6,7 +6,7 @@ use native.Mathlib.Nat.{zero-add}
 use native.Mathlib.Decide.{ℕ-discrete, decLt}
 use native.Mathlib.Omega.{arith}
 use lib.Arith.{digits-div, digits-mod}
-use lib.Bits.{bitAnd, bitOr, bitXor, and-mask}
+use lib.Bits.{bitAnd, bitOr, bitXor}
 use lib.ListN.{length, getD, set, length-set}
 use lib.Seq.{getD-set-same, getD-set-other, set-out}
 use Rattle.bits.specs.Map.{digit, bit, putBit}
@@ -48,11 +48,6 @@ whole-same words i n h j p = bit-at words i j (omega arith) ∙ sym (rw zero-add
 put-is : (words : List ℕ) (k v : ℕ) → putBit words k v ≡ set words (k / 64) (put (getD words (k / 64) 0) (k % 64) v)
 unfolding putBit bit
 put-is words k v = refl
-
--- the bit of a key, as a word shifted down has it
-pub and-is : (words : List ℕ) (k : ℕ) → bitAnd (getD words (k / 64) 0 / 2 ^ (k % 64)) 1 ≡ bit words k
-unfolding bit
-and-is words k = and-mask (getD words (k / 64) 0 / 2 ^ (k % 64)) 1
 
 -- what `set_bit` writes
 pub or-is : (words : List ℕ) (k : ℕ) → set words (k / 64) (bitOr (getD words (k / 64) 0) (1 * 2 ^ (k % 64) % 2 ^ 64)) ≡ putBit words k 1

@@ -91,17 +91,25 @@ ones-words words first i h =
     let f : first * 64 + (i - first) * 64 ≡ i * 64 = omega arith in
     rw (e, ones-add words (first * 64) ((i - first) * 64) 64, f, ones-same words (i * 64) (getD words i 0 ∷ []) 0 64 (whole-same words i 64 (omega arith)))
 
+-- up to a word's start, whole words from there on, a part of the last
+pub ones-cut : (words : List ℕ) (a n first : ℕ) → a ≤ first * 64 → first * 64 ≤ a + n
+    → ones words a n
+    ≡ ones words a (first * 64 - a) + ones words (first * 64) (((a + n) / 64 - first) * 64) + ones words (a + n - (a + n) % 64) ((a + n) % 64)
+ones-cut words a n first l m =
+    let x : ℕ = first * 64 - a in
+    let y : ℕ = ((a + n) / 64 - first) * 64 in
+    let z : ℕ = (a + n) % 64 in
+    let e : n ≡ x + (y + z) = omega arith in
+    let f : a + x ≡ first * 64 = omega arith in
+    let g : first * 64 + y ≡ a + n - z = omega arith in
+    let p : ones words a n ≡ ones words a x + ones words (a + x) (y + z) = ap (ones words a) e ∙ ones-add words a x (y + z) in
+    p ∙ rw (f, ones-add words (first * 64) y z, g) (omega arith)
+
 -- a part of the first word, whole words, a part of the last
 pub ones-parts : (words : List ℕ) (a n : ℕ) → 64 - a % 64 < n
     → ones words a n
     ≡ ones words a (64 - a % 64) + ones words ((a / 64 + 1) * 64) (((a + n) / 64 - (a / 64 + 1)) * 64)
     + ones words (a + n - (a + n) % 64) ((a + n) % 64)
 ones-parts words a n h =
-    let x : ℕ = 64 - a % 64 in
-    let y : ℕ = ((a + n) / 64 - (a / 64 + 1)) * 64 in
-    let z : ℕ = (a + n) % 64 in
-    let e : n ≡ x + (y + z) = omega arith in
-    let f : a + x ≡ (a / 64 + 1) * 64 = omega arith in
-    let g : (a / 64 + 1) * 64 + y ≡ a + n - z = omega arith in
-    let p : ones words a n ≡ ones words a x + ones words (a + x) (y + z) = ap (ones words a) e ∙ ones-add words a x (y + z) in
-    p ∙ rw (f, ones-add words ((a / 64 + 1) * 64) y z, g) (omega arith)
+    let e : (a / 64 + 1) * 64 - a ≡ 64 - a % 64 = omega arith in
+    rw e at (ones-cut words a n (a / 64 + 1) (omega arith) (omega arith))

@@ -82,19 +82,21 @@ fn count_words(words: &[u64; 128], first: usize, end: usize) -> u32
     n
 }
 
-// How many of the n bits from key `from` on are set: a part of the first word, whole words, a part of the last.
+// How many of the n bits from key `from` on are set: what is left of the first word, whole words, a part of the last. Where `from` is a word's first key,
+// as a file's is, there are whole words from there on.
 pub fn count(words: &[u64; 128], from: usize, n: usize) -> u32
     requires { ⌜ from + n ≤ 8192 ⌝ }
     ensures { λ r. ⌜ r ≡ ones (now (words .entry)) from n ⌝ }
 {
-    let head = 64 - from % 64;
+    let first = (from + 63) / 64;
+    let head = first * 64 - from;
     if n <= head {
         return count_part(words, from, n);
     }
     let end = from + n;
     let tail = end % 64;
     count_part(words, from, head)
-        + count_words(words, from / 64 + 1, end / 64)
+        + count_words(words, first, end / 64)
         + count_part(words, end - tail, tail)
 }
 

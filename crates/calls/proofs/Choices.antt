@@ -13,7 +13,8 @@ use Rattle.rules.specs.declared.State.{State}
 use Rattle.rules.specs.declared.Answer.{Answer}
 use Rattle.rules.specs.declared.Answer.the-variants.{Stolen, Fetch}
 use Rattle.rules.proofs.laws.Cases.{option-some, option-none}
-use Rattle.rules.proofs.orders.Distinct.{victim-cached, wanted-page, fetch-wanted}
+use Rattle.rules.proofs.orders.Distinct.{wanted-page, fetch-wanted}
+use Rattle.rules.proofs.orders.Victims.{victim-cached}
 use Rattle.rules.proofs.calls.Landings.{dropped-some}
 use Rattle.order.specs.Choices.{chosen}
 use Rattle.order.specs.declared.Choice.{Choice}

@@ -1,38 +1,26 @@
 -- Pages counted by the bits of a map, and whether a frame is free. Assumes nothing.
-use Prim.Native.Nat.{ℕ, zero, suc, _+_, _*_, _-_, _/_, _%_, _≤_, _<_}
+use Prim.Native.Nat.{ℕ, _+_, _*_, _-_, _/_, _%_, _≤_, _<_}
 use mathlib.Core.Path.{_≡_, refl, sym, ap, _∙_}
 use mathlib.Core.List.{List, []}
 use mathlib.Core.Option.{none}
-use native.Mathlib.Nat.{zero-add}
 use native.Mathlib.Omega.{arith}
 use lib.ListN.{length, getD}
-use lib.Dec.{T, eqb, leb}
+use lib.Dec.{T, leb}
 use Rattle.bits.specs.Map.{bit, ones, on}
 use Rattle.bits.proofs.Bits.{bit-le}
-use Rattle.bits.proofs.Counts.{ones-none, ones-more, ones-add, ones-clear}
+use Rattle.bits.proofs.Counts.{ones-add, ones-clear}
 use Rattle.rules.specs.Lists.{only}
 use Rattle.rules.specs.Pages.{pages, Page, cachedPages}
 use Rattle.rules.specs.Valid.{Valid}
 use Rattle.rules.specs.Orders.{victim}
 use Rattle.rules.specs.Calls.{full, dropped}
-use Rattle.rules.specs.Schedules.{num, count}
 use Rattle.rules.specs.Views.{stateOf}
 use Rattle.rules.specs.declared.State.{State}
 use Rattle.rules.specs.declared.View.{View}
 use Rattle.order.specs.Choices.{Housed}
 use Rattle.rules.proofs.laws.Tests.{key}
 use Rattle.rules.proofs.laws.Cases.{cond-yes, cond-no, outcomes}
-use Rattle.rules.proofs.laws.Counts.{pages-count}
-
--- a bit counts as much as it is
-bit-num : (b : ℕ) → b ≤ 1 → num (eqb b 1) ≡ b
-bit-num b h = key b 1 (λ t. num t ≡ b) (λ e. sym e) (λ ne. omega arith)
-
--- the keys below n that a map has are its set bits
-count-ones : (words : List ℕ) (n : ℕ) → count n (on words) ≡ ones words 0 n
-unfolding count
-count-ones words zero = sym (ones-none words 0)
-count-ones words (suc n) = rw (ones-more words 0 n, zero-add n) (omega (arith, count-ones words n, bit-num (bit words n) (bit-le words n)))
+use Rattle.rules.proofs.laws.Counts.{count-ones, pages-count}
 
 -- a map of pages of the files has as many of them as set bits
 pub pages-ones : (s : State) → Valid s → (words : List ℕ) → ((k : ℕ) → T (on words k) → Page s k) → length (only (on words) (pages s)) ≡ ones words 0 8192

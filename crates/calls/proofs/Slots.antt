@@ -18,6 +18,7 @@ use Rattle.rules.specs.Calls.{
   withReader,
   withSlot,
   docked,
+  countedAttach,
   attachOf,
   readRunning,
   readOf,
@@ -87,7 +88,10 @@ module _ (s : State) (slot file pace start last : ℕ) (r : Reply) where
   -- what is left goes by the slot's condition
   pub attach-there : slot ≤ 15 → (f : Bool) → f ≡ noFileIn (s .sizes) file → f ≡ false → (w : Bool) → w ≡ within 1 1000 pace → not w ≡ false
       → (g : Bool) → g ≡ noRangeIn (getD (s .sizes) file 0) start last → g ≡ false
-      → r ≡ byCondition (readerAt s slot .condition) (reply (withSlot s slot (docked file pace start last) start) Done) (refused s 5) (refused s 5)
+      → r
+      ≡ byCondition (readerAt s slot .condition)
+      (reply (countedAttach (withSlot s slot (docked file pace start last) start) file) Done)
+      (refused s 5) (refused s 5)
       → r ≡ attachOf s slot file pace start last
   unfolding attachOf
   attach-there h f a b w c d g k m e = search answers depth 12

@@ -5,7 +5,7 @@ use mathlib.Core.Bool.{Bool, true, false, not, _&&_}
 use mathlib.Core.List.{List, [], _∷_, map}
 use native.Mathlib.Omega.{arith}
 use native.Mathlib.Numerals.{add-one}
-use borrow.Author.Tests.{not-true, not-false}
+use borrow.Author.Tests.{not-true, not-false, le-leb}
 use lib.ListN.{getD, set, length, take, drop}
 use lib.Seq.{take-all, drop-cons, take-suc, take-suc-set}
 use Rattle.rules.specs.Lists.{within, every}
@@ -50,6 +50,15 @@ every-holds P (x ∷ l) d (suc i) e h = every-holds P l d i (and-true (P x) (eve
 -- where all are from low to high, member i is
 pub all-within : (low high : ℕ) (l : List ℕ) (i : ℕ) → every (within low high) l ≡ true → i < length l → (low ≤ getD l i 0) × (getD l i 0 ≤ high)
 all-within low high l i e h = within-true low high (getD l i 0) (every-holds (within low high) l 0 i e h)
+
+-- where all are at most so high, all are at most what is higher
+pub every-higher : (low high more : ℕ) (l : List ℕ) → high ≤ more → every (within low high) l ≡ true → every (within low more) l ≡ true
+unfolding every
+every-higher low high more [] h e = refl
+every-higher low high more (x ∷ l) h e =
+    let a = and-true (within low high x) (every (within low high) l) e in
+    let b = within-true low high x (a .0) in
+    rw (le-leb low x (b .0), le-leb x more (omega (arith, b .1, h)), every-higher low high more l h (a .1))
 
 -- ---- each is copied
 

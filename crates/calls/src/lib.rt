@@ -8,9 +8,9 @@ use rules::Reader;
 use rules::View;
 ghost use mathlib.Core.Path.{_≡_};
 ghost use mathlib.Core.Bool.{true};
-ghost use mathlib.Core.List.{List, map};
-ghost use Prim.Native.Nat.{ℕ, _≤_, _<_};
-ghost use lib.ListN.{getD};
+ghost use mathlib.Core.List.{List, [], map};
+ghost use Prim.Native.Nat.{ℕ, min, _+_, _≤_, _<_};
+ghost use lib.ListN.{getD, replicate};
 ghost use Rattle.bits.specs.Map.{ones};
 ghost use Rattle.rules.specs.Views.{stateOf, noPages, replyOf};
 ghost use Rattle.rules.specs.Lists.{within, every};
@@ -18,6 +18,7 @@ ghost use Rattle.rules.specs.Readers.{readerIn};
 ghost use Rattle.rules.specs.Valid.{Valid};
 ghost use Rattle.rules.specs.Calls.{
   reply,
+  ruleIn,
   settingsIn,
   setupOf,
   attachOf,
@@ -91,13 +92,13 @@ fn open_fetch(sizes: [u16; 8], fetching: &[u64; 128], file: u64, page: u64) -> F
 
 // ---- Setup
 
-// Is every size at most 1,024?
-fn sizes_within(sizes: [u64; 8]) -> bool
-    ensures { λ r. ⌜ r ≡ every (within 0 1024) sizes ⌝ }
+// Is every number at most this high?
+fn all_within(high: u64, numbers: [u64; 8]) -> bool
+    ensures { λ r. ⌜ r ≡ every (within 0 high) numbers ⌝ }
 {
     let mut i: usize = 0;
     while i < 8 {
-        if !parts::within(0, 1024, sizes[i]) {
+        if !parts::within(0, high, numbers[i]) {
             return false;
         }
         i += 1;
@@ -105,9 +106,9 @@ fn sizes_within(sizes: [u64; 8]) -> bool
     true
 }
 
-// Are all settings in range?
+// Are the settings of 01 in range? They are all but the rule and the readers expected.
 fn settings_in(frames: u64, look_ahead: u64, fetch_time: u64, sizes: [u64; 8]) -> bool
-    ensures { λ r. ⌜ r ≡ settingsIn frames «look_ahead» «fetch_time» sizes ⌝ }
+    ensures { λ r. ⌜ r ≡ settingsIn frames «look_ahead» «fetch_time» sizes 0 [] ⌝ }
 {
     if !parts::within(1, 1024, frames) {
         return false;
@@ -118,38 +119,98 @@ fn settings_in(frames: u64, look_ahead: u64, fetch_time: u64, sizes: [u64; 8]) -
     if !parts::within(0, 2000000, fetch_time) {
         return false;
     }
-    sizes_within(sizes)
+    all_within(1024, sizes)
 }
 
-// The sizes as the state has them.
-fn stored_sizes(sizes: [u64; 8]) -> [u16; 8]
-    requires { ⌜ every (within 0 1024) sizes ≡ true ⌝ }
-    ensures { λ r. ⌜ r ≡ sizes ⌝ }
+// Are the rule and the readers expected in range? A rule above 1 is none of the two (A.6).
+fn rule_in(rule: u64, expected: [u64; 8]) -> bool
+    ensures { λ r. ⌜ r ≡ ruleIn rule expected ⌝ }
 {
-    let mut stored = [0u16; 8];
+    if !parts::within(0, 1, rule) {
+        return false;
+    }
+    all_within(1000, expected)
+}
+
+// A number of each file, as the state has them.
+fn stored(numbers: [u64; 8]) -> [u16; 8]
+    requires { ⌜ every (within 0 65535) numbers ≡ true ⌝ }
+    ensures { λ r. ⌜ r ≡ numbers ⌝ }
+{
+    let mut kept = [0u16; 8];
     let mut i: usize = 0;
     while i < 8 {
-        stored[i] = sizes[i] as u16;
+        kept[i] = numbers[i] as u16;
         i += 1;
     }
-    stored
+    kept
 }
 
-// No page is cached or in fetch after Setup: no maps are lent.
-pub fn setup(frames: u64, look_ahead: u64, fetch_time: u64, sizes: [u64; 8]) -> Outcome
-    ensures { λ r. ⌜ replyOf r noPages noPages ≡ setupOf frames «look_ahead» «fetch_time» sizes ⌝ }
+// Setup, once the rule and the readers expected are known to be in range. No page is cached or in fetch after it: no maps are lent.
+fn set_up(
+    frames: u64,
+    look_ahead: u64,
+    fetch_time: u64,
+    sizes: [u64; 8],
+    rule: u8,
+    expected: [u16; 8],
+) -> Outcome
+    requires { ⌜ ruleIn rule expected ≡ true ⌝ }
+    ensures { λ r. ⌜ replyOf r noPages noPages ≡ setupOf frames «look_ahead» «fetch_time» sizes rule expected ⌝ }
 {
     if settings_in(frames, look_ahead, fetch_time, sizes) {
-        let stored = stored_sizes(sizes);
-        let view = parts::fresh(frames as u16, look_ahead as u32, fetch_time as u32, stored);
+        let pages = stored(sizes);
+        let view = parts::fresh(
+            frames as u16,
+            look_ahead as u32,
+            fetch_time as u32,
+            pages,
+            rule,
+            expected,
+        );
         return outcome(view, Answer::Done);
+    }
+    refuse(parts::idle(), 1)
+}
+
+// Setup as a line asks for it: by the 1989 rule, and no readers are expected (A.6).
+pub fn setup(frames: u64, look_ahead: u64, fetch_time: u64, sizes: [u64; 8]) -> Outcome
+    ensures { λ r. ⌜ replyOf r noPages noPages ≡ setupOf frames «look_ahead» «fetch_time» sizes 0 (replicate 8 0) ⌝ }
+{
+    set_up(frames, look_ahead, fetch_time, sizes, 0, [0u16; 8])
+}
+
+// Setup by either rule. Lines do not come here: numbers that are stored one by one into a view would have every line copy its view so.
+pub fn setup_by_rule(
+    frames: u64,
+    look_ahead: u64,
+    fetch_time: u64,
+    sizes: [u64; 8],
+    rule: u64,
+    expected: [u64; 8],
+) -> Outcome
+    ensures { λ r. ⌜ replyOf r noPages noPages ≡ setupOf frames «look_ahead» «fetch_time» sizes rule expected ⌝ }
+{
+    if rule_in(rule, expected) {
+        let readers = stored(expected);
+        return set_up(frames, look_ahead, fetch_time, sizes, rule as u8, readers);
     }
     refuse(parts::idle(), 1)
 }
 
 // ---- the calls of a slot: one record changes, and the others stay
 
-// The slot's record is looked at last: 5 is the last of the refusals.
+// One more, up to 65,535.
+fn one_more(n: u16) -> u16
+    ensures { λ r. ⌜ r ≡ min 65535 (n + 1) ⌝ }
+{
+    if n < 65535 {
+        return n + 1;
+    }
+    n
+}
+
+// The slot's record is looked at last: 5 is the last of the refusals. Only an Attach that is carried out counts (A.6).
 pub fn attach(mut v: View, slot: u64, file: u64, pace: u64, start: u64, last: u64) -> Outcome
     ensures { λ r. ⌜ ((c f : List ℕ) → replyOf r c f ≡ attachOf (stateOf v c f) slot file pace start last) ⌝ }
     ensures one_record { λ r. ⌜ OthersStay v slot (r .view) ⌝ }
@@ -176,6 +237,7 @@ pub fn attach(mut v: View, slot: u64, file: u64, pace: u64, start: u64, last: u6
         Condition::Empty => {
             v.readers[i] = parts::docked(file as u8, pace as u16, start as u16, last as u16);
             v.marks[i] = start as u16;
+            v.attaches[f] = one_more(v.attaches[f]);
             outcome(v, Answer::Done)
         }
         Condition::Running | Condition::Waiting => refuse(v, 5),

@@ -29,6 +29,20 @@ written-next l b t at n bs cs long e f fits =
     ∙ ap (λ k. written (written l at bs) (at + k) cs) (sym long)
     ∙ written-more l at bs cs (omega arith)
 
+-- a buffer in which so far n bytes are put, from a place on
+pub record Filled (l : List ℕ) (at : ℕ) (t : List ℕ) (n : ℕ) (bs : List ℕ) : Type 0 where
+  pub far : length bs ≡ n
+  pub so : t ≡ written l at bs
+
+-- w more
+pub fill : {l k : List ℕ} {at n : ℕ} {bs : List ℕ} (t cs : List ℕ) (w : ℕ) → Filled l at k n bs → length cs ≡ w → t ≡ written k (at + n) cs
+    → at + n + w ≤ length l → Filled l at t (n + w) (bs ++ cs)
+fill {l} {k} {at} {n} {bs} t cs w f wide e fits =
+    record {
+      far = length-append bs cs ∙ omega (arith, f .far, wide);
+      so = written-next l k t at n bs cs (f .far) (f .so) e (omega (arith, wide));
+    }
+
 power-low : (w : ℕ) → 0 < 256 ^ w
 power-low zero = omega arith
 power-low (suc w) = omega (arith, pow-suc 256 w, power-low w)
@@ -99,19 +113,12 @@ module _ (f g h i j : Field) where
       → p ≡ written l at (encoded (f ∷ g ∷ h ∷ i ∷ j ∷ []))
   unfolding each
   written-five l k m n o p at e₁ e₂ e₃ e₄ e₅ fits =
-      let two = length-append (bytes f) (bytes g) in
-      let three = length-append (bytes f ++ bytes g) (bytes h) in
-      let four = length-append ((bytes f ++ bytes g) ++ bytes h) (bytes i) in
-      let a = bytes-length (f .width) (f .value) in
-      let b = bytes-length (g .width) (g .value) in
-      let c = bytes-length (h .width) (h .value) in
-      let d = bytes-length (i .width) (i .value) in
-      let e = bytes-length (j .width) (j .value) in
-      let s₂ = written-next l k m at (f .width) (bytes f) (bytes g) a e₁ e₂ (omega arith) in
-      let s₃ = written-next l m n at _ (bytes f ++ bytes g) (bytes h) (omega arith) s₂ e₃ (omega arith) in
-      let s₄ = written-next l n o at _ ((bytes f ++ bytes g) ++ bytes h) (bytes i) (omega arith) s₃ e₄ (omega arith) in
-      written-next l o p at _ (((bytes f ++ bytes g) ++ bytes h) ++ bytes i) (bytes j) (omega arith) s₄ e₅ (omega arith)
-      ∙ ap (written l at) (simp (append-assoc, append-nil))
+      let s₁ : Filled l at k (f .width) (bytes f) = record { far = bytes-length (f .width) (f .value); so = e₁ } in
+      let s₂ = fill m (bytes g) (g .width) s₁ (bytes-length (g .width) (g .value)) e₂ (omega arith) in
+      let s₃ = fill n (bytes h) (h .width) s₂ (bytes-length (h .width) (h .value)) e₃ (omega arith) in
+      let s₄ = fill o (bytes i) (i .width) s₃ (bytes-length (i .width) (i .value)) e₄ (omega arith) in
+      let s₅ = fill p (bytes j) (j .width) s₄ (bytes-length (j .width) (j .value)) e₅ (omega arith) in
+      s₅ .so ∙ ap (written l at) (simp (append-assoc, append-nil))
 
 -- a record is 8 bytes
 pub reader-wide : (r : Reader) → length (readerBytes r) ≡ 8

@@ -15,17 +15,17 @@ use Rattle.rules.specs.Lists.{range, every, within}
 use Rattle.rules.specs.Pages.{size, cached, Page, cachedPages}
 use Rattle.rules.specs.Schedules.{num, count}
 use Rattle.rules.specs.Calls.{reply, refused, settingsIn, idle}
-use Rattle.rules.specs.Image.{stateFrom, slotHolds, markHolds, keyHolds, accepts, restoreWhole, imageNumbers, imageLength}
+use Rattle.rules.specs.Image.{stateFrom, slotHolds, markHolds, keyHolds, gapsHold, accepts, restoreWhole, imageNumbers, imageLength}
 use Rattle.rules.proofs.laws.Cases.{passed}
 use Rattle.rules.proofs.laws.Tests.{or-left}
 use Rattle.rules.proofs.laws.Members.{range-at}
 use Rattle.rules.proofs.laws.Indexed.{every-all}
 use Rattle.rules.proofs.laws.Counts.{pages-count}
 use Rattle.rules.proofs.images.Accepts.{settings-in, key-in, unset}
-use Rattle.rules.proofs.images.Offsets.{setting-at}
-use Rattle.image.specs.Bytes.{numberAt, stateIn}
-use Rattle.image.specs.Tests.{SizesLow, settingsFrom, gapsHold, apartAt, sizeHolds}
-use Rattle.image.proofs.States.{cached-long}
+use Rattle.rules.proofs.images.Offsets.{sizesAt, ruleAt, expectedStart, setting-at, rule-at}
+use Rattle.image.specs.Bytes.{numberAt, numbersAt, stateIn}
+use Rattle.image.specs.Tests.{SizesLow, settingsFrom, apartAt, sizeHolds}
+use Rattle.image.proofs.States.{sizes-read, expected-read, cached-long}
 use Rattle.image.proofs.MapTests.{maps-keys}
 use Rattle.rules.specs.declared.State.{State}
 use Rattle.rules.specs.declared.Answer.the-variants.{Done}
@@ -84,10 +84,12 @@ module _ (image : List ℕ) where
   turn-same = sym (setting-at image 1 (omega arith))
 
   settings-same : (sizes : List ℕ)
-      → settingsFrom image sizes ≡ settingsIn (stateIn image .frames) (stateIn image .«look_ahead») (stateIn image .«fetch_time») sizes
+      → settingsFrom image sizes
+      ≡ settingsIn (stateIn image .frames) (stateIn image .«look_ahead») (stateIn image .«fetch_time») sizes (stateIn image .rule) (stateIn image .expected)
   unfolding stateFrom
   settings-same sizes = λ i.
       settingsIn (sym (setting-at image 0 (omega arith)) i) (sym (setting-at image 3 (omega arith)) i) (sym (setting-at image 4 (omega arith)) i) sizes
+      (sym (rule-at image) i) (expected-read image i)
 
   verdict-accepts : verdict image (stateIn image .sizes) (stateIn image .cached) (stateIn image .fetching) ≡ accepts (imageNumbers image)
   unfolding accepts
@@ -95,25 +97,25 @@ module _ (image : List ℕ) where
       let s = stateIn image in
       let keys = every (keyHolds s) (range 0 8192) in
       rw (settings-same (s .sizes), turn-same, frames-same)
-      (and-same (settingsIn (s .frames) (s .«look_ahead») (s .«fetch_time») (s .sizes)) _ _ (λ h.
+      (and-same (settingsIn (s .frames) (s .«look_ahead») (s .«fetch_time») (s .sizes) (s .rule) (s .expected)) _ _ (λ h.
       ap (λ r. within 0 15 (s .turn) && (every (slotHolds (imageNumbers image)) (range 0 16) && r))
       (sym (and-assoc (every (apartAt (s .cached) (s .fetching)) (range 0 8192)) (every (sizeHolds (s .sizes) (s .cached) (s .fetching)) (range 0 8))
       (leb (ones (s .cached) 0 8192) (s .frames) && (gapsHold (imageNumbers image) && every (markHolds s) (range 0 16))))
       ∙ rw (maps-keys s) (and-same keys _ _ (λ k. ap₂ _&&_
       (ap (λ n. leb n (s .frames)) (sym (pages-ones s (cached-long image)
-      (settings-in (s .frames) (s .«look_ahead») (s .«fetch_time») (s .sizes) h .sizes-in) k)))
+      (settings-in (s .frames) (s .«look_ahead») (s .«fetch_time») (s .sizes) (s .rule) (s .expected) h .sizes-in) k)))
       refl)))))
 
   -- the tests are those of the rule
-  pub verdict-is : (sizes cached fetching : List ℕ) → sizes ≡ stateIn image .sizes → cached ≡ stateIn image .cached → fetching ≡ stateIn image .fetching
+  pub verdict-is : (sizes cached fetching : List ℕ) → sizes ≡ numbersAt 2 image sizesAt 8 → cached ≡ stateIn image .cached → fetching ≡ stateIn image .fetching
       → (t : Bool) → t ≡ verdict image sizes cached fetching → t ≡ accepts (imageNumbers image)
-  verdict-is sizes cached fetching z c f t e = e ∙ rw (z, c, f) verdict-accepts
+  verdict-is sizes cached fetching z c f t e = e ∙ rw (z, sizes-read image, c, f) verdict-accepts
 
 -- the sizes are low where the test of the settings passes
 pub sizes-low : (image sizes : List ℕ) (t : Bool) → t ≡ settingsFrom image sizes → not t ≡ false → SizesLow sizes
 sizes-low image sizes t e n =
     let all = passed (settingsFrom image sizes) (sym e ∙ not-false t n) in
-    settings-in (numberAt 2 image 0) (numberAt 4 image 4) (numberAt 4 image 8) sizes all .sizes-in
+    settings-in (numberAt 2 image 0) (numberAt 4 image 4) (numberAt 4 image 8) sizes (numberAt 1 image ruleAt) (numbersAt 2 image expectedStart 8) all .sizes-in
 
 -- the cached pages are counted: more than the frames
 pub room-stop : (words : List ℕ) (frames number n : ℕ) → n ≡ ones words 0 8192 → number ≡ frames → number < n → leb (ones words 0 8192) frames ≡ false

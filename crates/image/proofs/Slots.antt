@@ -17,7 +17,6 @@ use Rattle.rules.proofs.images.Offsets.{readersAt, slot-at}
 use Rattle.parts.specs.Files.{sizedWith, noRangeIn}
 use Rattle.image.specs.Bytes.{numberAt, stateIn}
 use Rattle.image.specs.Tests.{FromImage}
-use Rattle.image.proofs.Checks.{and-later}
 use Rattle.rules.specs.declared.State.{State}
 use Rattle.rules.specs.declared.Reader.{Reader}
 use Rattle.rules.specs.declared.Condition.the-variants.{Empty, Running, Waiting}

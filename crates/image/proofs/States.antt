@@ -20,12 +20,18 @@ use Rattle.rules.proofs.images.Offsets.{
   cachedAt,
   fetchingAt,
   marksAt,
+  ruleAt,
+  expectedStart,
+  attachesStart,
   setting-at,
   size-at,
   slot-at,
   cached-at,
   fetching-at,
   mark-at,
+  rule-at,
+  expected-at,
+  attaches-at,
 }
 use Rattle.image.specs.Bytes.{numberAt, numberFrom, numbersAt, stateIn}
 use Rattle.rules.specs.declared.View.{View}
@@ -40,12 +46,12 @@ waiting-of (suc zero) z o = absurd (o refl)
 waiting-of (suc (suc n)) z o = refl
 
 module _ (image : List ℕ) where
-  numbers-long : length (imageNumbers image) ≡ 366
+  numbers-long : length (imageNumbers image) ≡ 384
   unfolding layout each
   numbers-long = numbers-length (layout idle) image
 
   -- numbers of one width that stand one after the other are those of the table
-  pub part-at : (w place o n : ℕ) → ((k : ℕ) → k < n → getD (imageNumbers image) (o + k) 0 ≡ numberFrom w image place k) → o + n ≤ 366
+  pub part-at : (w place o n : ℕ) → ((k : ℕ) → k < n → getD (imageNumbers image) (o + k) 0 ≡ numberFrom w image place k) → o + n ≤ 384
       → numbersAt w image place n ≡ take n (drop o (imageNumbers image))
   part-at w place o n at fits =
       let f : ℕ → ℕ = numberFrom w image place in
@@ -76,10 +82,18 @@ module _ (image : List ℕ) where
         last = (e₄ ∙ sym (slot-at image j 4 l (omega arith))) i;
       }
 
-  -- the sizes, the marks and the maps
+  -- the numbers of the files, the marks and the maps
   pub sizes-read : numbersAt 2 image sizesAt 8 ≡ stateIn image .sizes
   unfolding stateFrom
   sizes-read = part-at 2 sizesAt 5 8 (size-at image) (omega arith)
+
+  pub expected-read : numbersAt 2 image expectedStart 8 ≡ stateIn image .expected
+  unfolding stateFrom
+  expected-read = part-at 2 expectedStart 368 8 (expected-at image) (omega arith)
+
+  attaches-read : numbersAt 2 image attachesStart 8 ≡ stateIn image .attaches
+  unfolding stateFrom
+  attaches-read = part-at 2 attachesStart 376 8 (attaches-at image) (omega arith)
 
   pub marks-read : numbersAt 2 image marksAt 16 ≡ stateIn image .marks
   unfolding stateFrom
@@ -108,25 +122,43 @@ module _ (image : List ℕ) where
   cached-long = ap length (sym cached-read) ∙ length-listed (numberFrom 8 image cachedAt) 128
 
   -- the state but its maps
-  pub view-read : (frames turn look time : ℕ) (sizes : List ℕ) (readers : List Reader) (marks : List ℕ)
+  pub view-read : (frames turn look time : ℕ) (sizes : List ℕ) (readers : List Reader) (marks : List ℕ) (rule : ℕ) (expected attaches : List ℕ)
       → frames ≡ numberAt 2 image 0
       → turn ≡ numberAt 1 image 2
       → look ≡ numberAt 4 image 4
       → time ≡ numberAt 4 image 8
-      → sizes ≡ stateIn image .sizes
+      → sizes ≡ numbersAt 2 image sizesAt 8
       → readers ≡ map (readerFrom (imageNumbers image)) (range 0 16)
       → marks ≡ stateIn image .marks
-      → _≡_ {A = View} (record { marks = marks; frames = frames; turn = turn; «look_ahead» = look; «fetch_time» = time; sizes = sizes; readers = readers })
+      → rule ≡ numberAt 1 image ruleAt
+      → expected ≡ numbersAt 2 image expectedStart 8
+      → attaches ≡ numbersAt 2 image attachesStart 8
+      → _≡_ {A = View}
+      (record {
+        marks = marks;
+        expected = expected;
+        attaches = attaches;
+        frames = frames;
+        turn = turn;
+        rule = rule;
+        «look_ahead» = look;
+        «fetch_time» = time;
+        sizes = sizes;
+        readers = readers;
+      })
       (viewOf (stateIn image))
   unfolding stateFrom
-  view-read frames turn look time sizes readers marks e₀ e₁ e₃ e₄ e₅ r m = λ i.
+  view-read frames turn look time sizes readers marks rule expected attaches e₀ e₁ e₃ e₄ z r m e₅ x a = λ i.
       record {
         marks = m i;
+        expected = (x ∙ expected-read) i;
+        attaches = (a ∙ attaches-read) i;
         frames = (e₀ ∙ sym (setting-at image 0 (omega arith))) i;
         turn = (e₁ ∙ sym (setting-at image 1 (omega arith))) i;
+        rule = (e₅ ∙ sym (rule-at image)) i;
         «look_ahead» = (e₃ ∙ sym (setting-at image 3 (omega arith))) i;
         «fetch_time» = (e₄ ∙ sym (setting-at image 4 (omega arith))) i;
-        sizes = e₅ i;
+        sizes = (z ∙ sizes-read) i;
         readers = r i;
       }
 

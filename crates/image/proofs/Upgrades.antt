@@ -1,9 +1,10 @@
--- What an image without marks is upgraded to, byte by byte. Assumes nothing.
-use mathlib.Core.Path.{_≡_, sym, ap, ap₂, _∙_}
+-- What an older image is upgraded to, byte by byte. Assumes nothing.
+use mathlib.Core.Path.{_≡_, refl, sym, ap, _∙_}
 use mathlib.Core.List.{List, _++_, map}
+use mathlib.Core.Logic.{⊎-elim}
 use Prim.Native.Nat.{ℕ, _+_, _*_, _-_, _/_, _%_, _≤_, _<_}
 use native.Mathlib.Omega.{arith}
-use lib.ListN.{length, getD, take, drop, length-append, length-take, length-drop, List·getD-append, List·getD-eq-default}
+use lib.ListN.{length, getD, take, drop, length-take, length-drop, replicate, List·getD-append, List·getD-eq-default}
 use lib.Seq.{ext-getD, getD-take, getD-drop}
 use Rattle.rules.specs.Lists.{range}
 use Rattle.rules.specs.Image.{
@@ -15,22 +16,28 @@ use Rattle.rules.specs.Image.{
   unmarkedLength,
   lastFrom,
   firstMark,
+  marked,
+  unruledLength,
+  Older,
   upgraded,
   restoreOf,
 }
-use Rattle.rules.proofs.laws.Indexed.{length-range, getD-range, length-listed, getD-listed, getD-past, getD-each}
+use Rattle.rules.proofs.laws.Indexed.{always-replicate, length-range, getD-range, length-listed, getD-listed, getD-past, getD-each}
 use Rattle.rules.proofs.images.Offsets.{sizesAt, readersAt, gapAt, marksAt, size-at, slot-at}
 use Rattle.rules.proofs.images.Upgrades.{
   last-raw,
   last-filled,
+  marked-same,
   upgraded-same,
   slotBytes,
   slot-wide,
   mark-wide,
   slotsBytes,
   firstMarks,
-  upgraded-parts,
+  marked-parts,
   slots-long,
+  older-long,
+  upgraded-parts,
   upgraded-long,
 }
 use Rattle.image.specs.Bytes.{numberAt}
@@ -79,7 +86,7 @@ module _ (image : List ℕ) (j number condition : ℕ) (l : j < 16) (e : number 
         s ∙ sym (size-at image file (omega arith)) ∙ sym (getD-drop 5 (imageNumbers image) file 0)
         ∙ sym (getD-take 8 (drop 5 (imageNumbers image)) file 0 (omega arith)) ∙ sym filled-in
 
--- ---- the bytes
+-- ---- the bytes of an image without marks and its marks
 
 -- the lower of a number's two bytes
 pub lower-byte : (n i : ℕ) → i ≡ 0 → n % 256 ≡ getD (bytesOf 2 n) i 0
@@ -90,19 +97,6 @@ lower-byte n i e = rw e
 pub higher-byte : (n i : ℕ) → n < 65536 → i < 2 → (i ≡ 0 → ⊥) → n / 256 ≡ getD (bytesOf 2 n) i 0
 unfolding bytesOf
 higher-byte n i l h ne = let one : i ≡ 1 = omega arith in rw one (omega arith)
-
--- byte i of what an image is upgraded to
-abbrev pub byteAt : List ℕ → ℕ → ℕ
-byteAt image i = getD (upgraded image) i 0
-
--- all bytes are that image
-pub all-bytes : (image : List ℕ) → length image ≡ unmarkedLength → (xs t : List ℕ) (i : ℕ) → t ≡ filled (byteAt image) imageLength 0 i xs → imageLength ≤ i
-    → length xs ≡ imageLength → t ≡ upgraded image
-all-bytes image old xs t i e h long =
-    let f = byteAt image in
-    filled-all f imageLength 0 xs t i e h long
-    ∙ ext-getD 0 (map f (range 0 imageLength)) (upgraded image) (length-listed f imageLength ∙ sym (upgraded-long image old)) (λ j l.
-    getD-listed f imageLength j 0 (omega (arith, length-listed f imageLength)))
 
 module _ (image : List ℕ) (old : length image ≡ unmarkedLength) where
   -- the three parts behind the first, and the two behind the second
@@ -116,32 +110,32 @@ module _ (image : List ℕ) (old : length image ≡ unmarkedLength) where
   back-long = omega (arith, length-drop gapAt image)
 
   -- those before the readers stand as they were
-  pub front-byte : (i r : ℕ) → i < readersAt → r ≡ numberAt 1 image i → r ≡ getD (upgraded image) i 0
+  pub front-byte : (i r : ℕ) → i < readersAt → r ≡ numberAt 1 image i → r ≡ getD (marked image) i 0
   front-byte i r l e =
       e ∙ sym (number-one image i (omega arith))
-      ∙ sym (ap (λ b. getD b i 0) (upgraded-parts image old)
+      ∙ sym (ap (λ b. getD b i 0) (marked-parts image old)
       ∙ List·getD-append (take readersAt image) (slotsBytes image ++ behind) 0 i (omega (arith, front-long)) ∙ getD-take readersAt image i 0 l)
 
   -- past the first 28
-  past-front : (m : ℕ) → getD (upgraded image) (28 + m) 0 ≡ getD (slotsBytes image ++ behind) m 0
-  past-front m = ap (λ b. getD b (28 + m) 0) (upgraded-parts image old) ∙ getD-past (take readersAt image) (slotsBytes image ++ behind) 28 front-long m 0
+  past-front : (m : ℕ) → getD (marked image) (28 + m) 0 ≡ getD (slotsBytes image ++ behind) m 0
+  past-front m = ap (λ b. getD b (28 + m) 0) (marked-parts image old) ∙ getD-past (take readersAt image) (slotsBytes image ++ behind) 28 front-long m 0
 
   -- past the readers
-  past-slots : (m : ℕ) → getD (upgraded image) (28 + (128 + m)) 0 ≡ getD behind m 0
+  past-slots : (m : ℕ) → getD (marked image) (28 + (128 + m)) 0 ≡ getD behind m 0
   past-slots m = past-front (128 + m) ∙ getD-past (slotsBytes image) behind 128 (slots-long image old) m 0
 
   -- those behind them up to the marks
-  pub back-byte : (i r : ℕ) → gapAt ≤ i → i < marksAt → r ≡ numberAt 1 image i → r ≡ getD (upgraded image) i 0
+  pub back-byte : (i r : ℕ) → gapAt ≤ i → i < marksAt → r ≡ numberAt 1 image i → r ≡ getD (marked image) i 0
   back-byte i r l h e =
       let at : i ≡ 28 + (128 + (i - gapAt)) = omega arith in
       let back : gapAt + (i - gapAt) ≡ i = omega arith in
       e ∙ sym (number-one image i (omega arith))
-      ∙ sym (ap (λ n. getD (upgraded image) n 0) at ∙ past-slots (i - gapAt)
+      ∙ sym (ap (λ n. getD (marked image) n 0) at ∙ past-slots (i - gapAt)
       ∙ List·getD-append (drop gapAt image) (firstMarks image) 0 (i - gapAt) (omega (arith, back-long))
       ∙ getD-drop gapAt image (i - gapAt) 0 ∙ ap (λ n. getD image n 0) back)
 
   -- byte k of slot j
-  in-slot : (j k : ℕ) → j < 16 → k < 8 → getD (upgraded image) (28 + (8 * j + k)) 0 ≡ getD (slotBytes image j) k 0
+  in-slot : (j k : ℕ) → j < 16 → k < 8 → getD (marked image) (28 + (8 * j + k)) 0 ≡ getD (slotBytes image j) k 0
   in-slot j k l m =
       past-front (8 * j + k)
       ∙ List·getD-append (slotsBytes image) behind 0 (8 * j + k) (omega (arith, slots-long image old))
@@ -152,13 +146,13 @@ module _ (image : List ℕ) (old : length image ≡ unmarkedLength) where
     abbrev place : ℕ
     place = i - readersAt
 
-    here : getD (upgraded image) i 0 ≡ getD (slotBytes image (place / 8)) (place % 8) 0
+    here : getD (marked image) i 0 ≡ getD (slotBytes image (place / 8)) (place % 8) 0
     here =
         let at : i ≡ 28 + (8 * (place / 8) + place % 8) = omega arith in
-        ap (λ n. getD (upgraded image) n 0) at ∙ in-slot (place / 8) (place % 8) (omega arith) (omega arith)
+        ap (λ n. getD (marked image) n 0) at ∙ in-slot (place / 8) (place % 8) (omega arith) (omega arith)
 
     -- a slot's first six
-    pub slot-byte : (r : ℕ) → (i - readersAt) % 8 < 6 → r ≡ numberAt 1 image i → r ≡ getD (upgraded image) i 0
+    pub slot-byte : (r : ℕ) → (i - readersAt) % 8 < 6 → r ≡ numberAt 1 image i → r ≡ getD (marked image) i 0
     slot-byte r l e =
         let f : ℕ → ℕ = λ k. getD image (28 + 8 * (place / 8) + k) 0 in
         let back : 28 + 8 * (place / 8) + place % 8 ≡ i = omega arith in
@@ -169,7 +163,7 @@ module _ (image : List ℕ) (old : length image ≡ unmarkedLength) where
 
     -- its last page
     pub last-byte : (n r : ℕ) → 6 ≤ (i - readersAt) % 8 → n ≡ lastFrom (imageNumbers image) ((i - readersAt) / 8)
-        → r ≡ getD (bytesOf 2 n) ((i - readersAt) % 8 - 6) 0 → r ≡ getD (upgraded image) i 0
+        → r ≡ getD (bytesOf 2 n) ((i - readersAt) % 8 - 6) 0 → r ≡ getD (marked image) i 0
     last-byte n r l e f =
         let g : ℕ → ℕ = λ k. getD image (28 + 8 * (place / 8) + k) 0 in
         let last = bytesOf 2 (lastFrom (imageNumbers image) (place / 8)) in
@@ -179,24 +173,64 @@ module _ (image : List ℕ) (old : length image ≡ unmarkedLength) where
         ∙ getD-past (map g (range 0 6)) last 6 (length-listed g 6) (place % 8 - 6) 0)
 
   -- a mark is the slot's position
-  pub mark-byte : (i n r : ℕ) → marksAt ≤ i → i < imageLength → n ≡ numberAt 2 image (readersAt + 8 * ((i - marksAt) / 2) + 4)
-      → r ≡ getD (bytesOf 2 n) ((i - marksAt) % 2) 0 → r ≡ getD (upgraded image) i 0
+  pub mark-byte : (i n r : ℕ) → marksAt ≤ i → i < unruledLength → n ≡ numberAt 2 image (readersAt + 8 * ((i - marksAt) / 2) + 4)
+      → r ≡ getD (bytesOf 2 n) ((i - marksAt) % 2) 0 → r ≡ getD (marked image) i 0
   mark-byte i n r l h e f =
       let m : ℕ = i - marksAt in
       let at : i ≡ 28 + (128 + (2052 + (2 * (m / 2) + m % 2))) = omega arith in
       let low : m / 2 < 16 = omega arith in
       f ∙ ap (λ k. getD (bytesOf 2 k) (m % 2) 0) (e ∙ sym (slot-at image (m / 2) 3 low (omega arith)))
-      ∙ sym (ap (λ k. getD (upgraded image) k 0) at ∙ past-slots (2052 + (2 * (m / 2) + m % 2))
+      ∙ sym (ap (λ k. getD (marked image) k 0) at ∙ past-slots (2052 + (2 * (m / 2) + m % 2))
       ∙ getD-past (drop gapAt image) (firstMarks image) 2052 back-long (2 * (m / 2) + m % 2) 0
       ∙ getD-each (firstMark image) 2 (mark-wide image) (range 0 16) 0 0 (m / 2) (m % 2) (omega (arith, length-range 0 16)) (omega arith)
       ∙ ap (λ k. getD (firstMark image k) (m % 2) 0) (getD-range 0 16 (m / 2) 0 low ∙ omega arith))
 
+-- ---- the bytes of an older image of either length
+
+-- byte i of what an image is upgraded to
+abbrev pub byteAt : List ℕ → ℕ → ℕ
+byteAt image i = getD (upgraded image) i 0
+
+module _ (image : List ℕ) (older : Older image) where
+  -- the rule, E and R are 0
+  pub rule-byte : (i : ℕ) → unruledLength ≤ i → 0 ≡ getD (upgraded image) i 0
+  rule-byte i l =
+      let at : i ≡ unruledLength + (i - unruledLength) = omega arith in
+      sym (ap (λ b. getD b i 0) (upgraded-parts image older)
+      ∙ ap (λ n. getD (marked image ++ replicate 34 0) n 0) at
+      ∙ getD-past (marked image) (replicate 34 0) unruledLength (older-long image older) (i - unruledLength) 0
+      ∙ always-replicate (λ b. b ≡ 0) 0 refl 34 (i - unruledLength))
+
+  -- the others are those of the image with its marks
+  pub marked-byte : (i r : ℕ) → i < unruledLength → r ≡ getD (marked image) i 0 → r ≡ getD (upgraded image) i 0
+  marked-byte i r l e =
+      e ∙ sym (ap (λ b. getD b i 0) (upgraded-parts image older)
+      ∙ List·getD-append (marked image) (replicate 34 0) 0 i (omega (arith, older-long image older)))
+
+  -- which had them from the first
+  pub same-byte : (i r : ℕ) → i < unruledLength → length image ≡ unruledLength → r ≡ numberAt 1 image i → r ≡ getD (upgraded image) i 0
+  same-byte i r l long e =
+      marked-byte i r l (e ∙ sym (number-one image i (omega arith)) ∙ ap (λ b. getD b i 0) (sym (marked-same image (λ o. omega arith))))
+
+  -- or had not
+  pub unmarked-left : (length image ≡ unruledLength → ⊥) → length image ≡ unmarkedLength
+  unmarked-left n = ⊎-elim (λ e. e) (λ e. absurd (n e)) older
+
+  -- all bytes are that image
+  pub all-bytes : (xs t : List ℕ) (i : ℕ) → t ≡ filled (byteAt image) imageLength 0 i xs → imageLength ≤ i → length xs ≡ imageLength → t ≡ upgraded image
+  all-bytes xs t i e h long =
+      let f = byteAt image in
+      filled-all f imageLength 0 xs t i e h long
+      ∙ ext-getD 0 (map f (range 0 imageLength)) (upgraded image) (length-listed f imageLength ∙ sym (upgraded-long image older)) (λ j l.
+      getD-listed f imageLength j 0 (omega (arith, length-listed f imageLength)))
+
 -- ---- Restore
 
 -- an image of another length than an older one is restored as it is
-pub restore-other : (image : List ℕ) (r : Reply) → (length image ≡ unmarkedLength → ⊥) → r ≡ restoreWhole image → r ≡ restoreOf image
+pub restore-other : (image : List ℕ) (r : Reply) → (length image ≡ unmarkedLength → ⊥) → (length image ≡ unruledLength → ⊥) → r ≡ restoreWhole image
+    → r ≡ restoreOf image
 unfolding restoreOf
-restore-other image r n e = e ∙ ap restoreWhole (sym (upgraded-same image n))
+restore-other image r n m e = e ∙ ap restoreWhole (sym (upgraded-same image (⊎-elim n m)))
 
 -- an older one as what it is upgraded to
 pub restore-older : (image newest : List ℕ) (r : Reply) → newest ≡ upgraded image → r ≡ restoreWhole newest → r ≡ restoreOf image

@@ -8,8 +8,8 @@ use lib.Dec.{eqb}
 use Rattle.bits.specs.Map.{bit}
 use Rattle.rules.specs.Lists.{range, every}
 use Rattle.rules.specs.Calls.{settingsIn}
-use Rattle.rules.specs.Image.{imageLength}
-use Rattle.image.specs.Bytes.{numberAt, stateIn}
+use Rattle.rules.specs.Image.{imageLength, unruledLength}
+use Rattle.image.specs.Bytes.{numberAt, numbersAt, stateIn}
 
 -- these sizes and these fetches are those of the image
 pub record FromImage (image sizes fetching : List ℕ) : Type 0 where
@@ -21,13 +21,11 @@ pub record FromImage (image sizes fetching : List ℕ) : Type 0 where
 abbrev pub SizesLow : List ℕ → Type 0
 SizesLow sizes = (f : ℕ) → getD sizes f 0 ≤ 1024
 
--- frames, L, T and the sizes, each in its place, are in range
+-- frames, L, T, the sizes, the rule and the readers expected, each in its place, are in range: the rule stands where an image without one ends, E behind the
+-- filler
 abbrev pub settingsFrom : List ℕ → List ℕ → Bool
-settingsFrom image sizes = settingsIn (numberAt 2 image 0) (numberAt 4 image 4) (numberAt 4 image 8) sizes
-
--- the number between the turn and L, and the one before the maps, are 0
-abbrev pub gapsHold : List ℕ → Bool
-gapsHold numbers = eqb (getD numbers 2 0) 0 && eqb (getD numbers 93 0) 0
+settingsFrom image sizes =
+    settingsIn (numberAt 2 image 0) (numberAt 4 image 4) (numberAt 4 image 8) sizes (numberAt 1 image unruledLength) (numbersAt 2 image (unruledLength + 2) 8)
 
 -- the page of key k is not in both maps
 abbrev pub apartAt : List ℕ → List ℕ → ℕ → Bool

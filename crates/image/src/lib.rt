@@ -11,12 +11,15 @@ pub use saving::save_whole;
 pub use upgrading::restore;
 
 // As many bytes as Save writes.
-pub const IMAGE_LENGTH: usize = 2240;
+pub const IMAGE_LENGTH: usize = 2274;
 
-// As many as it wrote before there were marks.
+// As many as it wrote before there were marks, and then before there was a rule.
 const UNMARKED_LENGTH: usize = MARKS_AT;
 
-// Where the sizes, the readers, the 4 bytes of 0, the cached map, the fetch map and the marks begin: proved to be so in the rules' one table.
+const UNRULED_LENGTH: usize = RULE_AT;
+
+// Where the sizes, the readers, the 4 bytes of 0, the cached map, the fetch map, the marks, the rule, the 0 byte behind it, the numbers of readers expected and
+// those of attaches begin: proved to be so in the rules' one table.
 const SIZES_AT: usize = 12;
 
 const READERS_AT: usize = 28;
@@ -28,3 +31,11 @@ const CACHED_AT: usize = 160;
 const FETCHING_AT: usize = 1184;
 
 const MARKS_AT: usize = 2208;
+
+const RULE_AT: usize = 2240;
+
+const FILLER_AT: usize = 2241;
+
+const EXPECTED_AT: usize = 2242;
+
+const ATTACHES_AT: usize = 2258;

@@ -10,16 +10,32 @@ ghost use Rattle.rules.specs.Lists.{range, every, within};
 ghost use Rattle.rules.specs.Views.{viewOf, replyOf};
 ghost use Rattle.rules.specs.Calls.{refused, idle as idleState};
 ghost use Rattle.rules.specs.Readers.{awaits};
-ghost use Rattle.rules.specs.Image.{conditionOf, readerFrom, readerPlaced, readerHolds, slotHolds, markHolds, accepts, restoreWhole, imageNumbers, imageLength};
+ghost use Rattle.rules.specs.Image.{
+  conditionOf,
+  readerFrom,
+  readerPlaced,
+  readerHolds,
+  slotHolds,
+  markHolds,
+  gapsHold,
+  accepts,
+  restoreWhole,
+  imageNumbers,
+  imageLength,
+};
 ghost use Rattle.parts.specs.Files.{sizedWith};
 ghost use Rattle.image.specs.Bytes.{numbersAt, stateIn};
-ghost use Rattle.image.specs.Tests.{FromImage, SizesLow, settingsFrom, gapsHold, apartAt, clearAt, clearAbove, sizeHolds};
+ghost use Rattle.image.specs.Tests.{FromImage, SizesLow, settingsFrom, apartAt, clearAt, clearAbove, sizeHolds};
+use crate::ATTACHES_AT;
 use crate::CACHED_AT;
+use crate::EXPECTED_AT;
 use crate::FETCHING_AT;
+use crate::FILLER_AT;
 use crate::GAP_AT;
 use crate::IMAGE_LENGTH;
 use crate::MARKS_AT;
 use crate::READERS_AT;
+use crate::RULE_AT;
 use crate::SIZES_AT;
 use crate::bytes::get_u8;
 use crate::bytes::get_u16;
@@ -86,13 +102,14 @@ fn read_numbers(numbers: &mut [u16], image: &[u8], at: usize)
     }
 }
 
-fn sizes_in(image: &[u8]) -> [u16; 8]
-    requires { ⌜ length (now image) ≡ imageLength ⌝ }
-    ensures { λ r. ⌜ r ≡ stateIn (now (image .entry)) .sizes ⌝ }
+// A number for each file: its size, the readers expected, the attaches.
+fn eight_in(image: &[u8], at: usize) -> [u16; 8]
+    requires { ⌜ at + 16 ≤ length (now image) ⌝ }
+    ensures { λ r. ⌜ r ≡ numbersAt 2 (now (image .entry)) at 8 ⌝ }
 {
-    let mut sizes = [0u16; 8];
-    read_numbers(&mut sizes, image, SIZES_AT);
-    sizes
+    let mut numbers = [0u16; 8];
+    read_numbers(&mut numbers, image, at);
+    numbers
 }
 
 fn marks_in(image: &[u8]) -> [u16; 16]
@@ -122,9 +139,11 @@ fn view_in(image: &[u8]) -> View
     requires { ⌜ length (now image) ≡ imageLength ⌝ }
     ensures { λ r. ⌜ r ≡ viewOf (stateIn (now (image .entry))) ⌝ }
 {
-    let sizes = sizes_in(image);
+    let sizes = eight_in(image, SIZES_AT);
     let readers = readers_in(image);
     let marks = marks_in(image);
+    let expected = eight_in(image, EXPECTED_AT);
+    let attaches = eight_in(image, ATTACHES_AT);
     parts::view_of(
         get_u16(image, 0),
         get_u8(image, 2),
@@ -133,24 +152,28 @@ fn view_in(image: &[u8]) -> View
         sizes,
         readers,
         marks,
+        get_u8(image, RULE_AT),
+        expected,
+        attaches,
     )
 }
 
 // ---- its tests
 
-fn size_holds(size: u16) -> bool
-    ensures { λ r. ⌜ r ≡ within 0 1024 size ⌝ }
+fn number_holds(n: u16, high: u16) -> bool
+    ensures { λ r. ⌜ r ≡ within 0 high n ⌝ }
 {
-    parts::within(0, 1024, size as u64)
+    parts::within(0, high as u64, n as u64)
 }
 
-fn sizes_hold(sizes: &[u16; 8]) -> bool
-    requires { ⌜ length (now sizes) ≡ 8 ⌝ }
-    ensures { λ r. ⌜ r ≡ every (within 0 1024) (now (sizes .entry)) ⌝ }
+// A number for each file, each at most `high`.
+fn eight_hold(numbers: &[u16; 8], high: u16) -> bool
+    requires { ⌜ length (now numbers) ≡ 8 ⌝ }
+    ensures { λ r. ⌜ r ≡ every (within 0 high) (now (numbers .entry)) ⌝ }
 {
     let mut f: usize = 0;
     while f < 8 {
-        let ok = size_holds(sizes[f]);
+        let ok = number_holds(numbers[f], high);
         if !ok {
             return false;
         }
@@ -172,7 +195,14 @@ fn settings_hold(image: &[u8], sizes: &[u16; 8]) -> bool
     if !parts::within(0, 2000000, get_u32(image, 8) as u64) {
         return false;
     }
-    sizes_hold(sizes)
+    if !eight_hold(sizes, 1024) {
+        return false;
+    }
+    if !parts::within(0, 1, get_u8(image, RULE_AT) as u64) {
+        return false;
+    }
+    let expected = eight_in(image, EXPECTED_AT);
+    eight_hold(&expected, 1000)
 }
 
 // An attached reader: its file is there, its pace is in range, its last page is in the file, and its position is not past it.
@@ -359,7 +389,10 @@ fn gaps_hold(image: &[u8]) -> bool
     if get_u8(image, 3) != 0 {
         return false;
     }
-    get_u32(image, GAP_AT) == 0
+    if get_u32(image, GAP_AT) != 0 {
+        return false;
+    }
+    get_u8(image, FILLER_AT) == 0
 }
 
 // None of the grounds for 13 but the length. The maps are those of the image.
@@ -367,7 +400,7 @@ fn accepted<'a>(image: &[u8], cached: &'a [u64; 128], fetching: &'a [u64; 128]) 
     requires { ⌜ (length (now image) ≡ imageLength) × (now cached ≡ stateIn (now image) .cached) × (now fetching ≡ stateIn (now image) .fetching) ⌝ }
     ensures { λ r. ⌜ r ≡ accepts (imageNumbers (now (image .entry))) ⌝ }
 {
-    let sizes = sizes_in(image);
+    let sizes = eight_in(image, SIZES_AT);
     if !settings_hold(image, &sizes) {
         return false;
     }

@@ -5,14 +5,18 @@ ghost use lib.ListN.{length};
 ghost use Rattle.rules.specs.Lists.{each, written};
 ghost use Rattle.rules.specs.Valid.{Valid};
 ghost use Rattle.rules.specs.Views.{stateOf};
-ghost use Rattle.rules.specs.Image.{bytesOf, conditionNumber, imageOf, saveOf, encoded, imageLength};
-ghost use Rattle.image.specs.Bytes.{readerBytes, settingsFields};
+ghost use Rattle.rules.specs.Image.{bytesOf, conditionNumber, imageOf, saveOf, encoded, imageLength, unmarkedLength};
+ghost use Rattle.image.specs.Bytes.{readerBytes, settingsFields, tailBytes};
+use crate::ATTACHES_AT;
 use crate::CACHED_AT;
+use crate::EXPECTED_AT;
 use crate::FETCHING_AT;
+use crate::FILLER_AT;
 use crate::GAP_AT;
 use crate::IMAGE_LENGTH;
 use crate::MARKS_AT;
 use crate::READERS_AT;
+use crate::RULE_AT;
 use crate::SIZES_AT;
 use crate::bytes::put_u8;
 use crate::bytes::put_u16;
@@ -46,7 +50,7 @@ fn put_reader(buffer: &mut [u8], at: usize, r: Reader)
     put_u16(buffer, at + 6, r.last);
 }
 
-// Writes numbers of 2 bytes, one after the other: the sizes, the marks.
+// Writes numbers of 2 bytes, one after the other: those of the files, the marks.
 fn put_numbers(buffer: &mut [u8], at: usize, numbers: &[u16])
     requires { ⌜ at + 2 * length (now numbers) ≤ length (now buffer) ⌝ }
     ensures { λ _. ⌜ now (buffer .exit) ≡ written (now (buffer .entry)) at (each (bytesOf 2) (now (numbers .entry))) ⌝ }
@@ -92,6 +96,25 @@ fn put_settings(buffer: &mut [u8], frames: u16, turn: u8, look_ahead: u32, fetch
     put_u32(buffer, 8, fetch_time);
 }
 
+// Writes the marks, the rule, 0, the readers expected and the attaches: the bytes behind the maps.
+fn put_tail<'a>(
+    buffer: &mut [u8],
+    marks: &'a [u16],
+    rule: u8,
+    expected: &'a [u16],
+    attaches: &'a [u16],
+)
+    requires { ⌜ (imageLength ≤ length (now buffer)) × (length (now marks) ≡ 16) × (length (now expected) ≡ 8) × (length (now attaches) ≡ 8) ⌝ }
+    ensures { λ _. ⌜ now (buffer .exit)
+        ≡ written (now (buffer .entry)) unmarkedLength (tailBytes (now (marks .entry)) rule (now (expected .entry)) (now (attaches .entry))) ⌝ }
+{
+    put_numbers(buffer, MARKS_AT, marks);
+    put_u8(buffer, RULE_AT, rule);
+    put_u8(buffer, FILLER_AT, 0);
+    put_numbers(buffer, EXPECTED_AT, expected);
+    put_numbers(buffer, ATTACHES_AT, attaches);
+}
+
 // Save into a buffer that is as long as an image.
 pub fn save_whole<'a>(v: View, cached: &'a [u64; 128], fetching: &'a [u64; 128], buffer: &mut [u8])
     requires { ⌜ Valid (stateOf v (now cached) (now fetching)) × (length (now buffer) ≡ imageLength) ⌝ }
@@ -104,7 +127,7 @@ pub fn save_whole<'a>(v: View, cached: &'a [u64; 128], fetching: &'a [u64; 128],
     put_u32(buffer, GAP_AT, 0);
     put_words(buffer, CACHED_AT, cached);
     put_words(buffer, FETCHING_AT, fetching);
-    put_numbers(buffer, MARKS_AT, &v.marks);
+    put_tail(buffer, &v.marks, v.rule, &v.expected, &v.attaches);
 }
 
 // Save into a buffer that is long enough, or longer: what it holds behind the image is left.

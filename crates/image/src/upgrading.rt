@@ -1,15 +1,16 @@
-// Older images: one without marks is made into one of the newest length, byte by byte, and then restored like any other.
+// Older images: one without marks, or without a rule, is made into one of the newest length, byte by byte, and then restored like any other.
 ghost use mathlib.Core.Path.{_≡_};
 ghost use Prim.Native.Nat.{_<_};
 ghost use lib.ListN.{length, getD};
 ghost use Rattle.rules.specs.Views.{replyOf};
-ghost use Rattle.rules.specs.Image.{bytesOf, lastFrom, upgraded, restoreOf, imageNumbers, imageLength, unmarkedLength};
+ghost use Rattle.rules.specs.Image.{bytesOf, lastFrom, marked, Older, upgraded, restoreOf, imageNumbers, imageLength, unmarkedLength, unruledLength};
 use crate::GAP_AT;
 use crate::IMAGE_LENGTH;
 use crate::MARKS_AT;
 use crate::READERS_AT;
 use crate::SIZES_AT;
 use crate::UNMARKED_LENGTH;
+use crate::UNRULED_LENGTH;
 use crate::bytes::get_u8;
 use crate::bytes::get_u16;
 use crate::restoring::restore_whole;
@@ -46,10 +47,10 @@ fn last_in(image: &[u8], slot: usize) -> u16
     get_u16(image, SIZES_AT + 2 * file)
 }
 
-// Byte i of what an image without marks is upgraded to: a mark's is the position's, a last page may be filled in, and all others stay.
-fn upgraded_byte(image: &[u8], i: usize) -> u8
-    requires { ⌜ (length (now image) ≡ unmarkedLength) × (i < imageLength) ⌝ }
-    ensures { λ r. ⌜ r ≡ getD (upgraded (now (image .entry))) i 0 ⌝ }
+// Byte i of an image without marks and its marks: a mark's is the position's, a last page may be filled in, and all others stay.
+fn marked_byte(image: &[u8], i: usize) -> u8
+    requires { ⌜ (length (now image) ≡ unmarkedLength) × (i < unruledLength) ⌝ }
+    ensures { λ r. ⌜ r ≡ getD (marked (now (image .entry))) i 0 ⌝ }
 {
     if MARKS_AT <= i {
         let m = i - MARKS_AT;
@@ -68,8 +69,22 @@ fn upgraded_byte(image: &[u8], i: usize) -> u8
     byte_of(last_in(image, place / 8), place % 8 - 6)
 }
 
+// Byte i of what an older image is upgraded to: the rule, E and R are 0.
+fn upgraded_byte(image: &[u8], i: usize) -> u8
+    requires { ⌜ Older (now image) × (i < imageLength) ⌝ }
+    ensures { λ r. ⌜ r ≡ getD (upgraded (now (image .entry))) i 0 ⌝ }
+{
+    if UNRULED_LENGTH <= i {
+        return 0;
+    }
+    if image.len() == UNRULED_LENGTH {
+        return get_u8(image, i);
+    }
+    marked_byte(image, i)
+}
+
 fn upgrade(image: &[u8], newest: &mut [u8])
-    requires { ⌜ (length (now image) ≡ unmarkedLength) × (length (now newest) ≡ imageLength) ⌝ }
+    requires { ⌜ Older (now image) × (length (now newest) ≡ imageLength) ⌝ }
     ensures { λ _. ⌜ now (newest .exit) ≡ upgraded (now (image .entry)) ⌝ }
 {
     let mut i: usize = 0;
@@ -80,14 +95,24 @@ fn upgrade(image: &[u8], newest: &mut [u8])
     }
 }
 
+fn restore_older(image: &[u8], cached: &mut [u64; 128], fetching: &mut [u64; 128]) -> Outcome
+    requires { ⌜ Older (now image) ⌝ }
+    ensures { λ r. ⌜ replyOf r (now (cached .exit)) (now (fetching .exit)) ≡ restoreOf (now (image .entry)) ⌝ }
+{
+    let mut newest = [0u8; IMAGE_LENGTH];
+    upgrade(image, &mut newest);
+    restore_whole(&newest, cached, fetching)
+}
+
 // Restore of an image of any length. The lent maps become those of the image, whatever they held; where it is refused, those of the idle state.
 pub fn restore(image: &[u8], cached: &mut [u64; 128], fetching: &mut [u64; 128]) -> Outcome
     ensures { λ r. ⌜ replyOf r (now (cached .exit)) (now (fetching .exit)) ≡ restoreOf (now (image .entry)) ⌝ }
 {
-    if image.len() != UNMARKED_LENGTH {
-        return restore_whole(image, cached, fetching);
+    if image.len() == UNMARKED_LENGTH {
+        return restore_older(image, cached, fetching);
     }
-    let mut newest = [0u8; IMAGE_LENGTH];
-    upgrade(image, &mut newest);
-    restore_whole(&newest, cached, fetching)
+    if image.len() == UNRULED_LENGTH {
+        return restore_older(image, cached, fetching);
+    }
+    restore_whole(image, cached, fetching)
 }

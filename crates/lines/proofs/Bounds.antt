@@ -8,7 +8,7 @@ use native.Mathlib.Omega.{arith}
 use lib.ListN.{length, length-append}
 use lib.Dec.{T}
 use Rattle.rules.specs.Lists.{range, each, only}
-use Rattle.rules.specs.Pages.{fileOf, pageOf, size, Page, held, ends, pages, cachedPages, clusters}
+use Rattle.rules.specs.Pages.{fileOf, pageOf, size, cached, Page, held, ends, pages, clusters}
 use Rattle.rules.specs.Orders.{wanted, stealOrder, fetchOrder}
 use Rattle.rules.specs.Schedules.{num, count}
 use Rattle.rules.specs.Valid.{Valid}
@@ -18,8 +18,9 @@ use Rattle.rules.proofs.laws.Tests.{less}
 use Rattle.rules.proofs.laws.Members.{All, all-map, all-only, range-in}
 use Rattle.rules.proofs.laws.Sorts.{all-sorted, sorted-length}
 use Rattle.rules.proofs.laws.Counts.{pages-count}
-use Rattle.rules.proofs.orders.Ranks.{pages-in, steal-ranked}
+use Rattle.rules.proofs.orders.Ranks.{pages-in}
 use Rattle.rules.proofs.orders.Distinct.{wanted-page}
+use Rattle.rules.proofs.orders.Victims.{steal-length, steal-cached}
 use Rattle.text.proofs.Puts.{digits-one, digits-more}
 use Rattle.rules.proofs.laws.Lists.{each-append}
 
@@ -94,11 +95,10 @@ module _ (s : State) (v : Valid s) where
 
   -- the steal order: at most 1,024 keys
   pub steal-few : length (stealOrder s) ≤ 1024
-  steal-few = rw (steal-ranked s v, sorted-length) (omega (arith, v .room, v .frames-high))
+  steal-few = omega (arith, steal-length s v, v .room, v .frames-high)
 
   pub steal-low : All Key (stealOrder s)
-  unfolding cachedPages
-  steal-low = rw (steal-ranked s v) (all-sorted _ Key (cachedPages s) (keys-in _))
+  steal-low = all-map (λ k. T (cached s k)) Key (stealOrder s) (λ k h. v .cached-in k h .low) (steal-cached s v)
 
   -- the fetch order: at most 8,192
   pub fetch-few : length (fetchOrder s) ≤ 8192

@@ -5,7 +5,7 @@ use mathlib.Core.Bool.{true, false, and-false}
 use mathlib.Core.List.{List, [], _∷_}
 use native.Mathlib.Omega.{arith}
 use borrow.Author.Tests.{ne-eqb, leb-true}
-use lib.ListN.{length, getD, take, drop, length-drop}
+use lib.ListN.{length, getD, take, drop, replicate, length-drop}
 use lib.Seq.{length-take-le, take-all}
 use Rattle.rules.specs.Lists.{range}
 use Rattle.rules.specs.Calls.{refused, setupOf}
@@ -57,7 +57,8 @@ module _ (s : State) (c : ℕ) where
   other-eleven x e n = simp (e, ne-eqb c 83 n, and-false)
 
 -- S
-pub letter-setup : (s : State) (x : List ℕ) → length x ≡ 11 → obeyed s 83 x ≡ toldSetup s (setupOf (getD x 0 0) (getD x 1 0) (getD x 2 0) (drop 3 x))
+pub letter-setup : (s : State) (x : List ℕ) → length x ≡ 11
+    → obeyed s 83 x ≡ toldSetup s (setupOf (getD x 0 0) (getD x 1 0) (getD x 2 0) (drop 3 x) 0 (replicate 8 0))
 unfolding obeyed
 letter-setup s x e = rw e
 

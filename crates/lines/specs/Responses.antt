@@ -14,7 +14,8 @@ use Rattle.rules.specs.declared.State.{State}
 use Rattle.text.specs.Written.{Put}
 use Rattle.lines.specs.declared.Said.{Said}
 
--- no answer is longer: a letter, a comma and a count of four digits, at most 8,192 pairs of at most seven bytes, and the line end
+-- no answer is longer: a letter, a comma and a count of four digits, at most 8,192 pairs of file and page of at most seven bytes, and the line end. The pairs
+-- of pages of a C line have up to ten bytes, but are at most 512
 abbrev pub answerRoom : ℕ
 answerRoom = 57351
 

@@ -6,3 +6,4 @@ pub mod Seating
 pub mod Sweeps
 pub mod Lacks
 pub mod Searching
+pub mod Leading

@@ -1,17 +1,14 @@
 -- The searches for the heads of the two orders, page by page. Assumes nothing.
 use mathlib.Core.Path.{_≡_, refl, sym, ap, ap₂, _∙_, subst}
-use mathlib.Core.Bool.{Bool, true, false, not, cond, _&&_}
-use mathlib.Core.List.{[], _∷_}
-use mathlib.Core.Logic.{_⊎_, inl, inr}
-use mathlib.Core.Option.{Option, none, some}
-use Prim.Native.Nat.{ℕ, zero, suc, _+_, _-_, _*_, _/_, _%_, _^_, _≤_, _<_}
+use mathlib.Core.Bool.{Bool, true, false, not, _&&_}
+use mathlib.Core.Option.{none, some}
+use Prim.Native.Nat.{ℕ, zero, suc, _+_, _-_, _*_, _≤_, _<_}
 use native.Mathlib.Decide.{decLt}
 use native.Mathlib.Omega.{arith}
-use borrow.Author.Tests.{eq-eqb, ne-eqb}
-use lib.Bits.{bitAnd}
+use borrow.Author.Tests.{eq-eqb}
 use lib.Dec.{T, eqb, eqb→eq}
 use Rattle.bits.specs.Map.{bit, joined, nextBit}
-use Rattle.bits.proofs.Bits.{bit-le, and-is}
+use Rattle.bits.proofs.Bits.{bit-le}
 use Rattle.bits.proofs.Finds.{Next, next-is, last-is}
 use Rattle.rules.specs.Lists.{head}
 use Rattle.rules.specs.Pages.{fileOf, cached}
@@ -19,9 +16,9 @@ use Rattle.rules.specs.Readers.{readerAt, attached}
 use Rattle.rules.specs.Valid.{Valid}
 use Rattle.rules.specs.UseTimes.{before, never, useFor}
 use Rattle.rules.specs.Orders.{absent, fetchOrder, victim}
-use Rattle.rules.proofs.laws.Tests.{side, is-true, is-false, and-both}
+use Rattle.rules.proofs.laws.Tests.{and-both}
 use Rattle.rules.proofs.laws.Cases.{passed}
-use Rattle.rules.proofs.orders.Distinct.{among-all}
+use Rattle.rules.proofs.orders.Victims.{among-all}
 use Rattle.rules.proofs.orders.LookAheads.{before-is, is-before, use-least}
 use Rattle.rules.specs.Ranks.{rank, cachedAmong, victimAmong, lastCached, AtMost, FirstAbsent, NoneBelow, AtLeast, Before}
 use Rattle.rules.proofs.orders.Candidates.{
@@ -46,65 +43,38 @@ use Rattle.bits.proofs.Joins.{joined-clear}
 
 -- ---- the page to give up
 
--- a file is in a set where its digit is set
-digit-is : (files f : ℕ) → f < 8 → bitAnd (files / 2 ^ f) 1 ≡ bit (files ∷ []) f
-digit-is files f l =
-    let z : f / 64 ≡ 0 = omega arith in
-    let m : f % 64 ≡ f = omega arith in
-    rw (z, m) at (and-is (files ∷ []) f)
-
--- the file is in the set
-pub of-file-in : (files f n : ℕ) → f < 8 → bitAnd (files / 2 ^ f) 1 ≡ 1 → n ≡ cond (inSet files f) n 0
-of-file-in files f n l e = rw (eq-eqb (bit (files ∷ []) f) 1 (sym (digit-is files f l) ∙ e)) refl
-
--- the file is not
-pub of-file-out : (files f n : ℕ) → f < 8 → (bitAnd (files / 2 ^ f) 1 ≡ 1 → ⊥) → 0 ≡ cond (inSet files f) n 0
-of-file-out files f n l e = rw (ne-eqb (bit (files ∷ []) f) 1 (λ z. e (digit-is files f l ∙ z))) refl
-
--- at most n pages either way
-pub set-most : (files : ℕ → Bool) (f n m : ℕ) → m ≡ cond (files f) n 0 → m ≤ n
-set-most files f n m e = rw e (go (files f))
-  where
-    go : (b : Bool) → cond b n 0 ≤ n
-    go true = omega arith
-    go false = omega arith
-
 module _ (s : State) (files : ℕ → Bool) where
-  module _ (f n m page : ℕ) (small : n ≤ 1024) (c : m ≡ cond (files f) n 0) (e : page ≡ lastCached s f m) (p : Pick) where
-    -- of a file of the set all n pages are looked at
-    whole : T (files f) → m ≡ n
-    whole h = rw (is-true (files f) h) at c
+  -- a file that is not of the set has no candidate
+  pub raised-out : (f n : ℕ) (p : Pick) → files f ≡ false → Ranked s files p → Raised s files f n p p
+  raised-out f n p out k = record { page = k; up = omega arith; most = λ h. absurd (subst T out h) }
 
-    -- a page that is found is of the set
-    of-set : (page ≡ 0 → ⊥) → T (files f)
-    of-set z = go (side (files f))
-      where
-        go : T (files f) ⊎ T (not (files f)) → T (files f)
-        go (inl h) = h
-        go (inr h) = let o : m ≡ 0 = rw (is-false (files f) h) at c in absurd (z (omega (arith, last-is (s .cached) (f * 1024) m .high)))
-
+  module _ (f n page : ℕ) (small : n ≤ 1024) (e : page ≡ lastCached s f n) (p : Pick) where
     -- there is no candidate
     pub raised-none : Ranked s files p → page ≡ 0 → Raised s files f n p p
-    raised-none k z = record { page = k; up = omega arith; most = λ h l. absurd (omega (arith, ap (lastCached s f) (whole h))) }
+    raised-none k z = record { page = k; up = omega arith; most = λ h l. absurd (omega (arith, e)) }
 
     module _ (value : ℕ) (o : Over s (f * 1024 + page - 1) (p .value) value) where
-      most : (b : ℕ) → value ≤ b → T (files f) → AtMost s b f n
-      most b l h _ = omega (arith, o .least, ap (λ i. rank s (f * 1024 + i - 1)) (e ∙ ap (lastCached s f) (whole h)))
+      most : (b : ℕ) → value ≤ b → AtMost s b f n
+      most b l _ = omega (arith, o .least, ap (λ i. rank s (f * 1024 + i - 1)) e)
 
       -- a candidate that is kept
-      pub raised-take : (page ≡ 0 → ⊥) → p .value < value → Raised s files f n p (record { key = f * 1024 + page - 1; value = value })
-      raised-take z l = record { page = record { held = λ _. held; its = λ _. sym (o .exact l) }; up = omega arith; most = most value (omega arith) }
+      pub raised-take : files f ≡ true → (page ≡ 0 → ⊥) → p .value < value → Raised s files f n p (record { key = f * 1024 + page - 1; value = value })
+      raised-take in-set z l = record {
+        page = record { held = λ _. held; its = λ _. sym (o .exact l) };
+        up = omega arith;
+        most = λ _. most value (omega arith);
+      }
         where
           held : T (cachedAmong files s (f * 1024 + page - 1))
           held =
               let k : ℕ = f * 1024 + page - 1 in
-              let g : f ≡ fileOf k = omega (arith, last-is (s .cached) (f * 1024) m .high, whole (of-set z)) in
-              and-both (cached s k) _ (subst (λ i. T (cached s (f * 1024 + i - 1))) (sym e) (candidate-cached s f m (omega arith)))
-              (subst (λ i. T (files i)) g (of-set z))
+              let g : f ≡ fileOf k = omega (arith, e, last-is (s .cached) (f * 1024) n .high) in
+              and-both (cached s k) _ (subst (λ i. T (cached s (f * 1024 + i - 1))) (sym e) (candidate-cached s f n (omega arith)))
+              (subst (λ i. T (files i)) g (passed (files f) in-set))
 
       -- a candidate of no higher rank
       pub raised-keep : Ranked s files p → value ≤ p .value → Raised s files f n p p
-      raised-keep k l = record { page = k; up = omega arith; most = most (p .value) l }
+      raised-keep k l = record { page = k; up = omega arith; most = λ _. most (p .value) l }
 
   -- a search starts with none of the candidates
   pub highest-none : Highest s files 24 (record { key = 0; value = 0 })
@@ -152,7 +122,6 @@ module _ (s : State) (files : ℕ → Bool) where
 
 -- every file is in the set of all
 in-all : (f : ℕ) → f < 8 → T (inSet 255 f)
-unfolding bit
 in-all zero l = tt
 in-all (suc zero) l = tt
 in-all (suc (suc zero)) l = tt
@@ -163,9 +132,9 @@ in-all (suc (suc (suc (suc (suc (suc zero)))))) l = tt
 in-all (suc (suc (suc (suc (suc (suc (suc zero))))))) l = tt
 in-all (suc (suc (suc (suc (suc (suc (suc (suc f)))))))) l = absurd (omega arith)
 
--- of all files the page to give up is the box's
-pub victim-of-all : (s : State) → Valid s → (o : Option ℕ) → o ≡ victimAmong (inSet 255) s → o ≡ victim s
-victim-of-all s w o e = e ∙ among-all s w (inSet 255) in-all
+-- of all files the page to give up is the box's, under the 1989 rule
+pub victim-of-all : (s : State) → Valid s → s .rule ≡ 0 → victimAmong (inSet 255) s ≡ victim s
+victim-of-all s w e = among-all s w e (inSet 255) in-all
 
 -- ---- the next fetch
 

@@ -1,7 +1,6 @@
 -- What one slot says of a page, as the code tests it: with no division. Assumes nothing.
 use mathlib.Core.Path.{_≡_, refl, sym, subst}
 use mathlib.Core.Bool.{Bool, true, false, cond, _&&_}
-use mathlib.Core.List.{List}
 use Prim.Native.Nat.{ℕ, min, _+_, _*_, _/_, _≤_, _<_}
 use native.Mathlib.Nat.{le-div-iff-mul-le, div-lt-iff-lt-mul}
 use native.Mathlib.Omega.{arith}
@@ -14,8 +13,6 @@ use Rattle.rules.specs.Ranks.{Before}
 use Rattle.rules.proofs.orders.LookAheads.{is-before}
 use Rattle.rules.specs.declared.State.{State}
 use Rattle.rules.specs.declared.Reader.{Reader}
-use Rattle.rules.specs.Views.{stateOf}
-use Rattle.rules.specs.declared.View.{View}
 use Rattle.order.specs.Searches.{lower}
 
 none : (a : Bool) → false ≡ (a && false)

@@ -1,10 +1,10 @@
 -- The page chosen, and what the searches rest on: the ranges of a view, and that cached pages are pages. Assumes nothing: these are definitions.
 use Prim.Native.Nat.{ℕ, _≤_, _<_}
 use mathlib.Core.Bool.{Bool}
-use mathlib.Core.List.{List, [], _∷_}
+use mathlib.Core.List.{List, []}
 use mathlib.Core.Option.{Option, none, some}
-use lib.Dec.{T}
-use Rattle.bits.specs.Map.{on}
+use lib.Dec.{T, eqb}
+use Rattle.bits.specs.Map.{digit}
 use Rattle.rules.specs.Pages.{cached, Page}
 use Rattle.rules.specs.Readers.{readerIn, attached}
 use Rattle.rules.specs.Views.{stateOf}
@@ -19,7 +19,7 @@ chosen Nothing = none
 
 -- the files of a set: the digits of a word
 abbrev pub inSet : ℕ → ℕ → Bool
-inSet files = on (files ∷ [])
+inSet files f = eqb (digit files f) 1
 
 -- the ranges that the searches rest on; every valid state has them
 pub record Ranged (v : View) : Type 0 where

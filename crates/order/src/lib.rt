@@ -6,10 +6,10 @@ use rules::Reader;
 use rules::View;
 ghost use mathlib.Core.Path.{_≡_};
 ghost use mathlib.Core.Bool.{cond, _&&_};
-ghost use mathlib.Core.List.{[], _∷_};
+ghost use mathlib.Core.List.{List, [], _∷_};
 ghost use Prim.Native.Nat.{ℕ, _+_, _-_, _*_, _%_, _<_, _≤_};
-ghost use lib.Dec.{T, leb, ltb};
-ghost use Rattle.bits.specs.Map.{joined, nextBit};
+ghost use lib.Dec.{T, leb, ltb, eqb};
+ghost use Rattle.bits.specs.Map.{joined, nextBit, ones};
 ghost use Rattle.rules.specs.declared.State.{State};
 ghost use Rattle.rules.specs.Lists.{head};
 ghost use Rattle.rules.specs.Pages.{Page};
@@ -19,7 +19,9 @@ ghost use Rattle.rules.specs.UseTimes.{missing};
 ghost use Rattle.rules.specs.Orders.{fetchOrder, victim};
 ghost use Rattle.rules.specs.Ranks.{victimAmong, Presents, Before};
 ghost use Rattle.rules.specs.Views.{stateOf};
+ghost use Rattle.parts.specs.Files.{Weighable};
 ghost use Rattle.order.specs.Choices.{chosen, inSet, Ranged, Housed};
+ghost use Rattle.order.specs.Leads.{leading, Foremost};
 ghost use Rattle.order.specs.Seats.{Seated};
 ghost use Rattle.order.specs.Searches.{lower, Over, Ranked, Raised, Soonest};
 
@@ -33,6 +35,12 @@ pub enum Choice {
 struct Pick {
     key: u16,
     value: u64,
+}
+
+// The file that leads in the choice of the 1993 rule so far, and its number; 0 where no file has cached pages.
+struct Lead {
+    file: usize,
+    number: u64,
 }
 
 // The set of the files 0 to 7.
@@ -158,17 +166,6 @@ fn rank_over<'a>(
     top
 }
 
-// So many pages of a file that is in the set; none of any other.
-fn pages_of(files: u64, file: usize, n: usize) -> usize
-    requires { ⌜ file < 8 ⌝ }
-    ensures { λ r. ⌜ r ≡ cond (inSet files file) n 0 ⌝ }
-{
-    if (files >> file) & 1 == 1 {
-        return n;
-    }
-    0
-}
-
 // The last cached one of the file's first n pages, if the file is of the set, there is one, and its rank is higher than the best.
 fn higher<'a>(
     v: View,
@@ -186,7 +183,10 @@ fn higher<'a>(
     requires { ⌜ Ranked (stateOf v (now cached) (now fetching)) (inSet files) best ⌝ }
     ensures { λ r. ⌜ Raised (stateOf v (now (cached .entry)) (now (fetching .entry))) (inSet files) file n best r ⌝ }
 {
-    let page = bits::last_set(cached, file * 1024, pages_of(files, file, n));
+    if !bits::has_digit(files, file) {
+        return best;
+    }
+    let page = bits::last_set(cached, file * 1024, n);
     if page == 0 {
         return best;
     }
@@ -243,12 +243,77 @@ pub fn victim_among<'a>(
     Choice::Key(best.key)
 }
 
-// The page to give up: that of all files.
+// The file that leads after a look at one more, of this size and weight: one with cached pages leads by a higher number. The sum is that of the weights.
+fn fuller(
+    cached: &[u64; 128],
+    frames: u16,
+    sum: u64,
+    weight: u64,
+    file: usize,
+    size: u16,
+    best: Lead,
+) -> Lead
+    requires { ⌜ (frames ≤ 1024) × (weight ≤ sum) × (sum ≤ 8192000) ⌝ }
+    requires { ⌜ (file < 8) × (size ≤ 1024) ⌝ }
+    ensures { λ r. ⌜ r ≡ leading frames sum weight file (ones (now (cached .entry)) (file * 1024) size) best ⌝ }
+{
+    let pages = bits::count(cached, file * 1024, size as usize);
+    if pages == 0 {
+        return best;
+    }
+    let number = parts::standing(frames, sum, weight, file, pages as u64);
+    if best.number < number {
+        return Lead { file, number };
+    }
+    best
+}
+
+// The file that the 1993 rule chooses: of those with cached pages the one with the highest number.
+fn chosen_file(v: View, cached: &[u64; 128]) -> usize
+    requires { ⌜ Weighable (v .frames) (v .expected) (v .sizes) ⌝ }
+    ensures { λ r. ⌜ Foremost v (now (cached .entry)) r ⌝ }
+{
+    let expected = v.expected;
+    let attaches = v.attaches;
+    let sizes = v.sizes;
+    let sum = parts::weight_sum(expected, attaches, sizes);
+    let mut best = Lead { file: 0, number: 0 };
+    let mut file: usize = 0;
+    while file < 8 {
+        let weight = parts::weight(expected[file], attaches[file], sizes[file]);
+        best = fuller(cached, v.frames, sum, weight, file, sizes[file], best);
+        file += 1;
+    }
+    best.file
+}
+
+// The set of one file.
+fn set_of(file: usize) -> u64
+    requires { ⌜ file < 8 ⌝ }
+    ensures { λ r. ⌜ ((f : ℕ) → f < 8 → inSet r f ≡ eqb f file) ⌝ }
+{
+    1u64 << file
+}
+
+// The files whose pages may go: all under the 1989 rule, the one chosen under the 1993 rule.
+fn files_open(v: View, cached: &[u64; 128]) -> u64
+    requires { ⌜ Weighable (v .frames) (v .expected) (v .sizes) ⌝ }
+    ensures { λ r. ⌜ ((fetching : List ℕ) → Valid (stateOf v (now (cached .entry)) fetching)
+        → victimAmong (inSet r) (stateOf v (now (cached .entry)) fetching) ≡ victim (stateOf v (now (cached .entry)) fetching)) ⌝ }
+{
+    if v.rule == 0 {
+        return ALL_FILES;
+    }
+    set_of(chosen_file(v, cached))
+}
+
+// The page to give up, by the state's rule.
 pub fn victim<'a>(v: View, cached: &'a [u64; 128], fetching: &'a [u64; 128]) -> Choice
     requires { ⌜ Valid (stateOf v (now cached) (now fetching)) ⌝ }
     ensures { λ r. ⌜ chosen r ≡ victim (stateOf v (now (cached .entry)) (now (fetching .entry))) ⌝ }
 {
-    victim_among(v, cached, fetching, ALL_FILES)
+    let files = files_open(v, cached);
+    victim_among(v, cached, fetching, files)
 }
 
 // The first digit from digit s on that is 0 in both words, or 64: the first 1 of the complement of both together.

@@ -1,3 +1,4 @@
--- What the proofs of this crate and of its callers rest on: tests that answer yes or no, and what files and pages that pass them are.
+-- What the proofs of this crate and of its callers rest on: tests that answer yes or no, what files and pages that pass them are, and the files' weights.
 pub mod Tests
 pub mod Files
+pub mod Weights

@@ -6,14 +6,15 @@ use rules::Reader;
 use rules::View;
 ghost use mathlib.Core.Path.{_≡_};
 ghost use mathlib.Core.Bool.{false};
-ghost use Prim.Native.Nat.{min, _+_, _-_, _%_, _<_};
+ghost use Prim.Native.Nat.{min, _+_, _-_, _%_, _≤_, _<_};
 ghost use Rattle.rules.specs.Views.{stateOf, noPages};
 ghost use Rattle.rules.specs.Lists.{within};
 ghost use Rattle.rules.specs.Pages.{fileOf, pageOf, keyOf};
 ghost use Rattle.rules.specs.Readers.{noReader, attached, nextKey, inCondition, onward, paced};
 ghost use Rattle.rules.specs.Calls.{fresh, idle, docked};
+ghost use Rattle.rules.specs.Orders.{weightOf, weightSum, standing};
 ghost use Rattle.rules.specs.Questions.{slotAt};
-ghost use Rattle.parts.specs.Files.{noFileIn, noPageIn, noRangeIn, Small};
+ghost use Rattle.parts.specs.Files.{noFileIn, noPageIn, noRangeIn, weightIn, Small};
 
 // ---- numbers
 
@@ -98,6 +99,45 @@ pub fn page_of(key: u16) -> u16
     ensures { λ r. ⌜ r ≡ pageOf key ⌝ }
 {
     key % 1024 + 1
+}
+
+// ---- weights (A.6)
+
+// A file's weight: the readers still to come, times its size.
+pub fn weight(expected: u16, attaches: u16, size: u16) -> u64
+    ensures { λ r. ⌜ r ≡ weightOf expected attaches size ⌝ }
+    ensures small { λ r. ⌜ r < 4294967296 ⌝ }
+{
+    if expected < attaches {
+        return 0;
+    }
+    ((expected - attaches) as u64) * (size as u64)
+}
+
+// The sum of the files' weights, or 1 where all are 0.
+pub fn weight_sum(expected: [u16; 8], attaches: [u16; 8], sizes: [u16; 8]) -> u64
+    ensures { λ r. ⌜ r ≡ weightSum (weightIn expected attaches sizes) ⌝ }
+{
+    let mut sum: u64 = 0;
+    let mut file: usize = 0;
+    while file < 8 {
+        sum += weight(expected[file], attaches[file], sizes[file]);
+        file += 1;
+    }
+    if sum == 0 {
+        return 1;
+    }
+    sum
+}
+
+// The number by which a file is chosen that has so many cached pages and this weight, of this sum.
+pub fn standing(frames: u16, sum: u64, weight: u64, file: usize, pages: u64) -> u64
+    requires { ⌜ (frames ≤ 1024) × (weight ≤ sum) × (sum ≤ 8192000) ⌝ }
+    requires { ⌜ (file < 8) × (pages ≤ 1024) ⌝ }
+    ensures { λ r. ⌜ r ≡ standing frames sum weight file pages ⌝ }
+    ensures small { λ r. ⌜ r < 274877906944 ⌝ }
+{
+    (pages * sum + (frames as u64) * (sum - weight)) * 8 + file as u64
 }
 
 // ---- readers
@@ -185,14 +225,31 @@ pub fn view_of(
     sizes: [u16; 8],
     readers: [Reader; 16],
     marks: [u16; 16],
+    rule: u8,
+    expected: [u16; 8],
+    attaches: [u16; 8],
 ) -> View
     ensures { λ r. ⌜ r
-        ≡ record { marks = marks; frames = frames; turn = turn; «look_ahead» = «look_ahead»; «fetch_time» = «fetch_time»; sizes = sizes; readers = readers } ⌝ }
+        ≡ record {
+          marks = marks;
+          expected = expected;
+          attaches = attaches;
+          frames = frames;
+          turn = turn;
+          rule = rule;
+          «look_ahead» = «look_ahead»;
+          «fetch_time» = «fetch_time»;
+          sizes = sizes;
+          readers = readers;
+        } ⌝ }
 {
     View {
         marks,
+        expected,
+        attaches,
         frames,
         turn,
+        rule,
         look_ahead,
         fetch_time,
         sizes,
@@ -201,17 +258,36 @@ pub fn view_of(
 }
 
 // The view of a state without readers, pages or fetches. Its maps are the caller's.
-pub fn fresh(frames: u16, look_ahead: u32, fetch_time: u32, sizes: [u16; 8]) -> View
-    ensures { λ r. ⌜ stateOf r noPages noPages ≡ fresh frames «look_ahead» «fetch_time» sizes ⌝ }
+pub fn fresh(
+    frames: u16,
+    look_ahead: u32,
+    fetch_time: u32,
+    sizes: [u16; 8],
+    rule: u8,
+    expected: [u16; 8],
+) -> View
+    ensures { λ r. ⌜ stateOf r noPages noPages ≡ fresh frames «look_ahead» «fetch_time» sizes rule expected ⌝ }
 {
     let readers = [no_reader(); 16];
     let marks = [0u16; 16];
-    view_of(frames, 0, look_ahead, fetch_time, sizes, readers, marks)
+    let attaches = [0u16; 8];
+    view_of(
+        frames,
+        0,
+        look_ahead,
+        fetch_time,
+        sizes,
+        readers,
+        marks,
+        rule,
+        expected,
+        attaches,
+    )
 }
 
 // The view of the idle state, which a refused Setup or Restore gives and with which the program starts.
 pub fn idle() -> View
     ensures { λ r. ⌜ stateOf r noPages noPages ≡ idle ⌝ }
 {
-    fresh(1, 1, 0, [0u16; 8])
+    fresh(1, 1, 0, [0u16; 8], 0, [0u16; 8])
 }

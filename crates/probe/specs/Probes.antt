@@ -2,12 +2,15 @@
 use Prim.Native.Nat.{ℕ, min, _+_, _*_}
 use mathlib.Core.Bool.{Bool, cond}
 use mathlib.Core.List.{List, [], _∷_, _++_, map}
-use lib.ListN.{length, take, drop, replicate}
+use lib.ListN.{getD, length, take, drop, replicate}
+use Rattle.rules.specs.Lists.{range}
+use Rattle.rules.specs.Calls.{setupOf}
 use Rattle.rules.specs.Listings.{Written, stealListOf, fetchListOf}
 use Rattle.rules.specs.Questions.{questionsOf}
 use Rattle.rules.specs.Image.{saveOf, restoreOf}
 use Rattle.rules.specs.Entries.{code, carriedOut, Entered}
 use Rattle.rules.specs.declared.State.{State}
+use Rattle.rules.specs.declared.Reply.{Reply}
 use Rattle.rules.specs.declared.Ordered.{Ordered}
 use Rattle.rules.specs.declared.Ordered.the-variants.{Keys, Refused}
 use Rattle.rules.specs.declared.Question.{Question}
@@ -17,13 +20,28 @@ use Rattle.rules.specs.declared.Forecast.{Forecast}
 use Rattle.rules.specs.declared.Listing.{Listing}
 use Rattle.rules.specs.declared.Listing.the-variants as listing
 
--- Restore, and Save of what it gives into a buffer: both numbers in one, and the buffer after it
-abbrev pub restoreProbed : List ℕ → List ℕ → Entered
-restoreProbed image buffer =
+-- a call, and Save of what it gives into a buffer: both numbers in one, and the buffer after it
+abbrev pub savedAfter : Reply → List ℕ → Entered
+savedAfter r buffer =
     record {
-      number = code (restoreOf image .answer) + 4294967296 * code (saveOf (restoreOf image .state) buffer .answer);
-      image = saveOf (restoreOf image .state) buffer .buffer;
+      number = code (r .answer) + 4294967296 * code (saveOf (r .state) buffer .answer);
+      image = saveOf (r .state) buffer .buffer;
     }
+
+-- of Restore
+abbrev pub restoreProbed : List ℕ → List ℕ → Entered
+restoreProbed image buffer = savedAfter (restoreOf image) buffer
+
+-- eight numbers from a place on; one that is missing is 0
+abbrev pub eightFrom : List ℕ → ℕ → List ℕ
+eightFrom numbers from = map (λ i. getD numbers (from + i) 0) (range 0 8)
+
+-- Setup of frames, L, T, the sizes, the rule and the E
+abbrev pub setupFrom : List ℕ → Reply
+setupFrom numbers = setupOf (getD numbers 0 0) (getD numbers 1 0) (getD numbers 2 0) (eightFrom numbers 3) (getD numbers 11 0) (eightFrom numbers 12)
+
+abbrev pub setupProbed : List ℕ → List ℕ → Entered
+setupProbed numbers buffer = savedAfter (setupFrom numbers) buffer
 
 -- the number of an order's answer: the refusal's, or the count of keys and the pages tested, told from a refusal as Run's is
 abbrev pub orderNumber : Ordered → ℕ

@@ -4,6 +4,9 @@
 // `probe_restore`: Restore of an image of any length, then Save of the state that it gives, the idle one where it refuses, into a buffer of any length. The
 // number is Restore's answer as a C entry has it, 13 or that of O, + 4,294,967,296 × Save's, 12 or that of O.
 //
+// `probe_setup`: Setup of the numbers frames, L, T, eight sizes, rule and eight E, in this order, then Save of the state that it gives, the idle one where it
+// refuses. A number that is missing is 0, and further ones are not looked at. The number is as for `probe_restore`, with Setup's answer, 1 or that of O.
+//
 // `probe_steal_list` and `probe_fetch_list`: Restore of an image of any length, then the list of the state that it gives. The number is Restore's 13, which
 // leaves the lent list, the list's 12, or 4,294,967,296 + count of keys × 65,536 + pages tested.
 //
@@ -21,13 +24,21 @@ use rules::When;
 ghost use mathlib.Core.Path.{_≡_};
 ghost use mathlib.Core.Bool.{true, false};
 ghost use mathlib.Core.List.{_++_, map};
-ghost use Prim.Native.Nat.{min, _+_, _≤_};
-ghost use lib.ListN.{length, take, drop};
+ghost use Prim.Native.Nat.{min, _+_, _*_, _≤_, _<_};
+ghost use lib.ListN.{getD, length, take, drop};
 ghost use Rattle.rules.specs.Valid.{Valid};
 ghost use Rattle.rules.specs.Views.{stateOf};
 ghost use Rattle.rules.specs.Questions.{questionsOf};
-ghost use Rattle.probe.specs.Probes.{restoreProbed, orderNumber, listProbed};
+ghost use Rattle.probe.specs.Probes.{restoreProbed, eightFrom, setupProbed, orderNumber, listProbed};
 ghost use Rattle.probe.specs.Probes.{questionsIn, whenNumber, forecastNumber, listingNumber, whenProbed};
+
+// Two numbers in one.
+fn two_numbers(first: u64, second: u64) -> u64
+    requires { ⌜ (first < 4294967296) × (second < 4294967296) ⌝ }
+    ensures { λ r. ⌜ r ≡ first + 4294967296 * second ⌝ }
+{
+    first + 4294967296 * second
+}
 
 #[no_mangle]
 pub extern "C" fn probe_restore(image: &[u8], buffer: &mut [u8]) -> u64
@@ -38,7 +49,48 @@ pub extern "C" fn probe_restore(image: &[u8], buffer: &mut [u8]) -> u64
     let restored = image::restore(image, &mut cached, &mut fetching);
     let done = restored.answer;
     let saved = image::save(restored.view, &cached, &fetching, buffer);
-    codes::number(done) + 4294967296 * codes::number(saved)
+    two_numbers(codes::number(done), codes::number(saved))
+}
+
+// The number at a place; 0 where there is none.
+fn number_at(numbers: &[u64], i: usize) -> u64
+    ensures { λ r. ⌜ r ≡ getD (now (numbers .entry)) i 0 ⌝ }
+{
+    if i < numbers.len() {
+        return numbers[i];
+    }
+    0
+}
+
+// Eight numbers from a place on.
+fn eight_from(numbers: &[u64], from: usize) -> [u64; 8]
+    requires { ⌜ from ≤ 12 ⌝ }
+    ensures { λ r. ⌜ r ≡ eightFrom (now (numbers .entry)) from ⌝ }
+{
+    let mut eight = [0u64; 8];
+    let mut i: usize = 0;
+    while i < 8 {
+        eight[i] = number_at(numbers, from + i);
+        i += 1;
+    }
+    eight
+}
+
+#[no_mangle]
+pub extern "C" fn probe_setup(numbers: &[u64], buffer: &mut [u8]) -> u64
+    ensures { λ n. ⌜ record { number = n; image = now (buffer .exit) } ≡ setupProbed (now (numbers .entry)) (now (buffer .entry)) ⌝ }
+{
+    let frames = number_at(numbers, 0);
+    let look_ahead = number_at(numbers, 1);
+    let fetch_time = number_at(numbers, 2);
+    let sizes = eight_from(numbers, 3);
+    let rule = number_at(numbers, 11);
+    let expected = eight_from(numbers, 12);
+    let made = calls::setup_by_rule(frames, look_ahead, fetch_time, sizes, rule, expected);
+    let done = made.answer;
+    let none = [0u64; 128];
+    let saved = image::save(made.view, &none, &none, buffer);
+    two_numbers(codes::number(done), codes::number(saved))
 }
 
 // The number of an order's answer.

@@ -9,6 +9,7 @@ pub mod Sorts
 pub mod Numbered
 pub mod Counting
 pub mod Counts
+pub mod Onces
 pub mod Indexed
 pub mod Numbers
 pub mod Keys

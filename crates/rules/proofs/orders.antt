@@ -1,9 +1,13 @@
--- The two orders: look-aheads, ranks, heads and candidates; what a page in fetch changes; and the answers to questions.
+-- The two orders: look-aheads, ranks, heads and candidates; the choice of the 1993 rule; what a page in fetch changes; what repeated Steals drop; and the
+-- answers to questions.
 pub mod LookAheads
 pub mod Ranks
 pub mod Distinct
+pub mod Weighings
+pub mod Victims
 pub mod Local
 pub mod Links
 pub mod Candidates
 pub mod Stretches
 pub mod Questions
+pub mod Repeats

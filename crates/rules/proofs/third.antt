@@ -1,4 +1,4 @@
--- The third statement: the schedule theorem, the run as a schedule, the claim and its witness.
+-- The third statement: the schedule theorem, the run as a schedule, the claim and its witness, and that it needs the 1989 rule.
 pub mod Belady
 pub mod Scan
 pub mod Bridge
@@ -8,3 +8,4 @@ pub mod Turns
 pub mod Optimal
 pub mod Claim
 pub mod Witness
+pub mod Rules

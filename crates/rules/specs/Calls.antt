@@ -1,6 +1,7 @@
--- Setup, Attach, Read, Steal, Arrive, Detach, Lost and Prefetch: 01, "Calls"; Measure: A.2. Numbers are any numbers; where several refusals apply, the one
--- listed first for the call is given, and but for Setup a refused call gives the state back. Assumes nothing: these are definitions.
-use Prim.Native.Nat.{ℕ, _+_, _-_, _/_}
+-- Setup, Attach, Read, Steal, Arrive, Detach, Lost and Prefetch: 01, "Calls"; a start and a last page: A.1; Measure: A.2; the rule, the readers expected and
+-- the count of attaches: A.6. Numbers are any numbers; where several refusals apply, the one listed first for the call is given. Assumes nothing: these are
+-- definitions.
+use Prim.Native.Nat.{ℕ, min, _+_, _-_, _/_}
 use mathlib.Core.Bool.{Bool, not, cond, _&&_, _||_}
 use mathlib.Core.List.{List, map}
 use mathlib.Core.Option.{Option, none}
@@ -10,7 +11,7 @@ use Rattle.bits.specs.Map.{putBit}
 use Rattle.rules.specs.Lists.{every, within, head, onOption}
 use Rattle.rules.specs.Pages.{size, fileOf, pageOf, keyOf, cached, inFetch, cachedPages}
 use Rattle.rules.specs.Readers.{noReader, readerAt, markAt, byCondition, nextKey, inCondition, onward, paced}
-use Rattle.rules.specs.Orders.{fetchOrder, victim}
+use Rattle.rules.specs.Orders.{attachesAt, fetchOrder, victim}
 use Rattle.rules.specs.declared.State.{State}
 use Rattle.rules.specs.declared.Reader.{Reader}
 use Rattle.rules.specs.declared.Reply.{Reply}
@@ -26,8 +27,8 @@ abbrev pub refused : State → ℕ → Reply
 refused s number = reply s (Refused number)
 
 -- a state with some parts changed: every call that changes a state, but Setup and Restore, makes the new one by the names below, and they by this record
-abbrev remade : State → ℕ → List Reader → List ℕ → List ℕ → List ℕ → State
-remade s turn readers marks cached fetching =
+abbrev remade : State → ℕ → List Reader → List ℕ → List ℕ → List ℕ → List ℕ → State
+remade s turn readers marks attaches cached fetching =
     record {
       frames = s .frames;
       turn = turn;
@@ -36,24 +37,30 @@ remade s turn readers marks cached fetching =
       sizes = s .sizes;
       readers = readers;
       marks = marks;
+      rule = s .rule;
+      expected = s .expected;
+      attaches = attaches;
       cached = cached;
       fetching = fetching;
     }
 
 abbrev pub withTurn : State → ℕ → State
-withTurn s turn = remade s turn (s .readers) (s .marks) (s .cached) (s .fetching)
+withTurn s turn = remade s turn (s .readers) (s .marks) (s .attaches) (s .cached) (s .fetching)
 
 abbrev pub withReaders : State → List Reader → State
-withReaders s readers = remade s (s .turn) readers (s .marks) (s .cached) (s .fetching)
+withReaders s readers = remade s (s .turn) readers (s .marks) (s .attaches) (s .cached) (s .fetching)
 
 abbrev pub withMarks : State → List ℕ → State
-withMarks s marks = remade s (s .turn) (s .readers) marks (s .cached) (s .fetching)
+withMarks s marks = remade s (s .turn) (s .readers) marks (s .attaches) (s .cached) (s .fetching)
+
+abbrev pub withAttaches : State → List ℕ → State
+withAttaches s attaches = remade s (s .turn) (s .readers) (s .marks) attaches (s .cached) (s .fetching)
 
 abbrev pub withCached : State → List ℕ → State
-withCached s words = remade s (s .turn) (s .readers) (s .marks) words (s .fetching)
+withCached s words = remade s (s .turn) (s .readers) (s .marks) (s .attaches) words (s .fetching)
 
 abbrev pub withFetching : State → List ℕ → State
-withFetching s words = remade s (s .turn) (s .readers) (s .marks) (s .cached) words
+withFetching s words = remade s (s .turn) (s .readers) (s .marks) (s .attaches) (s .cached) words
 
 -- one record changed
 abbrev pub withReader : State → ℕ → Reader → State
@@ -85,14 +92,20 @@ noRange s file start last = noPage s file last || ltb last start
 
 -- ---- Setup
 
--- frames, L, T and the sizes in range
-unfoldable pub settingsIn : ℕ → ℕ → ℕ → List ℕ → Bool
-settingsIn frames look time sizes =
-    within 1 1024 frames && (within 1 2000000 look && (within 0 2000000 time && every (within 0 1024) sizes))
+-- A.6: the rule is one of "the two", "the number E of expected readers a file, 0 to 1,000"
+abbrev pub ruleIn : ℕ → List ℕ → Bool
+ruleIn rule expected = within 0 1 rule && every (within 0 1000) expected
 
--- "a state without readers, pages or fetches"; "The turn is a slot number, 0 at first"
-abbrev pub fresh : ℕ → ℕ → ℕ → List ℕ → State
-fresh frames look time sizes =
+-- frames, L, T and the sizes in range; A.6: and the rule with E
+unfoldable pub settingsIn : ℕ → ℕ → ℕ → List ℕ → ℕ → List ℕ → Bool
+settingsIn frames look time sizes rule expected =
+    within 1 1024 frames
+    && (within 1 2000000 look
+    && (within 0 2000000 time && (every (within 0 1024) sizes && ruleIn rule expected)))
+
+-- "a state without readers, pages or fetches"; "The turn is a slot number, 0 at first"; A.6: nothing is attached yet, so R is 0
+abbrev pub fresh : ℕ → ℕ → ℕ → List ℕ → ℕ → List ℕ → State
+fresh frames look time sizes rule expected =
     record {
       frames = frames;
       turn = 0;
@@ -101,23 +114,31 @@ fresh frames look time sizes =
       sizes = sizes;
       readers = replicate 16 noReader;
       marks = replicate 16 0;
+      rule = rule;
+      expected = expected;
+      attaches = replicate 8 0;
       cached = replicate 128 0;
       fetching = replicate 128 0;
     }
 
--- "the idle state .. (frames 1, L 1, T 0, sizes 0)"
+-- "the idle state .. (frames 1, L 1, T 0, sizes 0)"; A.6: the 1989 rule, E and R 0
 abbrev pub idle : State
-idle = fresh 1 1 0 (replicate 8 0)
+idle = fresh 1 1 0 (replicate 8 0) 0 (replicate 8 0)
 
--- of the eight sizes. 1: any value out of range; the idle state comes back
-unfoldable pub setupOf : ℕ → ℕ → ℕ → List ℕ → Reply
-setupOf frames look time sizes = cond (settingsIn frames look time sizes) (reply (fresh frames look time sizes) Done) (refused idle 1)
+-- of the eight sizes and the eight E. 1: any value out of range, A.6: "or a rule other than the two"; the idle state comes back
+unfoldable pub setupOf : ℕ → ℕ → ℕ → List ℕ → ℕ → List ℕ → Reply
+setupOf frames look time sizes rule expected =
+    cond (settingsIn frames look time sizes rule expected) (reply (fresh frames look time sizes rule expected) Done) (refused idle 1)
 
 -- ---- Attach
 
 -- running; A.1: "Attach takes a start position and a last page"
 abbrev pub docked : ℕ → ℕ → ℕ → ℕ → Reader
 docked file pace start last = record { condition = Running; file = file; pace = pace; position = start; last = last }
+
+-- A.6: "R counts attaches to the file and stops at 65,535": those that are carried out, under either rule
+abbrev pub countedAttach : State → ℕ → State
+countedAttach s file = withAttaches s (set (s .attaches) file (min 65535 (attachesAt s file + 1)))
 
 -- 2; 3; 4: pace out of range; 15, "after 4 and before 5"; 5: slot not empty. A.2: the mark is "the position .. at Attach"
 unfoldable pub attachOf : State → ℕ → ℕ → ℕ → ℕ → ℕ → Reply
@@ -126,7 +147,8 @@ attachOf s slot file pace start last =
     (cond (noFile s file) (refused s 3)
     (cond (not (within 1 1000 pace)) (refused s 4)
     (cond (noRange s file start last) (refused s 15)
-    (byCondition (readerAt s slot .condition) (reply (withSlot s slot (docked file pace start last) start) Done) (refused s 5) (refused s 5)))))
+    (byCondition (readerAt s slot .condition) (reply (countedAttach (withSlot s slot (docked file pace start last) start) file) Done)
+    (refused s 5) (refused s 5)))))
 
 -- ---- Read
 

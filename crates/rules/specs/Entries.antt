@@ -91,8 +91,8 @@ pub record Entered : Type 0 where
 abbrev pub entered : List ℕ → Reply → Entered
 entered image r = record { number = code (r .answer); image = cond (carriedOut (r .answer)) (imageOf (r .state)) image }
 
--- "each as Restore, call, Save. The buffer must be exactly" as long as Save writes it, "else 13, tested first". A.2: "Saving and the C buffer use the new
--- length", so the older one, which Restore reads, gets 13 here
+-- "each as Restore, call, Save. The buffer must be exactly" as long as Save writes it, "else 13, tested first". A.6: "Saving and the C buffer use this
+-- length", so the older ones, which Restore reads, get 13 here
 unfoldable pub enter : Call → List ℕ → Entered
 enter call image =
     cond (carriedOut (restoreWhole image .answer)) (entered image (callOf call (restoreWhole image .state)))

@@ -1,8 +1,10 @@
--- Save and Restore: 01, "Calls", with the last pages of A.1 and the marks of A.2. Assumes nothing: these are definitions.
+-- Save and Restore: 01, "Calls", with the last pages of A.1, the marks of A.2 and what the rule of A.6 goes by. Assumes nothing: these are definitions.
 use Prim.Native.Nat.{ℕ, zero, suc, _+_, _*_, _/_, _%_}
+use mathlib.Core.Path.{_≡_}
+use mathlib.Core.Logic.{_⊎_}
 use mathlib.Core.Bool.{Bool, not, cond, _&&_, _||_}
 use mathlib.Core.List.{List, [], _∷_, _++_, map}
-use lib.ListN.{getD, length, take, drop}
+use lib.ListN.{getD, length, take, drop, replicate}
 use lib.Dec.{leb, ltb, eqb}
 use Rattle.rules.specs.Lists.{range, each, every, within}
 use Rattle.rules.specs.Pages.{size, fileOf, pageOf, cached, inFetch, cachedPages}
@@ -35,9 +37,10 @@ abbrev pub readerFields : Reader → List Field
 readerFields r =
     field 1 (conditionNumber (r .condition)) ∷ field 1 (r .file) ∷ field 2 (r .pace) ∷ field 2 (r .position) ∷ field 2 (r .last) ∷ []
 
--- the fields behind those of 01. A.2: "The image grows to 2,240 bytes by sixteen 2-byte marks at its end"
+-- the fields behind those of 01. A.2: "The image grows to 2,240 bytes by sixteen 2-byte marks at its end"; A.6: "The image of 2,274 bytes adds a rule byte
+-- (0 for 1989, 1 for 1993), a 0 byte, then eight 2-byte E and eight R"
 abbrev pub tail : State → List Field
-tail s = map (field 2) (s .marks)
+tail s = map (field 2) (s .marks) ++ (field 1 (s .rule) ∷ field 1 0 ∷ (map (field 2) (s .expected) ++ map (field 2) (s .attaches)))
 
 -- the one table: "frames (2), turn (1), 0 (1), L (4), T (4), sizes (8 of 2), sixteen readers .., 4 bytes of 0, cached map 1,024, fetch map 1,024",
 -- and the tail. A map's word is 8 bytes, lowest first, so that "page 1 [is] in the lowest bit of the first".
@@ -55,9 +58,9 @@ bytesOf (suc width) n = n % 256 ∷ bytesOf width (n / 256)
 abbrev pub encoded : List Field → List ℕ
 encoded = each (λ f. bytesOf (f .width) (f .value))
 
--- the bytes that Save writes
+-- how many bytes Save writes
 abbrev pub imageLength : ℕ
-imageLength = 2240
+imageLength = 2274
 
 -- ---- Save
 
@@ -70,7 +73,7 @@ pub record Saved : Type 0 where
   pub answer : Answer
   pub buffer : List ℕ
 
--- "12: buffer shorter; bytes after" the image "keep"; A.2: "Saving .. use[s] the new length"
+-- "12: buffer shorter; bytes after" the image "keep"; A.6: "Saving and the C buffer use this length"
 unfoldable pub saveOf : State → List ℕ → Saved
 saveOf s buffer =
     cond (ltb (length buffer) imageLength) (record { answer = Refused 12; buffer = buffer })
@@ -97,7 +100,7 @@ conditionOf zero = Empty
 conditionOf (suc zero) = Running
 conditionOf (suc (suc n)) = Waiting
 
--- number i of the reader in a slot: its five follow the first five numbers and the eight sizes
+-- number i of the reader in a slot: five numbers a slot, behind the first five numbers and the eight sizes
 abbrev pub readerNumber : List ℕ → ℕ → ℕ → ℕ
 readerNumber numbers slot i = getD numbers (13 + 5 * slot + i) 0
 
@@ -111,7 +114,9 @@ readerFrom numbers slot =
       last = readerNumber numbers slot 4;
     }
 
--- the state that the table's numbers are of
+-- the state that the table's numbers are of, each at its place in `layout`: five numbers, of which the third is a 0, eight sizes from 5 on, sixteen readers
+-- of five from 13 on, a 0, the two maps of 128 words from 94 and from 222 on; and in the tail sixteen marks from 350 on, the rule, a 0, eight E from 368 and
+-- eight R from 376 on
 unfoldable pub stateFrom : List ℕ → State
 stateFrom numbers =
     record {
@@ -122,12 +127,15 @@ stateFrom numbers =
       sizes = take 8 (drop 5 numbers);
       readers = map (readerFrom numbers) (range 0 16);
       marks = take 16 (drop 350 numbers);
+      rule = getD numbers 366 0;
+      expected = take 8 (drop 368 numbers);
+      attaches = take 8 (drop 376 numbers);
       cached = take 128 (drop 94 numbers);
       fetching = take 128 (drop 222 numbers);
     }
 
--- "a file of size 0", file and pace in range; A.1: "A last page above the size or below the position .. gets 13"; A.2: in the new length, "or a longer one, a
--- taken slot's last page of 0 gets 13"
+-- "a file of size 0", file and pace in range; A.1: "A last page above the size or below the position .. gets 13", and so does "a position above the size";
+-- A.2: in the new length, "or a longer one, a taken slot's last page of 0 gets 13"
 unfoldable pub readerPlaced : State → Reader → Bool
 readerPlaced s r = not (noFile s (r .file)) && (within 1 1000 (r .pace) && (within 1 (size s (r .file)) (r .last) && leb (r .position) (r .last)))
 
@@ -149,15 +157,21 @@ slotHolds numbers slot = within 0 2 (readerNumber numbers slot 0) && readerHolds
 unfoldable pub keyHolds : State → ℕ → Bool
 keyHolds s k = not (cached s k && inFetch s k) && (not (cached s k || inFetch s k) || leb (pageOf k) (size s (fileOf k)))
 
--- the table's numbers are those of a state: all grounds for 13 but the length, which is tested before them
+-- "a 0 byte that is not 0"; A.6: "a filler byte not 0"
+abbrev pub gapsHold : List ℕ → Bool
+gapsHold numbers = eqb (getD numbers 2 0) 0 && (eqb (getD numbers 93 0) 0 && eqb (getD numbers 367 0) 0)
+
+-- the table's numbers are those of a state: all grounds for 13 but the length, which is tested before them. A.6: "A rule byte above 1, .. or an E above
+-- 1,000" are among the settings; any R of two bytes is one, and stays as it is: Restore is no attach
 unfoldable pub accepts : List ℕ → Bool
 accepts numbers =
     settingsIn (stateFrom numbers .frames) (stateFrom numbers .«look_ahead») (stateFrom numbers .«fetch_time») (stateFrom numbers .sizes)
+    (stateFrom numbers .rule) (stateFrom numbers .expected)
     && (within 0 15 (stateFrom numbers .turn)
     && (every (slotHolds numbers) (range 0 16)
     && (every (keyHolds (stateFrom numbers)) (range 0 8192)
     && (leb (length (cachedPages (stateFrom numbers))) (stateFrom numbers .frames)
-    && ((eqb (getD numbers 2 0) 0 && eqb (getD numbers 93 0) 0) && every (markHolds (stateFrom numbers)) (range 0 16))))))
+    && (gapsHold numbers && every (markHolds (stateFrom numbers)) (range 0 16))))))
 
 -- Restore of an image as long as Save writes it. "13: another length, ..": that of an older image too. "The idle state comes back"
 unfoldable pub restoreWhole : List ℕ → Reply
@@ -187,11 +201,27 @@ firstMark image slot = bytesOf 2 (readerNumber (imageNumbers image) slot 3)
 
 -- A.2: "2,208 bytes are still read, marks equal to positions": such an image with the last pages filled in and the marks behind it. An image of any
 -- other length stays as it is.
-unfoldable pub upgraded : List ℕ → List ℕ
-upgraded image =
+unfoldable pub marked : List ℕ → List ℕ
+marked image =
     cond (eqb (length image) unmarkedLength)
     (take 28 image ++ (each (filledSlot image) (range 0 16) ++ (drop 156 image ++ each (firstMark image) (range 0 16))))
     image
+
+-- the length of an image with marks and without a rule
+abbrev pub unruledLength : ℕ
+unruledLength = 2240
+
+-- A.6: "shorter ones are read as 1989 with E and R 0": rule, filler, E and R are 34 bytes of 0 at the image's end. An image of any other length stays as it is.
+unfoldable pub ruled : List ℕ → List ℕ
+ruled image = cond (eqb (length image) unruledLength) (image ++ replicate 34 0) image
+
+-- an image of one of the two older lengths
+abbrev pub Older : List ℕ → Type 0
+Older image = (length image ≡ unmarkedLength) ⊎ (length image ≡ unruledLength)
+
+-- what an older image is read as
+unfoldable pub upgraded : List ℕ → List ℕ
+upgraded image = ruled (marked image)
 
 -- Restore: an older image is read as the one that it is upgraded to
 unfoldable pub restoreOf : List ℕ → Reply

@@ -3,7 +3,7 @@ use Prim.Native.Nat.{ℕ, zero, suc, _+_, _*_, _-_, _/_, _%_}
 use Prim.Native.Char.{code as ascii}
 use mathlib.Core.Bool.{Bool, true, false, not, cond, _&&_}
 use mathlib.Core.List.{List, [], _∷_, _++_, map}
-use lib.ListN.{getD, length, drop}
+use lib.ListN.{getD, length, drop, replicate}
 use lib.Dec.{leb, ltb, eqb}
 use Rattle.rules.specs.Lists.{each, every, within}
 use Rattle.rules.specs.Pages.{fileOf, pageOf, clusters}
@@ -121,10 +121,10 @@ abbrev pub asks : ℕ → List ℕ → ℕ → ℕ → Bool
 asks first numbers wanted count = eqb first wanted && eqb (length numbers) count
 
 -- "S setup, A attach, D detach, R read, I arrive, X lost, P prefetch, T steal, N run, L steal list, Q fetch list, C clusters"; "14: any other line";
--- A.1: the A line takes the start and the last page at its end
+-- A.1: the A line takes the start and the last page at its end; A.6: "The S line keeps its form: 1989, E 0"
 unfoldable pub obeyed : State → ℕ → List ℕ → Response
 obeyed s c x =
-    cond (asks c x (ascii "S") 11) (toldSetup s (setupOf (getD x 0 0) (getD x 1 0) (getD x 2 0) (drop 3 x)))
+    cond (asks c x (ascii "S") 11) (toldSetup s (setupOf (getD x 0 0) (getD x 1 0) (getD x 2 0) (drop 3 x) 0 (replicate 8 0)))
     (cond (asks c x (ascii "A") 5) (told (attachOf s (getD x 0 0) (getD x 1 0) (getD x 2 0) (getD x 3 0) (getD x 4 0)))
     (cond (asks c x (ascii "D") 1) (told (detachOf s (getD x 0 0)))
     (cond (asks c x (ascii "R") 1) (told (readOf s (getD x 0 0)))

@@ -30,8 +30,8 @@ slotAt turn distance = (distance + turn) % 16
 abbrev pub atUse : ℕ → ℕ → When
 atUse turn key = At (key / 16) (slotAt turn (key % 16))
 
--- "behind (ahead of no reader of its file)"; not seen is ahead of some, and in no look-ahead. "a page that isn't cached is judged by the same rules": none asks
--- whether it is
+-- "behind (ahead of no reader of its file)"; not seen is ahead of some, and in no look-ahead. "a page that isn't cached is judged by the same rules":
+-- the cached map is not asked about the page itself
 unfoldable pub whenOf : State → ℕ → When
 whenOf s k = cond (seen s k) (atUse (s .turn) (useKey s k)) (cond (ahead s k) NotSeen Behind)
 

@@ -1,9 +1,10 @@
--- The two orders by numbers, what a search for their heads keeps, and look-aheads by keys: the words in which the code's contracts speak of the orders.
--- proofs/orders/Ranks.antt, Candidates.antt and Stretches.antt show that these are the orders and the look-aheads. Assumes nothing: these are definitions.
+-- The steal order of each rule and the fetch order by numbers, the few pages that a search for their heads looks at, and look-aheads by keys: the words in
+-- which the code's contracts speak of the orders. proofs/orders/Ranks.antt, Candidates.antt, Victims.antt and Stretches.antt show that these are the orders
+-- and the look-aheads. Assumes nothing: these are definitions.
 use Prim.Native.Nat.{ℕ, _+_, _*_, _≤_, _<_}
 use mathlib.Core.Path.{_≡_}
 use mathlib.Core.Bool.{Bool, cond, _&&_, _||_}
-use mathlib.Core.List.{List}
+use mathlib.Core.List.{List, [], _∷_}
 use mathlib.Core.Option.{Option}
 use lib.Dec.{T}
 use Rattle.bits.specs.Map.{on, lastBit}
@@ -11,7 +12,7 @@ use Rattle.rules.specs.Lists.{only, head}
 use Rattle.rules.specs.Pages.{fileOf, pageOf, keyOf, cached}
 use Rattle.rules.specs.Readers.{readerAt, attached, nextKey}
 use Rattle.rules.specs.UseTimes.{before, present, sees, never, useFor, useKey, ahead, seen}
-use Rattle.rules.specs.Orders.{place, stealOrder, absent}
+use Rattle.rules.specs.Orders.{place, order1989, standingIn, absent}
 use Rattle.rules.specs.declared.State.{State}
 use Rattle.rules.specs.declared.Reader.{Reader}
 
@@ -33,7 +34,7 @@ pub record Stretch (s : State) (r : Reader) (n : ℕ) : Type 0 where
   pub inside : (i : ℕ) → i < n → T (sees s r (nextKey r + i))
   pub outside : T (sees s r (nextKey r + n)) → ⊥
 
--- ---- the steal order
+-- ---- the steal order of the 1989 rule
 
 -- the rank of a page: the higher, the sooner it goes
 unfoldable pub rank : State → ℕ → ℕ
@@ -43,9 +44,10 @@ rank s k = cond (ahead s k) (cond (seen s k) (useKey s k) (never + place k)) (2 
 abbrev pub cachedAmong : (ℕ → Bool) → State → ℕ → Bool
 cachedAmong files s k = cached s k && files (fileOf k)
 
--- the page to give up among the files of a set: the first of their pages in the steal order. The box's own is that of all files
+-- the page to give up among the files of a set: the first of their pages as the 1989 rule has them. The box's own is that of all files under that rule, and
+-- that of the file chosen under the other
 unfoldable pub victimAmong : (ℕ → Bool) → State → Option ℕ
-victimAmong files s = head (only (λ k. files (fileOf k)) (stealOrder s))
+victimAmong files s = head (only (λ k. files (fileOf k)) (order1989 s))
 
 -- a key's number, then the key
 abbrev pub pack : (ℕ → ℕ) → ℕ → ℕ
@@ -58,6 +60,14 @@ lastCached s f n = lastBit (s .cached) (f * 1024) n
 -- the last cached one of file f's first n pages, if any, has a rank of at most b
 abbrev pub AtMost : State → ℕ → ℕ → ℕ → Type 0
 AtMost s b f n = 0 < lastCached s f n → rank s (keyOf f (lastCached s f n)) ≤ b
+
+-- ---- the steal order of the 1993 rule (A.6)
+
+-- some pages, each packed with the number of its file where it and the pages behind it are left. Of the pages as the 1989 rule has them, the keys of these
+-- numbers, larger number first, are the order of the 1993 rule
+unfoldable pub weighed : ℕ → (ℕ → ℕ) → List ℕ → List ℕ
+weighed frames weight [] = []
+weighed frames weight (k ∷ left) = (standingIn frames weight (k ∷ left) (fileOf k) * 8192 + k) ∷ weighed frames weight left
 
 -- ---- the fetch order
 

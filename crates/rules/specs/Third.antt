@@ -20,12 +20,13 @@ abbrev pub Covers : State → ℕ → Reader → Type 0
 Covers s w r = w * r .last ≤ s .«look_ahead»
 
 -- the mission's premises: one pace w, fetch time 0, a look-ahead that covers up to each attached reader's last page (A.1), no open fetch; A.5: "Runs begin with
--- no page in fetch, so the best-schedule result reads as before"
+-- no page in fetch, so the best-schedule result reads as before"; A.6: "A user who selects 1993 has no best-schedule result"
 pub record Premises (s : State) (w : ℕ) : Type 0 where
   pub one-pace : (j : ℕ) → T (attached (readerAt s j)) → readerAt s j .pace ≡ w
   pub no-time : s .«fetch_time» ≡ 0
   pub covers : (j : ℕ) → T (attached (readerAt s j)) → Covers s w (readerAt s j)
   pub none-open : fetchOpen s ≡ false
+  pub by-1989 : s .rule ≡ 0
 
 -- ---- the reads laid down, "worked out from readers, sizes and turn, and from nothing that is cached"; the sizes are in the readers' last pages (A.1)
 

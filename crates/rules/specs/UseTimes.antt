@@ -28,7 +28,7 @@ unfoldable pub missing : State → ℕ → ℕ → ℕ → ℕ
 missing s f c zero = 0
 missing s f c (suc n) = cond (present s (keyOf f (c + suc n))) 0 1 + missing s f c n
 
--- q, "the number of those pages not cached", those being c + 1 to c + j − 1, and cached what is present
+-- q, "the number of those pages not cached": of the pages c + 1 to c + j − 1 those that are not present (A.5)
 abbrev pub between : State → Reader → ℕ → ℕ
 between s r k = missing s (r .file) (r .position) (steps r k - 1)
 
@@ -40,7 +40,7 @@ pruned s q = ltb 0 (s .«fetch_time») && leb (s .«look_ahead» / s .«fetch_ti
 unfoldable pub sees : State → Reader → ℕ → Bool
 sees s r k = before r k && (leb (steps r k) (s .«look_ahead» / r .pace) && not (pruned s (between s r k)))
 
--- the pages of the reader's look-ahead; an empty slot's has none
+-- the pages of the reader's look-ahead: none for an empty slot
 unfoldable pub lookAhead : State → Reader → List ℕ
 lookAhead s r = only (sees s r) (pages s)
 

@@ -7,6 +7,7 @@ use lib.ListN.{getD, length}
 use lib.Dec.{T}
 use Rattle.rules.specs.Pages.{size, cached, inFetch, Page, cachedPages}
 use Rattle.rules.specs.Readers.{noReader, readerAt, markAt, awaits}
+use Rattle.rules.specs.Orders.{expectedAt, attachesAt}
 use Rattle.rules.specs.declared.State.{State}
 use Rattle.rules.specs.declared.Reader.{Reader}
 use Rattle.rules.specs.declared.Condition.{Condition}
@@ -47,6 +48,12 @@ pub record Valid (s : State) : Type 0 where
   pub marks-all : length (s .marks) ≡ 16
   pub marks-in : (j : ℕ) → markAt s j ≤ readerAt s j .position
   pub turn-high : s .turn < 16
+  -- A.6: one of the two rules; E is "0 to 1,000", R "stops at 65,535"
+  pub rule-known : s .rule ≤ 1
+  pub expected-all : length (s .expected) ≡ 8
+  pub expected-high : (f : ℕ) → expectedAt s f ≤ 1000
+  pub attaches-all : length (s .attaches) ≡ 8
+  pub attaches-high : (f : ℕ) → attachesAt s f ≤ 65535
   pub cached-map : PageMap (s .cached)
   pub fetching-map : PageMap (s .fetching)
   pub cached-in : (k : ℕ) → T (cached s k) → Page s k

@@ -17,6 +17,9 @@ stateOf v cached fetching = record {
   sizes = v .sizes;
   readers = v .readers;
   marks = v .marks;
+  rule = v .rule;
+  expected = v .expected;
+  attaches = v .attaches;
   cached = cached;
   fetching = fetching;
 }
@@ -25,8 +28,11 @@ stateOf v cached fetching = record {
 abbrev pub viewOf : State → View
 viewOf s = record {
   marks = s .marks;
+  expected = s .expected;
+  attaches = s .attaches;
   frames = s .frames;
   turn = s .turn;
+  rule = s .rule;
   «look_ahead» = s .«look_ahead»;
   «fetch_time» = s .«fetch_time»;
   sizes = s .sizes;

@@ -16,8 +16,9 @@ pub struct Reader {
     pub last: u16,
 }
 
-// The box. A reader's mark, at its slot, is the position from which its pace is measured next. A map has one bit a page, at the page's key. A type of the
-// rules: no function passes it.
+// The box. A reader's mark, at its slot, is the position from which its pace is measured next. The steal rule is 0 for 1989 and 1 for 1993; of each file there
+// is the number of readers expected, and that of attaches, up to 65,535. A map has one bit a page, at the page's key. A type of the rules: no function passes
+// it.
 pub struct State {
     pub frames: u16,
     pub turn: u8,
@@ -26,16 +27,22 @@ pub struct State {
     pub sizes: [u16; 8],
     pub readers: [Reader; 16],
     pub marks: [u16; 16],
+    pub rule: u8,
+    pub expected: [u16; 8],
+    pub attaches: [u16; 8],
     pub cached: [u64; 128],
     pub fetching: [u64; 128],
 }
 
-// A state but its two maps. The marks, which few calls touch, come first: behind the readers they would be copied with these, in one piece of over 128
-// bytes, for which the compiler calls a function.
+// A state but its two maps. The marks and the numbers of readers expected and of attaches, which few calls change, come first: behind the readers they would be
+// copied with these, in one piece of over 128 bytes, for which the compiler calls a function.
 pub struct View {
     pub marks: [u16; 16],
+    pub expected: [u16; 8],
+    pub attaches: [u16; 8],
     pub frames: u16,
     pub turn: u8,
+    pub rule: u8,
     pub look_ahead: u32,
     pub fetch_time: u32,
     pub sizes: [u16; 8],

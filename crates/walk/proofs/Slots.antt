@@ -130,15 +130,6 @@ module _ (s : State) where
   unfolding tested wordsRead
   counts-all n words e f = (e, f)
 
--- a sum: of none, and of one more
-pub total-none : (g : ℕ → ℕ) → 0 ≡ total 0 g
-unfolding total
-total-none g = refl
-
-pub total-more : (g : ℕ → ℕ) (j n m : ℕ) → n ≡ total j g → m ≡ g j → n + m ≡ total (j + 1) g
-unfolding total
-total-more g j n m e f = rw (add-one j) (omega (arith, e, f))
-
 -- an attached reader of a valid state can be walked along
 pub valid-in-file : (s : State) → Valid s → (j : ℕ) → T (attached (readerAt s j)) → InFile (readerAt s j)
 valid-in-file s w j a =

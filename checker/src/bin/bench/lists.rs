@@ -22,7 +22,7 @@ pub fn table() {
     println!("nothing is saved. With L 2000000 a look-ahead reaches its file's end.\n");
     print_head();
     for case in cases() {
-        print_row(&case.name, measure(&case));
+        print_row(&case.name, measure(&case.name, case.order, &case.image));
     }
 }
 
@@ -52,7 +52,7 @@ fn cases() -> Vec<Case> {
 }
 
 /// The readers of a quay, and every frame taken by pages spread over all files.
-fn spread(quay: Quay) -> State {
+pub fn spread(quay: Quay) -> State {
     let mut state = seated(quay);
     let apart = quay.files * quay.pages / quay.frames;
     let nth_page = |nth| Page::of_key(apart * nth + apart / 2);
@@ -83,19 +83,18 @@ fn open_case(state: State) -> Case {
 }
 
 /// Nanoseconds a list, by quick and by the box.
-fn measure(case: &Case) -> (f64, f64) {
+pub fn measure(name: &str, order: Order, image: &[u8]) -> (f64, f64) {
     let listers = [quick::list as Lister, ffi::list];
     let [by_quick, by_box] = listers.map(|lister| {
         let mut list = [0; ROOM];
-        (lister(case.order, &case.image, &mut list), list)
+        (lister(order, image, &mut list), list)
     });
     assert!(
         by_quick == by_box && by_quick.0 >> 32 == 1,
-        "quick and the box differ: {}",
-        case.name
+        "quick and the box differ: {name}"
     );
     in_turns(listers.map(|lister| {
         let mut list = [0; ROOM];
-        move || lister(case.order, black_box(&case.image), black_box(&mut list))
+        move || lister(order, black_box(image), black_box(&mut list))
     }))
 }

@@ -15,6 +15,7 @@
 mod lines;
 mod lists;
 mod questions;
+mod rules;
 
 use checker::call::{Call, Entry};
 use checker::limits::{FILES, FILE_PAGES, MOST_TURNS};
@@ -49,6 +50,8 @@ fn main() {
     println!("Quick's cost is its walk: with less to walk it comes nearer. For these calls the box walks no look-ahead, and costs what it did.\n");
     table(&short_calls());
     arrive_tables();
+    println!("\n## The two rules\n");
+    rules::table();
     println!("\n## Lists\n");
     lists::table();
     println!("\n## Questions\n");
@@ -185,14 +188,23 @@ fn runs(look_ahead: u64, fetch_time: u64) -> [Case; 2] {
             fetch_time,
             ..FULL
         };
-        Case {
-            name: format!(
-                "Run of {MOST_TURNS} turns, {frames} frames, L {look_ahead}, T {fetch_time}"
-            ),
-            image: seated(quay).image(),
-            call: Call::Run { turns: MOST_TURNS },
-        }
+        run_of(quay, |state| state)
     })
+}
+
+/// A run from a changed state of a quay.
+fn run_of(quay: Quay, change: impl FnOnce(State) -> State) -> Case {
+    let Quay {
+        frames,
+        look_ahead,
+        fetch_time,
+        ..
+    } = quay;
+    Case {
+        name: format!("Run of {MOST_TURNS} turns, {frames} frames, L {look_ahead}, T {fetch_time}"),
+        image: change(seated(quay)).image(),
+        call: Call::Run { turns: MOST_TURNS },
+    }
 }
 
 /// What a state is made of.

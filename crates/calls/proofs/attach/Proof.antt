@@ -11,6 +11,10 @@ use Rattle.calls.proofs.Outcomes.{answers}
 use Rattle.calls.proofs.attach.Statement.{statement}
 use Rattle.calls.proofs.attach.Tie as tie
 
+-- the slot's new record is known. A name and no `let`, which would add to the records that the search at the end looks at
+abbrev after-docked : tie.After-outcome → tie.After-docked
+after-docked c = c .before .before .before
+
 -- start and last page fit
 short : (c : tie.After-enum-told) →
     let at-start = c .before .before .before .before .before .before .before .before .before .before .before in
@@ -23,6 +27,15 @@ short c =
     let size = getD (a .t1 .sizes) (a .file) 0 in
     let last = after-no-range .no-range .ensures .1 (else-4 .if4 .left) in
     (omega (arith, range-in (after-no-range .no-range .result) size (a .start) (a .last) (after-no-range .no-range .ensures .0) (else-4 .if4 .left)), last)
+
+-- the file is one of the eight
+file-in : (c : tie.Else2) →
+    let at-start = c .before .before .before .before in
+    at-start .args .file < 8
+file-in c =
+    let after-no-file = c .before in
+    let at-start = after-no-file .before .before .before in
+    file-high (after-no-file .no-file .result) (at-start .args .t1 .sizes) (at-start .args .file) (after-no-file .no-file .ensures) (c .if2 .left)
 
 refuse-requires : tie.Need-refuse-requires
 refuse-requires c κs = search needs
@@ -51,12 +64,7 @@ returns-3 c = call-stays (attaching _ _ _ _) _ _ _ (λ a b. rw (c .refuse3 .ensu
 mul-size : tie.Need-mul-size
 mul-size c =
     let else-2 = c .before .before in
-    let after-no-file = else-2 .before in
-    let at-start = after-no-file .before .before .before in
-    omega (
-      arith,
-      file-high (after-no-file .no-file .result) (at-start .args .t1 .sizes) (at-start .args .file) (after-no-file .no-file .ensures) (else-2 .if2 .left),
-    )
+    omega (arith, file-in else-2)
 
 array-read-size : tie.Need-array-read-size
 array-read-size c = search (file-high, needs)
@@ -109,6 +117,25 @@ mul-v c = search needs
 element-write-v : tie.Need-element-write-v
 element-write-v c = search needs
 
+mul-one-more : tie.Need-mul-one-more
+mul-one-more c =
+    let else-2 = c .before .before .before .before .before .before .before .before in
+    omega (arith, file-in else-2)
+
+element-copy-out-one-more : tie.Need-element-copy-out-one-more
+element-copy-out-one-more c = search (file-high, needs)
+
+one-more-requires : tie.Need-one-more-requires
+one-more-requires c κs = search needs
+
+mul-v-2 : tie.Need-mul-v-2
+mul-v-2 c =
+    let else-2 = c .before .before .before .before .before .before .before .before .before .before in
+    omega (arith, file-in else-2)
+
+element-write-v-2 : tie.Need-element-write-v-2
+element-write-v-2 c = search (file-high, needs)
+
 outcome-requires : tie.Need-outcome-requires
 outcome-requires c κs = search needs
 
@@ -116,7 +143,9 @@ refuse-requires-5 : tie.Need-refuse-requires-5
 refuse-requires-5 c κs = search needs
 
 returns-5 : tie.Need-returns-5
-returns-5 c = call-stays (attaching _ _ _ _) _ _ _ (λ a b. rw (c .outcome .ensures, c .before .docked .ensures) (search (attach-there, answers) depth 12))
+returns-5 c =
+    call-stays (attaching _ _ _ _) _ _ _ (λ a b. rw (c .outcome .ensures, c .before .one-more .ensures, after-docked c .docked .ensures)
+    (search (attach-there, answers) depth 12))
 
 returns-6 : tie.Need-returns-6
 returns-6 c = call-stays (attaching _ _ _ _) _ _ _ (λ a b. rw (c .refuse5 .ensures) (search (attach-there, answers) depth 12))
@@ -151,6 +180,11 @@ attach-spec =
     cast-v
     mul-v
     element-write-v
+    mul-one-more
+    element-copy-out-one-more
+    one-more-requires
+    mul-v-2
+    element-write-v-2
     outcome-requires
     refuse-requires-5
     returns-5

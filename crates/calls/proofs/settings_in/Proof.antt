@@ -2,6 +2,7 @@
 use borrow.Author.Needs.{needs}
 use Rattle.rules.specs.Calls.{settingsIn}
 use Rattle.parts.proofs.Tests.{tests}
+use Rattle.calls.proofs.Ranges.{settings-last}
 use Rattle.calls.proofs.settings_in.Statement.{statement}
 use Rattle.calls.proofs.settings_in.Tie as tie
 
@@ -26,12 +27,12 @@ returns-3 : tie.Need-returns-3
 unfolding settingsIn
 returns-3 c = search tests depth 12
 
-sizes-within-requires : tie.Need-sizes-within-requires
-sizes-within-requires c κs = search needs
+all-within-requires : tie.Need-all-within-requires
+all-within-requires c κs = search needs
 
 returns-4 : tie.Need-returns-4
 unfolding settingsIn
-returns-4 c = search tests depth 12
+returns-4 c = rw settings-last (search tests depth 12)
 
 pub settings-in-spec : {M : Type 1} → statement M
 settings-in-spec =
@@ -43,5 +44,5 @@ settings-in-spec =
     returns-2
     within-requires-3
     returns-3
-    sizes-within-requires
+    all-within-requires
     returns-4)

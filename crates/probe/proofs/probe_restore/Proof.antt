@@ -1,6 +1,5 @@
 -- What Restore gives is valid, so Save takes it; both numbers are below 4,294,967,296.
 use Prim.Native.Nat.{_<_}
-use native.Mathlib.Omega.{arith}
 use borrow.Author.Needs.{needs}
 use Rattle.probe.proofs.Numbers.{restore-low, save-low, probed-valid, probed}
 use Rattle.probe.proofs.probe_restore.Statement.{statement}
@@ -29,21 +28,20 @@ low c =
     let after-restore = after-save .before .before .before .before in
     (restore-low _ _ _ (after-restore .restore .ensures) (after-number .number .ensures), save-low _ _ _ _ _ (after-save .save .ensures) (c .number2 .ensures))
 
-mul-result : tie.Need-mul-result
-mul-result c = omega (arith, low c)
-
-add-result : tie.Need-add-result
-add-result c = omega (arith, low c)
+two-numbers-requires : tie.Need-two-numbers-requires
+two-numbers-requires c κs = low c
 
 same-length : tie.Need-same-length
 same-length c = search needs
 
 returns : tie.Need-returns
 returns c =
-    let after-number = c .before in
+    let after-number-2 = c .before in
+    let after-number = after-number-2 .before in
     let after-save = after-number .before .before .before in
     let after-restore = after-save .before .before .before .before in
-    probed _ _ _ _ _ _ _ (after-restore .restore .ensures) (after-save .save .ensures) (after-number .number .ensures) (c .number2 .ensures)
+    probed _ _ _ _ _ _ _ _ (after-restore .restore .ensures)
+    (after-save .save .ensures) (after-number .number .ensures) (after-number-2 .number2 .ensures) (c .two-numbers .ensures)
 
 pub probe-restore-spec : {M : Type 1} → statement M
 probe-restore-spec =
@@ -53,7 +51,6 @@ probe-restore-spec =
     save-requires
     number-requires
     number-requires-2
-    mul-result
-    add-result
+    two-numbers-requires
     same-length
     returns)

@@ -198,7 +198,7 @@ module _ {M : Type 1} (𝓤 : URA M) (H : Heap 𝓤) (A : Atoms 𝓤) (W : Given
 
   is-s : Is SR (v .sizes) (s-vals held-sizes)
   is-s =
-      let p = is-v .1 .1 .1 .1 .1 .1 .1 .0 in
+      let p = is-v .1 .1 .1 .1 .1 .1 .1 .1 .1 .1 .0 in
       subst (λ (xs : List ℕ). Is SR xs (s-vals held-sizes)) (map-id (v .sizes))
       (subst (Is SR held-sizes) (array-tells u16 (uint-vals w16) (uint-tells w16) 8 held-sizes _ p) p)
 
@@ -343,8 +343,8 @@ module _ {M : Type 1} (𝓤 : URA M) (H : Heap 𝓤) (A : Atoms 𝓤) (W : Given
         (and-then ! (load ! (from ! (stop !)) (look ! 15 refl))
         (and-then ! (load ! (from ! (stop !)) (look ! 13 refl))
         (and-then ! (load ! (from ! (stop !)) (look ! 11 refl))
-        (and-then ! (load ! (from ! (fld ! refl (stop !))) (look-in ! 35 (sub ! 5 refl (whole !))))
-        (and-then ! (load ! (from ! (fld ! refl (stop !))) (look-in ! 35 (sub ! 2 refl (whole !))))
+        (and-then ! (load ! (from ! (fld ! refl (stop !))) (look-in ! 35 (sub ! 8 refl (whole !))))
+        (and-then ! (load ! (from ! (fld ! refl (stop !))) (look-in ! 35 (sub ! 4 refl (whole !))))
         (and-then ! (load ! (from ! (stop !)) (look ! 23 refl)) (no-more !)))))))) (λ w r ws e₂ is₂.
         -- the lifetime is over, and both are back
         move ! (1 ∷ []) $ use1 W (‵ (flft κ₁ q₁) ⊛ ‵ (flft κ₂ q₂) ⊛ ‵ (flft (ε ∷ []) fullShare) ⊛ ‵ ftrue) (id⊢ 𝓤 _) $ split ! $ move ! (1 ∷ []) $ split ! $

@@ -1,5 +1,5 @@
 -- The changes that calls make, one at a time, keep a state valid. Assumes nothing.
-use Prim.Native.Nat.{ℕ, zero, suc, _+_, _≤_, _<_}
+use Prim.Native.Nat.{ℕ, zero, suc, min, _+_, _≤_, _<_}
 use mathlib.Core.Path.{_≡_, refl, sym, ap, _∙_, subst}
 use mathlib.Core.Bool.{Bool, not, _&&_, _||_}
 use mathlib.Core.List.{List, [], _∷_}
@@ -11,7 +11,20 @@ use Rattle.bits.specs.Map.{putBit, on}
 use Rattle.rules.specs.Pages.{size, cached, inFetch, Page, cachedPages}
 use Rattle.rules.specs.Readers.{noReader, readerAt, markAt, nextKey, awaits}
 use Rattle.rules.specs.Valid.{Valid, Placed, ReaderIn, PageMap}
-use Rattle.rules.specs.Calls.{withTurn, withReaders, withMarks, withCached, withFetching, withReader, withSlot, withFetch, without}
+use Rattle.rules.specs.Orders.{attachesAt}
+use Rattle.rules.specs.Calls.{
+  withTurn,
+  withReaders,
+  withMarks,
+  withAttaches,
+  withCached,
+  withFetching,
+  withReader,
+  withSlot,
+  withFetch,
+  countedAttach,
+  without,
+}
 use Rattle.rules.specs.Schedules.{num, count}
 use Rattle.rules.specs.declared.State.{State}
 use Rattle.rules.specs.declared.Reader.{Reader}
@@ -59,16 +72,22 @@ Waits s readers fetching =
     (j : ℕ) → getD readers j noReader .condition ≡ Waiting → T (inFetch s (nextKey (getD readers j noReader)))
     → T (on fetching (nextKey (getD readers j noReader)))
 
--- a state with all five parts changed
-abbrev allChanged : State → ℕ → List Reader → List ℕ → List ℕ → List ℕ → State
-allChanged s turn readers marks held fetching = withFetching (withCached (withMarks (withReaders (withTurn s turn) readers) marks) held) fetching
+-- how often readers were attached to the files
+record Counted (attaches : List ℕ) : Type 0 where
+  all : length attaches ≡ 8
+  high : (f : ℕ) → getD attaches f 0 ≤ 65535
 
-module _ (s : State) (turn : ℕ) (readers : List Reader) (marks held fetching : List ℕ) where
-  page-in : (k : ℕ) → Page s k → Page (allChanged s turn readers marks held fetching) k
+-- a state with all six parts changed
+abbrev allChanged : State → ℕ → List Reader → List ℕ → List ℕ → List ℕ → List ℕ → State
+allChanged s turn readers marks attaches held fetching =
+    withFetching (withCached (withAttaches (withMarks (withReaders (withTurn s turn) readers) marks) attaches) held) fetching
+
+module _ (s : State) (turn : ℕ) (readers : List Reader) (marks attaches held fetching : List ℕ) where
+  page-in : (k : ℕ) → Page s k → Page (allChanged s turn readers marks attaches held fetching) k
   page-in k p = record { low = p .low; there = p .there }
 
   -- a placed reader stays placed
-  pub placed-in : (r : Reader) → Placed s r → Placed (allChanged s turn readers marks held fetching) r
+  pub placed-in : (r : Reader) → Placed s r → Placed (allChanged s turn readers marks attaches held fetching) r
   placed-in r p =
       record {
         file-high = p .file-high;
@@ -81,7 +100,7 @@ module _ (s : State) (turn : ℕ) (readers : List Reader) (marks held fetching :
       }
 
   reader-in : (c : Condition) (r : Reader) → (c ≡ Waiting → T (inFetch s (nextKey r)) → T (on fetching (nextKey r))) → ReaderIn c s r
-      → ReaderIn c (allChanged s turn readers marks held fetching) r
+      → ReaderIn c (allChanged s turn readers marks attaches held fetching) r
   unfolding awaits
   reader-in Empty r w h = h
   reader-in Running r w h = placed-in r h
@@ -89,10 +108,11 @@ module _ (s : State) (turn : ℕ) (readers : List Reader) (marks held fetching :
       let short : Bool = ltb (r .position) (r .last) in
       (placed-in r (h .0), and-both short _ (and-first short _ (h .1)) (w refl (and-second short _ (h .1))))
 
-  -- turn, readers, marks and maps that fit make a valid state
-  all-changed : Valid s → Seats s turn readers marks → Maps s held fetching → Waits s readers fetching → Valid (allChanged s turn readers marks held fetching)
-  all-changed v a m w =
-      let inside : (k : ℕ) → T (on held k) → Page (allChanged s turn readers marks held fetching) k = λ k h. page-in k (m .held-in .inside k h) in
+  -- turn, readers, marks, counts and maps that fit make a valid state
+  all-changed : Valid s → Seats s turn readers marks → Counted attaches → Maps s held fetching → Waits s readers fetching
+      → Valid (allChanged s turn readers marks attaches held fetching)
+  all-changed v a n m w =
+      let inside : (k : ℕ) → T (on held k) → Page (allChanged s turn readers marks attaches held fetching) k = λ k h. page-in k (m .held-in .inside k h) in
       record {
         eight = v .eight;
         sizes-high = v .sizes-high;
@@ -106,12 +126,17 @@ module _ (s : State) (turn : ℕ) (readers : List Reader) (marks held fetching :
         marks-all = a .marks-all;
         marks-in = a .marks-in;
         turn-high = a .low;
+        rule-known = v .rule-known;
+        expected-all = v .expected-all;
+        expected-high = v .expected-high;
+        attaches-all = n .all;
+        attaches-high = n .high;
         cached-map = m .held-in .fits;
         fetching-map = m .fetching-in .fits;
         cached-in = inside;
         fetching-in = λ k h. page-in k (m .fetching-in .inside k h);
         apart = m .apart;
-        room = rw (cached-count (allChanged s turn readers marks held fetching) (v .sizes-high) inside) (m .room);
+        room = rw (cached-count (allChanged s turn readers marks attaches held fetching) (v .sizes-high) inside) (m .room);
       }
 
 module _ (s : State) (v : Valid s) where
@@ -127,6 +152,9 @@ module _ (s : State) (v : Valid s) where
 
   same-maps : Maps s (s .cached) (s .fetching)
   same-maps = record { held-in = cached-map-in; fetching-in = fetching-map-in; apart = v .apart; room = counted }
+
+  same-counts : Counted (s .attaches)
+  same-counts = record { all = v .attaches-all; high = v .attaches-high }
 
   -- its own readers and marks, at a turn
   seats : (turn : ℕ) → turn < 16 → Seats s turn (s .readers) (s .marks)
@@ -162,16 +190,22 @@ module _ (s : State) (v : Valid s) where
 
   -- other maps
   maps-changed : (held fetching : List ℕ) → Maps s held fetching → Waits s (s .readers) fetching → Valid (withFetching (withCached s held) fetching)
-  maps-changed held fetching = all-changed s (s .turn) (s .readers) (s .marks) held fetching v (seats (s .turn) (v .turn-high))
+  maps-changed held fetching = all-changed s (s .turn) (s .readers) (s .marks) (s .attaches) held fetching v (seats (s .turn) (v .turn-high)) same-counts
 
   -- the turn moves on
   pub turn-moved : (turn : ℕ) → turn < 16 → Valid (withTurn s turn)
   turn-moved turn h =
-      all-changed s turn (s .readers) (s .marks) (s .cached) (s .fetching) v (seats turn h) same-maps (λ j _ q. q)
+      all-changed s turn (s .readers) (s .marks) (s .attaches) (s .cached) (s .fetching) v (seats turn h) same-counts same-maps (λ j _ q. q)
 
   -- other readers and marks
   slots-changed : (readers : List Reader) (marks : List ℕ) → Seats s (s .turn) readers marks → Valid (withMarks (withReaders s readers) marks)
-  slots-changed readers marks a = all-changed s (s .turn) readers marks (s .cached) (s .fetching) v a same-maps (λ j _ q. q)
+  slots-changed readers marks a =
+      all-changed s (s .turn) readers marks (s .attaches) (s .cached) (s .fetching) v a same-counts same-maps (λ j _ q. q)
+
+  -- other counts of readers attached
+  counts-changed : (attaches : List ℕ) → Counted attaches → Valid (withAttaches s attaches)
+  counts-changed attaches n =
+      all-changed s (s .turn) (s .readers) (s .marks) attaches (s .cached) (s .fetching) v (seats (s .turn) (v .turn-high)) n same-maps (λ j _ q. q)
 
   -- other readers, none of which stands before its mark
   pub readers-changed : (readers : List Reader) → length readers ≡ 16 → ((j : ℕ) → ReaderIn (getD readers j noReader .condition) s (getD readers j noReader))
@@ -255,8 +289,8 @@ module _ (s : State) (v : Valid s) where
         room = omega (arith, more);
       }
 
--- what holds of each record at its place, and of one more, holds of each after that one is stored
-all-set : (P : ℕ → Reader → Type 0) (l : List Reader) (i : ℕ) (r d : Reader) → P i r → ((j : ℕ) → P j (getD l j d)) → (j : ℕ) → P j (getD (set l i r) j d)
+-- what holds of each member at its place, and of one more, holds of each after that one is stored
+all-set : {A : Type 0} (P : ℕ → A → Type 0) (l : List A) (i : ℕ) (r d : A) → P i r → ((j : ℕ) → P j (getD l j d)) → (j : ℕ) → P j (getD (set l i r) j d)
 all-set P [] i r d p h j = h j
 all-set P (x ∷ l) zero r d p h zero = p
 all-set P (x ∷ l) zero r d p h (suc j) = h (suc j)
@@ -295,3 +329,13 @@ module _ (s : State) (v : Valid s) (slot : ℕ) (r : Reader) (h : ReaderIn (r .c
         marks-all = length-set (s .marks) slot mark ∙ v .marks-all;
         marks-in = both-set (s .readers) (s .marks) slot r noReader mark (v .sixteen ∙ sym (v .marks-all)) m (v .marks-in);
       })
+
+-- one reader more is counted for a file
+pub attach-counted : (s : State) (file : ℕ) → Valid s → Valid (countedAttach s file)
+attach-counted s file v =
+    let more : ℕ = min 65535 (attachesAt s file + 1) in
+    counts-changed s v (set (s .attaches) file more)
+    (record {
+      all = length-set (s .attaches) file more ∙ v .attaches-all;
+      high = all-set (λ _ n. n ≤ 65535) (s .attaches) file more 0 (omega arith) (v .attaches-high);
+    })

@@ -48,7 +48,8 @@ use Rattle.rules.specs.declared.Reader.{Reader}
 use Rattle.rules.specs.declared.Reply.{Reply}
 use Rattle.rules.specs.declared.Condition.the-variants.{Running, Waiting}
 use Rattle.rules.proofs.laws.Tests.{less, and-both, and-first, and-second}
-use Rattle.rules.proofs.orders.Distinct.{victim-cached, fetch-wanted, wanted-page}
+use Rattle.rules.proofs.orders.Distinct.{fetch-wanted, wanted-page}
+use Rattle.rules.proofs.orders.Victims.{victim-cached}
 use Rattle.rules.proofs.laws.Cases.{
   cond-all,
   condition-all,
@@ -63,7 +64,7 @@ use Rattle.rules.proofs.laws.Cases.{
   file-there,
 }
 use Rattle.rules.proofs.calls.PageMaps.{put-on}
-use Rattle.rules.proofs.calls.Changes.{none-cached, placed-in, turn-moved, reader-changed, slot-changed, fetch-opened, page-dropped}
+use Rattle.rules.proofs.calls.Changes.{none-cached, placed-in, turn-moved, reader-changed, slot-changed, attach-counted, fetch-opened, page-dropped}
 use Rattle.rules.proofs.calls.Landings.{placed-still, waiters-woken, landed-valid}
 
 -- the reply's state is valid
@@ -94,7 +95,7 @@ pub attach-kept : (s : State) (slot file pace start last : ℕ) → Valid s → 
 unfolding attachOf
 attach-kept s slot file pace start last v =
     let own : start ≤ start = omega arith in
-    search (cond-all Keeps, condition-all Keeps, slot-changed, docked-in, own) depth 12
+    search (cond-all Keeps, condition-all Keeps, attach-counted, slot-changed, docked-in, own) depth 12
 
 -- Detach keeps the state valid
 pub detach-kept : (s : State) (slot : ℕ) → Valid s → Valid (detachOf s slot .state)
@@ -142,7 +143,7 @@ fetch-kept : (s : State) → Valid s → (slot : ℕ) (r : Reader) → Placed s 
 fetch-kept s v slot r p m ne absent =
     let page = next-page s v r p (not-at-end s v slot r p m ne) in
     let opened = fetch-opened s v (nextKey r) page (failed (cached s (nextKey r)) absent) in
-    wait-kept (withFetch s (nextKey r)) opened slot r (placed-in s _ _ _ _ _ r p) m ne (put-on (s .fetching) (v .fetching-map) (nextKey r) (page .low))
+    wait-kept (withFetch s (nextKey r)) opened slot r (placed-in s _ _ _ _ _ _ r p) m ne (put-on (s .fetching) (v .fetching-map) (nextKey r) (page .low))
 
 -- a running reader is placed in its file
 pub running-placed : (s : State) → Valid s → (slot : ℕ) → readerAt s slot .condition ≡ Running → Placed s (readerAt s slot)
@@ -297,24 +298,27 @@ pub blank-off : (k : ℕ) → on (replicate 128 0) k ≡ false
 unfolding bit
 blank-off k = rw (same-at {A = ℕ} 128 (k / 64) 0, zero-div)
 
-sizes-in : (sizes : List ℕ) → every (within 0 1024) sizes ≡ true → (f : ℕ) → getD sizes f 0 ≤ 1024
+all-within : (high : ℕ) (l : List ℕ) → every (within 0 high) l ≡ true → (f : ℕ) → getD l f 0 ≤ high
 unfolding every
-sizes-in [] e f = omega arith
-sizes-in (x ∷ sizes) e zero = within-true 0 1024 x (and-true (within 0 1024 x) _ e .0) .1
-sizes-in (x ∷ sizes) e (suc f) = sizes-in sizes (and-true (within 0 1024 x) _ e .1) f
+all-within high [] e f = omega arith
+all-within high (x ∷ l) e zero = within-true 0 high x (and-true (within 0 high x) _ e .0) .1
+all-within high (x ∷ l) e (suc f) = all-within high l (and-true (within 0 high x) _ e .1) f
 
-fresh-valid : (frames look time : ℕ) (sizes : List ℕ) → length sizes ≡ 8 → settingsIn frames look time sizes ≡ true → Valid (fresh frames look time sizes)
+fresh-valid : (frames look time : ℕ) (sizes : List ℕ) (rule : ℕ) (expected : List ℕ) → length sizes ≡ 8 → length expected ≡ 8
+    → settingsIn frames look time sizes rule expected ≡ true → Valid (fresh frames look time sizes rule expected)
 unfolding settingsIn
-fresh-valid frames look time sizes eight e =
+fresh-valid frames look time sizes rule expected eight eight′ e =
     let a = and-true (within 1 1024 frames) _ e in
     let b = and-true (within 1 2000000 look) _ (a .1) in
     let c = and-true (within 0 2000000 time) _ (b .1) in
+    let d = and-true (every (within 0 1024) sizes) _ (c .1) in
+    let g = and-true (within 0 1 rule) _ (d .1) in
     let f = within-true 1 1024 frames (a .0) in
     let l = within-true 1 2000000 look (b .0) in
     let none : (k : ℕ) → T (on (replicate 128 0) k) → ⊥ = λ k h. subst T (blank-off k) h in
-    let inside : (k : ℕ) → T (on (replicate 128 0) k) → Page (fresh frames look time sizes) k = λ k h. absurd (none k h) in
-    let high = sizes-in sizes (c .1) in
-    let count : length (cachedPages (fresh frames look time sizes)) ≡ 0 = none-cached _ high none in
+    let inside : (k : ℕ) → T (on (replicate 128 0) k) → Page (fresh frames look time sizes rule expected) k = λ k h. absurd (none k h) in
+    let high = all-within 1024 sizes (d .0) in
+    let count : length (cachedPages (fresh frames look time sizes rule expected)) ≡ 0 = none-cached _ high none in
     record {
       eight = eight;
       sizes-high = high;
@@ -328,6 +332,11 @@ fresh-valid frames look time sizes eight e =
       marks-all = length-replicate {A = ℕ} 16 0;
       marks-in = λ j. rw (same-at {A = ℕ} 16 j 0) (omega arith);
       turn-high = omega arith;
+      rule-known = within-true 0 1 rule (g .0) .1;
+      expected-all = eight′;
+      expected-high = all-within 1000 expected (g .1);
+      attaches-all = length-replicate {A = ℕ} 8 0;
+      attaches-high = λ f. rw (same-at {A = ℕ} 8 f 0) (omega arith);
       cached-map = blank-map;
       fetching-map = blank-map;
       cached-in = inside;
@@ -339,9 +348,11 @@ fresh-valid frames look time sizes eight e =
 -- the idle state is valid
 pub idle-valid : Valid idle
 unfolding settingsIn every
-idle-valid = fresh-valid 1 1 0 (replicate 8 0) refl refl
+idle-valid = fresh-valid 1 1 0 (replicate 8 0) 0 (replicate 8 0) refl refl refl
 
 -- Setup makes a valid state; refused, it gives the idle state, which is valid too
-pub setup-valid : (frames look time : ℕ) (sizes : List ℕ) → length sizes ≡ 8 → Valid (setupOf frames look time sizes .state)
+pub setup-valid : (frames look time : ℕ) (sizes : List ℕ) (rule : ℕ) (expected : List ℕ) → length sizes ≡ 8 → length expected ≡ 8
+    → Valid (setupOf frames look time sizes rule expected .state)
 unfolding setupOf
-setup-valid frames look time sizes eight = cond-all Keeps (settingsIn frames look time sizes) _ _ (fresh-valid frames look time sizes eight) (λ _. idle-valid)
+setup-valid frames look time sizes rule expected eight eight′ =
+    cond-all Keeps (settingsIn frames look time sizes rule expected) _ _ (fresh-valid frames look time sizes rule expected eight eight′) (λ _. idle-valid)

@@ -21,7 +21,7 @@ use Rattle.rules.specs.declared.Reader.{Reader}
 use Rattle.rules.specs.declared.Condition.{Condition}
 use Rattle.rules.specs.declared.Condition.the-variants.{Empty, Running, Waiting}
 use Rattle.rules.proofs.laws.Tests.{and-second}
-use Rattle.rules.proofs.orders.Distinct.{victim-cached, no-victim}
+use Rattle.rules.proofs.orders.Victims.{victim-cached, no-victim}
 use Rattle.rules.proofs.laws.Cases.{cond-all, condition-all, option-all}
 use Rattle.bits.specs.Map.{on}
 use Rattle.rules.proofs.calls.PageMaps.{off-put, put-off}

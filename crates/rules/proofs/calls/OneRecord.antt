@@ -7,7 +7,20 @@ use mathlib.Core.Logic.{_≢_}
 use lib.ListN.{getD, set}
 use lib.Seq.{getD-set-other}
 use Rattle.rules.specs.Readers.{noReader, readerAt, markAt}
-use Rattle.rules.specs.Calls.{reply, refused, withReader, withSlot, withFetching, attachOf, readRunning, readOf, detachOf, measured, measureOf}
+use Rattle.rules.specs.Calls.{
+  reply,
+  refused,
+  withReader,
+  withSlot,
+  withFetching,
+  countedAttach,
+  attachOf,
+  readRunning,
+  readOf,
+  detachOf,
+  measured,
+  measureOf,
+}
 use Rattle.rules.specs.Entries.{Call, attach, read, detach, measure, callOf}
 use Rattle.rules.specs.declared.State.{State}
 use Rattle.rules.specs.declared.Reader.{Reader}
@@ -29,7 +42,7 @@ callAt reading slot = read slot
 callAt detaching slot = detach slot
 callAt (measuring interval blocked) slot = measure slot interval blocked
 
--- t is s but for the record and the mark of the slot, and the fetch map
+-- t is s but for the record and the mark of the slot, the fetch map, and how often readers were attached
 pub record ButSlot (s : State) (slot : ℕ) (t : State) : Type 0 where
   pub others : (j : ℕ) → j ≢ slot → readerAt t j ≡ readerAt s j
   pub marks : (j : ℕ) → j ≢ slot → markAt t j ≡ markAt s j
@@ -38,11 +51,24 @@ pub record ButSlot (s : State) (slot : ℕ) (t : State) : Type 0 where
   pub look-ahead : t .«look_ahead» ≡ s .«look_ahead»
   pub fetch-time : t .«fetch_time» ≡ s .«fetch_time»
   pub sizes : t .sizes ≡ s .sizes
+  pub rule : t .rule ≡ s .rule
+  pub expected : t .expected ≡ s .expected
   pub cached : t .cached ≡ s .cached
 
 same-state : (s : State) (slot : ℕ) → ButSlot s slot s
 same-state s slot =
-    record { others = λ j _. refl; marks = λ j _. refl; frames = refl; turn = refl; look-ahead = refl; fetch-time = refl; sizes = refl; cached = refl }
+    record {
+      others = λ j _. refl;
+      marks = λ j _. refl;
+      frames = refl;
+      turn = refl;
+      look-ahead = refl;
+      fetch-time = refl;
+      sizes = refl;
+      rule = refl;
+      expected = refl;
+      cached = refl;
+    }
 
 slot-set : (s : State) (slot : ℕ) (r : Reader) (mark : ℕ) → ButSlot s slot (withSlot s slot r mark)
 slot-set s slot r mark =
@@ -54,6 +80,25 @@ slot-set s slot r mark =
       look-ahead = refl;
       fetch-time = refl;
       sizes = refl;
+      rule = refl;
+      expected = refl;
+      cached = refl;
+    }
+
+-- one reader more counted for a file
+slot-counted : (s : State) (slot : ℕ) (r : Reader) (mark file : ℕ) → ButSlot s slot (countedAttach (withSlot s slot r mark) file)
+slot-counted s slot r mark file =
+    let h = slot-set s slot r mark in
+    record {
+      others = h .others;
+      marks = h .marks;
+      frames = refl;
+      turn = refl;
+      look-ahead = refl;
+      fetch-time = refl;
+      sizes = refl;
+      rule = refl;
+      expected = refl;
       cached = refl;
     }
 
@@ -61,7 +106,18 @@ slot-set s slot r mark =
 record-set : (s : State) (slot : ℕ) (r : Reader) (fetching : List ℕ) → ButSlot s slot (withFetching (withReader s slot r) fetching)
 record-set s slot r fetching =
     let h = slot-set s slot r 0 in
-    record { others = h .others; marks = λ j _. refl; frames = refl; turn = refl; look-ahead = refl; fetch-time = refl; sizes = refl; cached = refl }
+    record {
+      others = h .others;
+      marks = λ j _. refl;
+      frames = refl;
+      turn = refl;
+      look-ahead = refl;
+      fetch-time = refl;
+      sizes = refl;
+      rule = refl;
+      expected = refl;
+      cached = refl;
+    }
 
 -- so is the reply's state
 abbrev One : State → ℕ → Reply → Type 0
@@ -70,7 +126,7 @@ One s slot r = ButSlot s slot (r .state)
 -- the four calls change no other record, no setting and not the cached map
 pub one-record : (c : SlotCall) (s : State) (slot : ℕ) → ButSlot s slot (callOf (callAt c slot) s .state)
 unfolding attachOf readOf readRunning detachOf measureOf
-one-record (attaching file pace start last) s slot = search (cond-all (One s slot), condition-all (One s slot), same-state, slot-set, record-set) depth 12
+one-record (attaching file pace start last) s slot = search (cond-all (One s slot), condition-all (One s slot), same-state, slot-counted) depth 12
 one-record reading s slot = search (cond-all (One s slot), condition-all (One s slot), same-state, slot-set, record-set) depth 12
 one-record detaching s slot = search (cond-all (One s slot), condition-all (One s slot), same-state, slot-set, record-set) depth 12
 one-record (measuring interval blocked) s slot = search (cond-all (One s slot), condition-all (One s slot), same-state, slot-set, record-set) depth 12

@@ -70,11 +70,11 @@ unfolding Fair
 refusal-numbers c s n e = fair c s n e .1
 
 -- a refused Setup gives the idle state, with number 1
-pub setup-refused : (frames look time : ℕ) (sizes : List ℕ) (n : ℕ) → setupOf frames look time sizes .answer ≡ Refused n
-    → (setupOf frames look time sizes .state ≡ idle) × (n ≡ 1)
+pub setup-refused : (frames look time : ℕ) (sizes : List ℕ) (rule : ℕ) (expected : List ℕ) (n : ℕ)
+    → setupOf frames look time sizes rule expected .answer ≡ Refused n → (setupOf frames look time sizes rule expected .state ≡ idle) × (n ≡ 1)
 unfolding setupOf Fair
-setup-refused frames look time sizes n e =
+setup-refused frames look time sizes rule expected n e =
     let F = Fair idle (1 ∷ []) in
-    let f : F (setupOf frames look time sizes) = search (cond-all F, fair-refused, fair-done, tt) depth 12 in
+    let f : F (setupOf frames look time sizes rule expected) = search (cond-all F, fair-refused, fair-done, tt) depth 12 in
     let h = f n e in
     (h .0, key n 1 (λ b. T (b || false) → n ≡ 1) (λ q _. q) (λ _ z. absurd z) (h .1))

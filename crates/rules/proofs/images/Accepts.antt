@@ -12,9 +12,10 @@ use Rattle.bits.proofs.Words.{digit-high}
 use Rattle.rules.specs.Lists.{range, every, within}
 use Rattle.rules.specs.Pages.{size, fileOf, pageOf, cached, inFetch, Page, cachedPages}
 use Rattle.rules.specs.Readers.{noReader, readerAt, markAt, byCondition, awaits}
+use Rattle.rules.specs.Orders.{attachesAt}
 use Rattle.rules.specs.Valid.{Placed, ReaderIn, PageMap, Valid}
 use Rattle.rules.specs.Calls.{settingsIn}
-use Rattle.rules.specs.Image.{readerNumber, readerFrom, stateFrom, readerPlaced, readerHolds, slotHolds, markHolds, keyHolds, accepts}
+use Rattle.rules.specs.Image.{readerNumber, readerFrom, stateFrom, readerPlaced, readerHolds, slotHolds, markHolds, keyHolds, gapsHold, accepts}
 use Rattle.rules.proofs.laws.Tests.{less, key, and-both, and-first, and-second, or-left, or-right}
 use Rattle.rules.proofs.laws.Members.{range-in, range-at}
 use Rattle.rules.proofs.laws.Indexed.{Always, always-take, always-drop, all-always, always-all, every-all, all-every}
@@ -26,6 +27,7 @@ use Rattle.rules.proofs.images.Layouts.{
   slot-number,
   reader-numbers,
   gap-number,
+  filler-number,
   state-numbers,
   Table,
   lengths-from,
@@ -47,36 +49,52 @@ within-in low high n a b = and-both (leb low n) (leb n high) (le→leb low n a) 
 in-within : (low high n : ℕ) → T (within low high n) → (low ≤ n) × (n ≤ high)
 in-within low high n h = (leb→le low n (and-first (leb low n) (leb n high) h), leb→le n high (and-second (leb low n) (leb n high) h))
 
--- frames, L, T and sizes in their ranges
-pub record Settings (frames look time : ℕ) (sizes : List ℕ) : Type 0 where
+-- all members of a list are in a range
+all-within : (high : ℕ) (ns : List ℕ) → T (every (within 0 high) ns) → Always (λ n. n ≤ high) 0 ns
+all-within high ns h i =
+    in-within 0 high (getD ns i 0)
+    (all-always (λ n. T (within 0 high n)) 0 (within-in 0 high 0 (omega arith) (omega arith)) ns (every-all (within 0 high) ns h) i) .1
+
+within-all : (high : ℕ) (ns : List ℕ) → Always (λ n. n ≤ high) 0 ns → T (every (within 0 high) ns)
+within-all high ns h =
+    all-every (within 0 high) ns (always-all (λ n. T (within 0 high n)) 0 ns (λ i. within-in 0 high (getD ns i 0) (omega arith) (h i)))
+
+-- frames, L, T, sizes, the rule and the readers expected in their ranges
+pub record Settings (frames look time : ℕ) (sizes : List ℕ) (rule : ℕ) (expected : List ℕ) : Type 0 where
   pub frames-in : (1 ≤ frames) × (frames ≤ 1024)
   pub look-in : (1 ≤ look) × (look ≤ 2000000)
   pub time-high : time ≤ 2000000
   pub sizes-in : Always (λ n. n ≤ 1024) 0 sizes
+  pub rule-known : rule ≤ 1
+  pub expected-in : Always (λ n. n ≤ 1000) 0 expected
 
-module _ (frames look time : ℕ) (sizes : List ℕ) where
+module _ (frames look time : ℕ) (sizes : List ℕ) (rule : ℕ) (expected : List ℕ) where
   -- the test of the settings says so
-  pub settings-in : T (settingsIn frames look time sizes) → Settings frames look time sizes
+  pub settings-in : T (settingsIn frames look time sizes rule expected) → Settings frames look time sizes rule expected
   unfolding settingsIn
   settings-in h =
       let h₁ = and-second (within 1 1024 frames) _ h in
       let h₂ = and-second (within 1 2000000 look) _ h₁ in
+      let h₃ = and-second (within 0 2000000 time) _ h₂ in
+      let h₄ = and-second (every (within 0 1024) sizes) _ h₃ in
       record {
         frames-in = in-within 1 1024 frames (and-first (within 1 1024 frames) _ h);
         look-in = in-within 1 2000000 look (and-first (within 1 2000000 look) _ h₁);
         time-high = in-within 0 2000000 time (and-first (within 0 2000000 time) _ h₂) .1;
-        sizes-in = λ f. in-within 0 1024 (getD sizes f 0)
-            (all-always (λ n. T (within 0 1024 n)) 0 tt sizes (every-all (within 0 1024) sizes (and-second (within 0 2000000 time) _ h₂)) f) .1;
+        sizes-in = all-within 1024 sizes (and-first (every (within 0 1024) sizes) _ h₃);
+        rule-known = in-within 0 1 rule (and-first (within 0 1 rule) _ h₄) .1;
+        expected-in = all-within 1000 expected (and-second (within 0 1 rule) _ h₄);
       }
 
   -- and is passed where it is so
-  pub in-settings : Settings frames look time sizes → T (settingsIn frames look time sizes)
+  pub in-settings : Settings frames look time sizes rule expected → T (settingsIn frames look time sizes rule expected)
   unfolding settingsIn
   in-settings h =
       and-both (within 1 1024 frames) _ (within-in 1 1024 frames (h .frames-in .0) (h .frames-in .1))
       (and-both (within 1 2000000 look) _ (within-in 1 2000000 look (h .look-in .0) (h .look-in .1))
       (and-both (within 0 2000000 time) _ (within-in 0 2000000 time (omega arith) (h .time-high))
-      (all-every (within 0 1024) sizes (always-all (λ n. T (within 0 1024 n)) 0 sizes (λ f. within-in 0 1024 (getD sizes f 0) (omega arith) (h .sizes-in f))))))
+      (and-both (every (within 0 1024) sizes) _ (within-all 1024 sizes (h .sizes-in))
+      (and-both (within 0 1 rule) _ (within-in 0 1 rule (omega arith) (h .rule-known)) (within-all 1000 expected (h .expected-in))))))
 
 -- ---- readers
 
@@ -231,9 +249,16 @@ bit-inside words k l h = go (decLt k 8192)
 
 -- ---- all of it
 
+-- a state's settings are in their ranges, and the test of it
+abbrev SettingsOf : State → Type 0
+SettingsOf s = Settings (s .frames) (s .«look_ahead») (s .«fetch_time») (s .sizes) (s .rule) (s .expected)
+
+abbrev settingsHold : State → Bool
+settingsHold s = settingsIn (s .frames) (s .«look_ahead») (s .«fetch_time») (s .sizes) (s .rule) (s .expected)
+
 -- what `accepts` tests
 pub record Accepted (v : List ℕ) : Type 0 where
-  pub settings : Settings (stateFrom v .frames) (stateFrom v .«look_ahead») (stateFrom v .«fetch_time») (stateFrom v .sizes)
+  pub settings : SettingsOf (stateFrom v)
   pub turn-high : stateFrom v .turn ≤ 15
   pub slots : (j : ℕ) → j < 16 → SlotIn v j
   pub marks : (j : ℕ) → j < 16 → markAt (stateFrom v) j ≤ readerAt (stateFrom v) j .position
@@ -241,6 +266,7 @@ pub record Accepted (v : List ℕ) : Type 0 where
   pub room : length (cachedPages (stateFrom v)) ≤ stateFrom v .frames
   pub gap : getD v 2 0 ≡ 0
   pub gap-maps : getD v 93 0 ≡ 0
+  pub filler : getD v 367 0 ≡ 0
 
 module _ (v : List ℕ) where
   -- `accepts` tests all of it
@@ -248,16 +274,15 @@ module _ (v : List ℕ) where
   unfolding accepts
   accepted h₀ =
       let s = stateFrom v in
-      let set = settingsIn (s .frames) (s .«look_ahead») (s .«fetch_time») (s .sizes) in
-      let h₁ = and-second set _ h₀ in
+      let h₁ = and-second (settingsHold s) _ h₀ in
       let h₂ = and-second (within 0 15 (s .turn)) _ h₁ in
       let h₃ = and-second (every (slotHolds v) (range 0 16)) _ h₂ in
       let h₄ = and-second (every (keyHolds s) (range 0 8192)) _ h₃ in
       let h₅ = and-second (leb (length (cachedPages s)) (s .frames)) _ h₄ in
-      let gaps = eqb (getD v 2 0) 0 && eqb (getD v 93 0) 0 in
-      let h₆ = and-first gaps _ h₅ in
+      let h₆ = and-first (gapsHold v) _ h₅ in
+      let h₇ = and-second (eqb (getD v 2 0) 0) _ h₆ in
       record {
-        settings = settings-in (s .frames) (s .«look_ahead») (s .«fetch_time») (s .sizes) (and-first set _ h₀);
+        settings = settings-in (s .frames) (s .«look_ahead») (s .«fetch_time») (s .sizes) (s .rule) (s .expected) (and-first (settingsHold s) _ h₀);
         turn-high = in-within 0 15 (s .turn) (and-first (within 0 15 (s .turn)) _ h₁) .1;
         slots =
             λ j l.
@@ -267,7 +292,7 @@ module _ (v : List ℕ) where
         marks =
             λ j l.
             leb→le (markAt s j) (readerAt s j .position)
-            (range-at (λ i. T (markHolds s i)) 0 16 j (every-all (markHolds s) (range 0 16) (and-second gaps _ h₅)) (omega arith) l);
+            (range-at (λ i. T (markHolds s i)) 0 16 j (every-all (markHolds s) (range 0 16) (and-second (gapsHold v) _ h₅)) (omega arith) l);
         keys =
             λ k l.
             key-in s k
@@ -275,7 +300,8 @@ module _ (v : List ℕ) where
             (every-all (keyHolds s) (range 0 8192) (and-first (every (keyHolds s) (range 0 8192)) _ h₃)) (omega arith) l);
         room = leb→le (length (cachedPages s)) (s .frames) (and-first (leb (length (cachedPages s)) (s .frames)) _ h₄);
         gap = eqb→eq (getD v 2 0) 0 (and-first (eqb (getD v 2 0) 0) _ h₆);
-        gap-maps = eqb→eq (getD v 93 0) 0 (and-second (eqb (getD v 2 0) 0) _ h₆);
+        gap-maps = eqb→eq (getD v 93 0) 0 (and-first (eqb (getD v 93 0) 0) _ h₇);
+        filler = eqb→eq (getD v 367 0) 0 (and-second (eqb (getD v 93 0) 0) _ h₇);
       }
 
   -- and is passed where all of it holds
@@ -283,22 +309,22 @@ module _ (v : List ℕ) where
   unfolding accepts
   in-accepted a =
       let s = stateFrom v in
-      and-both (settingsIn (s .frames) (s .«look_ahead») (s .«fetch_time») (s .sizes))
-      _ (in-settings (s .frames) (s .«look_ahead») (s .«fetch_time») (s .sizes) (a .settings))
+      and-both (settingsHold s) _ (in-settings (s .frames) (s .«look_ahead») (s .«fetch_time») (s .sizes) (s .rule) (s .expected) (a .settings))
       (and-both (within 0 15 (s .turn)) _ (within-in 0 15 (s .turn) (omega arith) (a .turn-high))
       (and-both (every (slotHolds v) (range 0 16)) _
       (all-every (slotHolds v) (range 0 16) (range-in (λ j. T (slotHolds v j)) 0 16 (λ j _ l. in-slot v j (a .slots j l))))
       (and-both (every (keyHolds s) (range 0 8192)) _
       (all-every (keyHolds s) (range 0 8192) (range-in (λ k. T (keyHolds s k)) 0 8192 (λ k _ l. in-key s k (a .keys k l))))
       (and-both (leb (length (cachedPages s)) (s .frames)) _ (le→leb (length (cachedPages s)) (s .frames) (a .room))
-      (and-both (eqb (getD v 2 0) 0 && eqb (getD v 93 0) 0) _
-      (and-both (eqb (getD v 2 0) 0) _ (eq→eqb (getD v 2 0) 0 (a .gap)) (eq→eqb (getD v 93 0) 0 (a .gap-maps)))
+      (and-both (gapsHold v) _
+      (and-both (eqb (getD v 2 0) 0) _ (eq→eqb (getD v 2 0) 0 (a .gap))
+      (and-both (eqb (getD v 93 0) 0) _ (eq→eqb (getD v 93 0) 0 (a .gap-maps)) (eq→eqb (getD v 367 0) 0 (a .filler))))
       (all-every (markHolds s) (range 0 16)
       (range-in (λ j. T (markHolds s j)) 0 16 (λ j _ l. le→leb (markAt s j) (readerAt s j .position) (a .marks j l)))))))))
 
 -- ---- from numbers to a state
 
-module _ (v : List ℕ) (long : length v ≡ 366) (a : Accepted v) where
+module _ (v : List ℕ) (long : length v ≡ 384) (a : Accepted v) where
   -- accepted numbers are those of a table
   pub table-in : Table v
   table-in =
@@ -306,6 +332,7 @@ module _ (v : List ℕ) (long : length v ≡ 366) (a : Accepted v) where
         long = long;
         gap = a .gap;
         gap-maps = a .gap-maps;
+        filler = a .filler;
         conditions = λ j l. a .slots j l .condition-in;
       }
 
@@ -333,12 +360,16 @@ module _ (v : List ℕ) (long : length v ≡ 366) (a : Accepted v) where
       λ o. always-take (λ n. n < 2 ^ 64) 0 (omega arith) 128 (drop o v) (always-drop (λ n. n < 2 ^ 64) 0 o v fit) in
       (record { all = lengths-from v table-in .cached-all; fit = part 94 }, record { all = lengths-from v table-in .fetching-all; fit = part 222 })
 
+  attaches-valid : Always (λ n. n < 65536) 0 (drop 376 v) → (f : ℕ) → attachesAt (stateFrom v) f ≤ 65535
+  unfolding stateFrom
+  attaches-valid fit f = omega (arith, always-take (λ n. n < 65536) 0 (omega arith) 8 (drop 376 v) fit f)
+
   page-valid : (k : ℕ) → k < 8192 → T (cached (stateFrom v) k || inFetch (stateFrom v) k) → Page (stateFrom v) k
   page-valid k l b = record { low = l; there = a .keys k l .there b }
 
-  -- the state of accepted numbers that fit a word is valid
-  pub accepted-valid : Always (λ n. n < 2 ^ 64) 0 v → Valid (stateFrom v)
-  accepted-valid fit =
+  -- the state of accepted numbers is valid, where they fit a word, and those of the attaches 2 bytes
+  pub accepted-valid : Always (λ n. n < 2 ^ 64) 0 v → Always (λ n. n < 65536) 0 (drop 376 v) → Valid (stateFrom v)
+  accepted-valid fit short =
       let s = stateFrom v in
       let lengths = lengths-from v table-in in
       let in-cached : (k : ℕ) → T (cached s k) → k < 8192 = λ k. bit-inside (s .cached) k (lengths .cached-all) in
@@ -356,6 +387,11 @@ module _ (v : List ℕ) (long : length v ≡ 366) (a : Accepted v) where
         marks-all = lengths .marks-all;
         marks-in = mark-valid;
         turn-high = omega (arith, a .turn-high);
+        rule-known = a .settings .rule-known;
+        expected-all = lengths .expected-all;
+        expected-high = a .settings .expected-in;
+        attaches-all = lengths .attaches-all;
+        attaches-high = attaches-valid short;
         cached-map = maps-valid fit .0;
         fetching-map = maps-valid fit .1;
         cached-in = λ k h. page-valid k (in-cached k h) (or-left (cached s k) (inFetch s k) h);
@@ -392,12 +428,14 @@ module _ (s : State) (v : Valid s) where
       let back = sym (state-numbers s lengths) in
       record {
         settings =
-            subst (λ t. Settings (t .frames) (t .«look_ahead») (t .«fetch_time») (t .sizes)) back
+            subst SettingsOf back
             (record {
               frames-in = (v .frames-low, v .frames-high);
               look-in = (v .look-low, v .look-high);
               time-high = v .time-high;
               sizes-in = v .sizes-high;
+              rule-known = v .rule-known;
+              expected-in = v .expected-high;
             });
         turn-high = subst (λ t. t .turn ≤ 15) back (omega (arith, v .turn-high));
         slots = slot-accepted;
@@ -406,4 +444,5 @@ module _ (s : State) (v : Valid s) where
         room = subst (λ t. length (cachedPages t) ≤ t .frames) back (v .room);
         gap = refl;
         gap-maps = gap-number s lengths;
+        filler = filler-number s lengths;
       }

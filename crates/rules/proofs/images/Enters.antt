@@ -15,7 +15,6 @@ use Rattle.rules.proofs.laws.Numbers.{Bytes}
 use Rattle.rules.proofs.images.Images.{done-length, done-reply, done-or-not, whole-refused, whole-save, whole-valid}
 use Rattle.rules.proofs.calls.Kept.{kept}
 use Rattle.rules.proofs.calls.Refusals.{refused-same}
-use Rattle.rules.specs.declared.Reply.{Reply}
 use Rattle.rules.specs.declared.Answer.{Answer}
 use Rattle.rules.specs.declared.Answer.the-variants.{Refused, Done, Hit, Wait, Fetch, End, Nothing, Stolen, Arrived, Replaced, Ran}
 

@@ -46,10 +46,20 @@ module _ (s : State) (v : Valid s) where
       let low = reader-fits s r (r .condition) (v .sizes-high) (v .readers-in j) in
       all-fit (readerFields r) (omega (arith, condition-low (r .condition)))
 
-  tail-fits : Fits (tail s)
-  tail-fits = words-fit 2 (s .marks) (λ j.
+  marks-fit : Fits (map (field 2) (s .marks))
+  marks-fit = words-fit 2 (s .marks) (λ j.
       let r = readerAt s j in
       omega (arith, v .marks-in j, reader-fits s r (r .condition) (v .sizes-high) (v .readers-in j)))
+
+  tail-fits : Fits (tail s)
+  tail-fits =
+      let rule : List Field = field 1 (s .rule) ∷ field 1 0 ∷ [] in
+      let expected = map (field 2) (s .expected) in
+      let attaches = map (field 2) (s .attaches) in
+      both-fit (map (field 2) (s .marks)) (rule ++ (expected ++ attaches)) marks-fit
+      (both-fit rule (expected ++ attaches) (all-fit rule (omega (arith, v .rule-known)))
+      (both-fit expected attaches (words-fit 2 (s .expected) (λ f. omega (arith, v .expected-high f)))
+      (words-fit 2 (s .attaches) (λ f. omega (arith, v .attaches-high f)))))
 
   -- a valid state's values fit their widths
   pub layout-fits : Fits (layout s)

@@ -4,13 +4,14 @@ use mathlib.Core.Path.{_≡_, refl, sym, ap, _∙_, subst}
 use mathlib.Core.Bool.{Bool, not, _&&_}
 use mathlib.Core.List.{List, [], append-nil}
 use mathlib.Core.Logic.{_↔_, _⊎_, inl, inr, ⊎-elim}
-use Prim.Native.Nat.{ℕ, _^_, _≤_, _<_}
+use Prim.Native.Nat.{ℕ, _+_, _*_, _^_, _<_}
 use native.Mathlib.Nat.{pow-le-pow-right, lt-of-lt-of-le}
 use native.Mathlib.Omega.{arith}
 use mir.Syntax.{w8}
 use mir.Val.{Fits}
-use lib.ListN.{length, getD}
-use lib.Dec.{T, leb, leb→le, eqb, eqb→eq}
+use lib.ListN.{length, getD, take, drop, replicate}
+use lib.Seq.{getD-take, getD-drop, drop-at, drop-drop}
+use lib.Dec.{T, leb, leb→le, le→leb, eqb, eqb→eq}
 use Rattle.rules.specs.Lists.{each, every}
 use Rattle.rules.specs.Valid.{Valid}
 use Rattle.rules.specs.Calls.{reply, refused, idle}
@@ -18,11 +19,15 @@ use Rattle.rules.specs.Image.{
   layout,
   imageLength,
   imageOf,
+  numberOf,
   numbersIn,
   imageNumbers,
   stateFrom,
   accepts,
   restoreWhole,
+  marked,
+  unruledLength,
+  Older,
   upgraded,
   restoreOf,
 }
@@ -38,6 +43,7 @@ use Rattle.rules.proofs.images.Tables.{
   encoded-numbers,
   numbers-alike,
   numbers-length,
+  numbers-drop,
   numbers-low,
 }
 use Rattle.rules.proofs.images.Fits.{layout-fits}
@@ -53,7 +59,8 @@ use Rattle.rules.proofs.images.Layouts.{
   lengths-from,
 }
 use Rattle.rules.proofs.images.Accepts.{Accepted, accepted, in-accepted, table-in, accepted-valid, valid-accepted}
-use Rattle.rules.proofs.images.Upgrades.{upgraded-same, upgraded-bytes}
+use Rattle.rules.proofs.images.Offsets.{ruleAt, fillerAt, expectedStart, rule-at, filler-at, expected-at}
+use Rattle.rules.proofs.images.Upgrades.{upgraded-same, upgraded-bytes, older-long, upgraded-parts}
 use Rattle.rules.specs.declared.State.{State}
 use Rattle.rules.specs.declared.Reply.{Reply}
 use Rattle.rules.specs.declared.Answer.the-variants.{Refused, Done}
@@ -61,9 +68,10 @@ use Rattle.rules.specs.declared.Answer.the-variants.{Refused, Done}
 -- ---- the table
 
 idle-lengths : Lengths idle
-idle-lengths = record { eight = refl; sixteen = refl; marks-all = refl; cached-all = refl; fetching-all = refl }
+idle-lengths =
+    record { eight = refl; sixteen = refl; marks-all = refl; expected-all = refl; attaches-all = refl; cached-all = refl; fetching-all = refl }
 
-table-long : length (layout idle) ≡ 366
+table-long : length (layout idle) ≡ 384
 unfolding layout each
 table-long = refl
 
@@ -71,18 +79,31 @@ table-total : total (widths (layout idle)) ≡ imageLength
 unfolding layout each total
 table-total = refl
 
-table-narrow : Always (λ w. w ≤ 8) 0 (widths (layout idle))
-unfolding layout each every
-table-narrow i =
-    let ws = widths (layout idle) in
-    leb→le (getD ws i 0) 8 (all-always (λ w. T (leb w 8)) 0 tt ws (every-all (λ w. leb w 8) ws tt) i)
-
-numbers-long : (image : List ℕ) → length (imageNumbers image) ≡ 366
+numbers-long : (image : List ℕ) → length (imageNumbers image) ≡ 384
 numbers-long image = numbers-length (layout idle) image ∙ table-long
 
--- every number of an image fits a word
-numbers-fit : (image : List ℕ) → Bytes image → Always (λ n. n < 2 ^ 64) 0 (imageNumbers image)
-numbers-fit image h i = lt-of-lt-of-le (numbers-low (layout idle) image h i) (pow-le-pow-right {n = 256} (omega arith) (table-narrow i))
+-- no field from number o on is wider than w
+abbrev Narrow : ℕ → ℕ → Bool
+Narrow o w = every (λ x. leb x w) (drop o (widths (layout idle)))
+
+-- so the numbers of an image fit w bytes from there on
+numbers-fit : (o w : ℕ) → T (Narrow o w) → (image : List ℕ) → Bytes image → Always (λ n. n < 256 ^ w) 0 (drop o (imageNumbers image))
+numbers-fit o w h image bytes i =
+    let ws = widths (layout idle) in
+    let narrow = leb→le (getD (drop o ws) i 0) w
+    (all-always (λ x. T (leb x w)) 0 (le→leb 0 w (omega arith)) (drop o ws) (every-all (λ x. leb x w) (drop o ws) h) i) in
+    rw (getD-drop o (imageNumbers image) i 0)
+    (lt-of-lt-of-le (numbers-low (layout idle) image bytes (o + i)) (pow-le-pow-right {n = 256} (omega arith) (rw (getD-drop o ws i 0) at narrow)))
+
+-- every number fits a word
+words-fit : (image : List ℕ) → Bytes image → Always (λ n. n < 2 ^ 64) 0 (imageNumbers image)
+unfolding layout each every
+words-fit = numbers-fit 0 8 tt
+
+-- those of the attaches fit 2 bytes
+attaches-fit : (image : List ℕ) → Bytes image → Always (λ n. n < 65536) 0 (drop 376 (imageNumbers image))
+unfolding layout each every
+attaches-fit = numbers-fit 376 2 tt
 
 -- ---- Save
 
@@ -164,7 +185,10 @@ module _ (image : List ℕ) (bytes : Bytes image) where
   -- accepted or refused, the state is valid
   pub whole-valid : Valid (restoreWhole image .state)
   whole-valid =
-      ⊎-elim (λ h. rw (whole-done image h) (accepted-valid (imageNumbers image) (numbers-long image) (taken-accepted image h) (numbers-fit image bytes)))
+      ⊎-elim
+      (λ h.
+      rw (whole-done image h)
+      (accepted-valid (imageNumbers image) (numbers-long image) (taken-accepted image h) (words-fit image bytes) (attaches-fit image bytes)))
       (λ h. rw (whole-out image h) idle-valid) (side (passes image))
 
   -- an accepted image is saved back unchanged
@@ -186,19 +210,65 @@ lent-valid image lent r e = rw e (whole-valid image (λ i. lent i .fits))
 
 -- ---- Restore of an image of any length, brought up to date
 
--- an image that Save writes is
-saved-same : (s : State) → Valid s → upgraded (imageOf s) ≡ imageOf s
-saved-same s v = upgraded-same (imageOf s) (λ e. omega (arith, image-length s v))
+-- one as long as Save writes it is
+newest-same : (image : List ℕ) → length image ≡ imageLength → upgraded image ≡ image
+newest-same image l = upgraded-same image (λ older. ⊎-elim (λ o. omega arith) (λ o. omega arith) older)
 
 -- a valid state is restored from its image
 pub restore-save : (s : State) → Valid s → restoreOf (imageOf s) ≡ reply s Done
 unfolding restoreOf
-restore-save s v = ap restoreWhole (saved-same s v) ∙ whole-save s v
+restore-save s v = ap restoreWhole (newest-same (imageOf s) (image-length s v)) ∙ whole-save s v
 
 -- a refused image, of any length and any bytes. 01: "13: .. The idle state comes back"
 pub restore-refused : (image : List ℕ) → (restoreOf image .answer ≡ Done → ⊥) → restoreOf image ≡ refused idle 13
 unfolding restoreOf
 restore-refused image n = whole-refused (upgraded image) n
+
+module _ (image : List ℕ) (long : length image ≡ imageLength) where
+  unaccepted : (Accepted (imageNumbers image) → ⊥) → restoreOf image ≡ refused idle 13
+  unfolding restoreOf
+  unaccepted n = ap restoreWhole (newest-same image long) ∙ whole-refused image (λ e. n (taken-accepted image (done-taken image e)))
+
+  -- A.6: "A rule byte above 1, a filler byte not 0 or an E above 1,000 gets 13"
+  pub rule-above : 1 < numberOf (take 1 (drop ruleAt image)) → restoreOf image ≡ refused idle 13
+  unfolding stateFrom
+  rule-above h = unaccepted (λ a. omega (arith, a .settings .rule-known, rule-at image))
+
+  pub filler-set : 0 < numberOf (take 1 (drop fillerAt image)) → restoreOf image ≡ refused idle 13
+  filler-set h = unaccepted (λ a. omega (arith, a .filler, filler-at image))
+
+  pub expected-above : (f : ℕ) → f < 8 → 1000 < numberOf (take 2 (drop (expectedStart + 2 * f) image)) → restoreOf image ≡ refused idle 13
+  unfolding stateFrom
+  expected-above f l h =
+      let v = imageNumbers image in
+      let read = getD-take 8 (drop 368 v) f 0 l ∙ getD-drop 368 v f 0 ∙ expected-at image f l in
+      unaccepted (λ a. omega (arith, a .settings .expected-in f, read))
+
+-- the rule, E and R of an older image, and the 0 behind the rule
+rules-older : (image : List ℕ) → Older image → drop 366 (imageNumbers (upgraded image)) ≡ replicate 18 0
+unfolding layout each numbersIn numberOf total
+rules-older image older =
+    numbers-drop (layout idle) (upgraded image) 366
+    ∙ ap (λ b. numbersIn (drop 366 (layout idle)) (drop unruledLength b)) (upgraded-parts image older)
+    ∙ ap (numbersIn (drop 366 (layout idle))) (drop-at (marked image) (replicate 34 0) unruledLength (older-long image older))
+
+-- of the 1989 rule, E and R 0
+abbrev By1989 : State → Type 0
+By1989 s = (s .rule ≡ 0) × (s .expected ≡ replicate 8 0) × (s .attaches ≡ replicate 8 0)
+
+-- A.6: "shorter ones are read as 1989 with E and R 0"
+pub older-1989 : (image : List ℕ) → Older image → By1989 (restoreOf image .state)
+unfolding restoreOf stateFrom
+older-1989 image older =
+    let v = imageNumbers (upgraded image) in
+    let end = rules-older image older in
+    let read : By1989 (stateFrom v) = (
+      sym (getD-drop 366 v 0 0) ∙ ap (λ r. getD r 0 0) end,
+      ap (take 8) (sym (drop-drop 2 366 v) ∙ ap (drop 2) end),
+      ap (take 8) (sym (drop-drop 10 366 v) ∙ ap (drop 10) end),
+    ) in
+    ⊎-elim (λ h. subst (λ r. By1989 (r .state)) (sym (whole-done (upgraded image) h)) read)
+    (λ h. subst (λ r. By1989 (r .state)) (sym (whole-out (upgraded image) h)) (refl, refl, refl)) (side (passes (upgraded image)))
 
 module _ (image : List ℕ) (bytes : Bytes image) where
   -- accepted or refused, the state is valid
@@ -211,9 +281,9 @@ module _ (image : List ℕ) (bytes : Bytes image) where
   unfolding restoreOf
   save-restore e = save-whole (upgraded image) (upgraded-bytes image bytes) e
 
-  -- A.2: in the new length "an accepted image comes back unchanged"
+  -- A.6: "only shorter images come back longer": as long as Save writes it, "an accepted image comes back unchanged" (A.2)
   pub back-unchanged : length image ≡ imageLength → restoreOf image .answer ≡ Done → imageOf (restoreOf image .state) ≡ image
-  back-unchanged l e = save-restore e ∙ upgraded-same image (λ o. omega arith)
+  back-unchanged l e = save-restore e ∙ newest-same image l
 
   -- both directions, of images of any length: one gives a state exactly if the state is valid and its image is what that one is upgraded to
   pub restores-exactly : (s : State) → (restoreOf image ≡ reply s Done) ↔ (Valid s × (upgraded image ≡ imageOf s))

@@ -48,15 +48,37 @@ pub record Lengths (s : State) : Type 0 where
   pub eight : length (s .sizes) ≡ 8
   pub sixteen : length (s .readers) ≡ 16
   pub marks-all : length (s .marks) ≡ 16
+  pub expected-all : length (s .expected) ≡ 8
+  pub attaches-all : length (s .attaches) ≡ 8
   pub cached-all : length (s .cached) ≡ 128
   pub fetching-all : length (s .fetching) ≡ 128
 
 -- a valid state's lists are so long
 pub valid-lengths : (s : State) → Valid s → Lengths s
 valid-lengths s v =
-    record { eight = v .eight; sixteen = v .sixteen; marks-all = v .marks-all; cached-all = v .cached-map .all; fetching-all = v .fetching-map .all }
+    record {
+      eight = v .eight;
+      sixteen = v .sixteen;
+      marks-all = v .marks-all;
+      expected-all = v .expected-all;
+      attaches-all = v .attaches-all;
+      cached-all = v .cached-map .all;
+      fetching-all = v .fetching-map .all;
+    }
 
 -- ---- the table, part by part
+
+-- any number of the tail's fields, in their order
+tail-map : (g : Field → ℕ) (s : State)
+    → map g (tail s)
+    ≡ map (λ n. g (field 2 n)) (s .marks)
+    ++ (g (field 1 (s .rule)) ∷ g (field 1 0) ∷ (map (λ n. g (field 2 n)) (s .expected) ++ map (λ n. g (field 2 n)) (s .attaches)))
+tail-map g s =
+    let counts = map (field 2) (s .expected) ++ map (field 2) (s .attaches) in
+    let lists = map-append g (map (field 2) (s .expected)) (map (field 2) (s .attaches))
+    ∙ ap₂ _++_ (map-map g (field 2) (s .expected)) (map-map g (field 2) (s .attaches)) in
+    map-append g (map (field 2) (s .marks)) (field 1 (s .rule) ∷ field 1 0 ∷ counts)
+    ∙ ap₂ _++_ (map-map g (field 2) (s .marks)) (ap (λ r. g (field 1 (s .rule)) ∷ g (field 1 0) ∷ r) lists)
 
 -- any number of the table's fields, in their order
 layout-map : (g : Field → ℕ) (s : State)
@@ -85,26 +107,37 @@ readerNumbers r = values (readerFields r)
 abbrev pub slotsOf : State → List ℕ
 slotsOf s = each readerNumbers (s .readers)
 
+-- the values after the marks
+abbrev rulesOf : State → List ℕ
+rulesOf s = s .rule ∷ 0 ∷ (s .expected ++ s .attaches)
+
+-- the values of the tail
+abbrev tailOf : State → List ℕ
+tailOf s = s .marks ++ rulesOf s
+
 -- the values after the records
 abbrev pub mapsOf : State → List ℕ
-mapsOf s = 0 ∷ (s .cached ++ (s .fetching ++ s .marks))
+mapsOf s = 0 ∷ (s .cached ++ (s .fetching ++ tailOf s))
 
 -- the values of a state's table
 abbrev pub stateNumbers : State → List ℕ
 stateNumbers s = s .frames ∷ s .turn ∷ 0 ∷ s .«look_ahead» ∷ s .«fetch_time» ∷ (s .sizes ++ (slotsOf s ++ mapsOf s))
 
+tail-values : (s : State) → values (tail s) ≡ tailOf s
+tail-values s = tail-map (λ f. f .value) s ∙ rw (map-id (s .marks), map-id (s .expected), map-id (s .attaches))
+
 -- they are its table's values
 pub values-layout : (s : State) → values (layout s) ≡ stateNumbers s
-values-layout s =
-    layout-map (λ f. f .value) s
-    ∙ rw (map-id (s .sizes), map-id (s .cached), map-id (s .fetching), map-map (λ (f : Field). f .value) (field 2) (s .marks), map-id (s .marks))
+values-layout s = layout-map (λ f. f .value) s ∙ rw (map-id (s .sizes), map-id (s .cached), map-id (s .fetching), tail-values s)
 
 -- the tail's widths depend on the lists' lengths alone
 tail-alike : (s t : State) → Lengths s → Lengths t → widths (tail s) ≡ widths (tail t)
 tail-alike s t h k =
-    map-map (λ (f : Field). f .width) (field 2) (s .marks)
-    ∙ map-alike 2 (s .marks) (t .marks) (h .marks-all ∙ sym (k .marks-all))
-    ∙ sym (map-map (λ (f : Field). f .width) (field 2) (t .marks))
+    tail-map (λ f. f .width) s
+    ∙ ap₂ _++_ (map-alike 2 (s .marks) (t .marks) (h .marks-all ∙ sym (k .marks-all)))
+    (ap (λ r. 1 ∷ 1 ∷ r) (ap₂ _++_ (map-alike 2 (s .expected) (t .expected) (h .expected-all ∙ sym (k .expected-all)))
+    (map-alike 2 (s .attaches) (t .attaches) (h .attaches-all ∙ sym (k .attaches-all)))))
+    ∙ sym (tail-map (λ f. f .width) t)
 
 -- so do all widths
 pub widths-alike : (s t : State) → Lengths s → Lengths t → widths (layout s) ≡ widths (layout t)
@@ -152,6 +185,26 @@ module _ (s : State) (h : Lengths s) where
       ∙ drop-past (s .sizes) (slotsOf s ++ mapsOf s) 8 (h .eight) (80 + m)
       ∙ drop-past (slotsOf s) (mapsOf s) 80 slots-long m
 
+  -- past the maps
+  drop-tail : (m : ℕ) → drop (5 + (8 + (80 + (1 + (128 + (128 + m)))))) (stateNumbers s) ≡ drop m (tailOf s)
+  drop-tail m =
+      drop-maps (1 + (128 + (128 + m)))
+      ∙ drop-past (0 ∷ []) (s .cached ++ (s .fetching ++ tailOf s)) 1 refl (128 + (128 + m))
+      ∙ drop-past (s .cached) (s .fetching ++ tailOf s) 128 (h .cached-all) (128 + m)
+      ∙ drop-past (s .fetching) (tailOf s) 128 (h .fetching-all) m
+
+  -- past the marks
+  drop-rules : (m : ℕ) → drop (5 + (8 + (80 + (1 + (128 + (128 + (16 + m))))))) (stateNumbers s) ≡ drop m (rulesOf s)
+  drop-rules m = drop-tail (16 + m) ∙ drop-past (s .marks) (rulesOf s) 16 (h .marks-all) m
+
+  -- the rule
+  rule-number : getD (stateNumbers s) 366 0 ≡ s .rule
+  rule-number = sym (getD-drop 366 (stateNumbers s) 0 0) ∙ ap (λ r. getD r 0 0) (drop-rules 0)
+
+  -- the 0 behind it
+  pub filler-number : getD (stateNumbers s) 367 0 ≡ 0
+  filler-number = sym (getD-drop 366 (stateNumbers s) 1 0) ∙ ap (λ r. getD r 1 0) (drop-rules 0)
+
   -- the 0 before the maps
   pub gap-number : getD (stateNumbers s) 93 0 ≡ 0
   gap-number = sym (getD-drop 93 (stateNumbers s) 0 0) ∙ ap (λ r. getD r 0 0) (drop-maps 0)
@@ -186,11 +239,14 @@ module _ (s : State) (h : Lengths s) where
         «fetch_time» = s .«fetch_time»;
         sizes = take-at (s .sizes) (slotsOf s ++ mapsOf s) 8 (h .eight) i;
         readers = readers-numbers i;
-        marks = (ap (take 16) (drop-maps 257 ∙ drop-past (s .cached) (s .fetching ++ s .marks) 128 (h .cached-all) 128
-            ∙ drop-past (s .fetching) (s .marks) 128 (h .fetching-all) 0) ∙ take-all 16 (s .marks) (omega (arith, h .marks-all))) i;
-        cached = (ap (take 128) (drop-maps 1) ∙ take-at (s .cached) (s .fetching ++ s .marks) 128 (h .cached-all)) i;
-        fetching = (ap (take 128) (drop-maps 129 ∙ drop-past (s .cached) (s .fetching ++ s .marks) 128 (h .cached-all) 0)
-            ∙ take-at (s .fetching) (s .marks) 128 (h .fetching-all)) i;
+        marks = (ap (take 16) (drop-tail 0) ∙ take-at (s .marks) (rulesOf s) 16 (h .marks-all)) i;
+        rule = rule-number i;
+        expected = (ap (take 8) (drop-rules 2) ∙ take-at (s .expected) (s .attaches) 8 (h .expected-all)) i;
+        attaches = (ap (take 8) (drop-rules 10 ∙ drop-past (s .expected) (s .attaches) 8 (h .expected-all) 0)
+            ∙ take-all 8 (s .attaches) (omega (arith, h .attaches-all))) i;
+        cached = (ap (take 128) (drop-maps 1) ∙ take-at (s .cached) (s .fetching ++ tailOf s) 128 (h .cached-all)) i;
+        fetching = (ap (take 128) (drop-maps 129 ∙ drop-past (s .cached) (s .fetching ++ tailOf s) 128 (h .cached-all) 0)
+            ∙ take-at (s .fetching) (tailOf s) 128 (h .fetching-all)) i;
       }
 
 -- ---- the numbers of a state made of numbers
@@ -202,9 +258,10 @@ number-of (suc (suc n)) h = omega arith
 
 -- numbers that a state's table can have, but for their ranges
 pub record Table (v : List ℕ) : Type 0 where
-  pub long : length v ≡ 366
+  pub long : length v ≡ 384
   pub gap : getD v 2 0 ≡ 0
   pub gap-maps : getD v 93 0 ≡ 0
+  pub filler : getD v 367 0 ≡ 0
   pub conditions : (j : ℕ) → j < 16 → readerNumber v j 0 ≤ 2
 
 module _ (v : List ℕ) (t : Table v) where
@@ -217,6 +274,8 @@ module _ (v : List ℕ) (t : Table v) where
         eight = omega (arith, length-take 8 (drop 5 v), length-drop 5 v);
         sixteen = length-listed (readerFrom v) 16;
         marks-all = omega (arith, length-take 16 (drop 350 v), length-drop 350 v);
+        expected-all = omega (arith, length-take 8 (drop 368 v), length-drop 368 v);
+        attaches-all = omega (arith, length-take 8 (drop 376 v), length-drop 376 v);
         cached-all = omega (arith, length-take 128 (drop 94 v), length-drop 94 v);
         fetching-all = omega (arith, length-take 128 (drop 222 v), length-drop 222 v);
       }
@@ -236,9 +295,16 @@ module _ (v : List ℕ) (t : Table v) where
       (range-in (λ j. readerNumbers (readerFrom v j) ≡ take 5 (drop (13 + 5 * j) v)) 0 16 (λ j _ l. slot-from j l))
       ∙ each-part v 5 13 0 16
 
-  tail-from : stateFrom v .marks ≡ drop 350 v
+  rules-from : rulesOf (stateFrom v) ≡ drop 366 v
   unfolding stateFrom
-  tail-from = take-all 16 (drop 350 v) (omega (arith, t .long, length-drop 350 v))
+  rules-from =
+      let counts = ap (λ r. take 8 (drop 368 v) ++ r) (take-all 8 (drop 376 v) (omega (arith, t .long, length-drop 376 v))) ∙ rejoin v 368 8 in
+      let end = ap₂ _∷_ (sym (t .filler)) counts ∙ sym (drop-cons v 367 0 (omega (arith, t .long))) in
+      ap (λ r. getD v 366 0 ∷ r) end ∙ sym (drop-cons v 366 0 (omega (arith, t .long)))
+
+  tail-from : tailOf (stateFrom v) ≡ drop 350 v
+  unfolding stateFrom
+  tail-from = ap (λ r. take 16 (drop 350 v) ++ r) rules-from ∙ rejoin v 350 16
 
   maps-from : mapsOf (stateFrom v) ≡ drop 93 v
   unfolding stateFrom

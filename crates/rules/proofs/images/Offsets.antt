@@ -14,7 +14,8 @@ use Rattle.rules.proofs.laws.Members.{range-at}
 use Rattle.rules.proofs.laws.Indexed.{every-all}
 use Rattle.rules.proofs.images.Tables.{widths, total, number-at}
 
--- where the sizes, the readers, the 4 bytes of 0, the cached map, the fetch map and the marks begin: the laws below compute it from the table
+-- where the sizes, the readers, the 4 bytes of 0, the cached map, the fetch map, the marks, the rule with the 0 behind it, E and R begin: the laws below
+-- compute it from the table
 abbrev pub sizesAt : ℕ
 sizesAt = 12
 
@@ -32,6 +33,18 @@ fetchingAt = 1184
 
 abbrev pub marksAt : ℕ
 marksAt = 2208
+
+abbrev pub ruleAt : ℕ
+ruleAt = 2240
+
+abbrev pub fillerAt : ℕ
+fillerAt = 2241
+
+abbrev pub expectedStart : ℕ
+expectedStart = 2242
+
+abbrev pub attachesStart : ℕ
+attachesStart = 2258
 
 -- the width of a field of the table, and the place of its first byte
 abbrev wide : ℕ → ℕ
@@ -104,3 +117,23 @@ module _ (image : List ℕ) where
   pub mark-at : (j : ℕ) → j < 16 → getD (imageNumbers image) (350 + j) 0 ≡ numberOf (take 2 (drop (marksAt + 2 * j) image))
   unfolding layout each every range total
   mark-at = numbers-at (λ j. 350 + j) (λ j. 2) (λ j. marksAt + 2 * j) 16 tt image
+
+  -- the rule
+  pub rule-at : getD (imageNumbers image) 366 0 ≡ numberOf (take 1 (drop ruleAt image))
+  unfolding layout each every range total
+  rule-at = numbers-at (λ _. 366) (λ _. 1) (λ _. ruleAt) 1 tt image 0 (omega arith)
+
+  -- the 0 byte behind it
+  pub filler-at : getD (imageNumbers image) 367 0 ≡ numberOf (take 1 (drop fillerAt image))
+  unfolding layout each every range total
+  filler-at = numbers-at (λ _. 367) (λ _. 1) (λ _. fillerAt) 1 tt image 0 (omega arith)
+
+  -- the readers expected of file f
+  pub expected-at : (f : ℕ) → f < 8 → getD (imageNumbers image) (368 + f) 0 ≡ numberOf (take 2 (drop (expectedStart + 2 * f) image))
+  unfolding layout each every range total
+  expected-at = numbers-at (λ f. 368 + f) (λ f. 2) (λ f. expectedStart + 2 * f) 8 tt image
+
+  -- the attaches to file f
+  pub attaches-at : (f : ℕ) → f < 8 → getD (imageNumbers image) (376 + f) 0 ≡ numberOf (take 2 (drop (attachesStart + 2 * f) image))
+  unfolding layout each every range total
+  attaches-at = numbers-at (λ f. 376 + f) (λ f. 2) (λ f. attachesStart + 2 * f) 8 tt image

@@ -81,6 +81,15 @@ unfolding numbersIn
 numbers-length [] image = refl
 numbers-length (f ∷ fs) image = ap suc (numbers-length fs (drop (f .width) image))
 
+-- the numbers from number i on are those of the fields from there on
+pub numbers-drop : (fs : List Field) (image : List ℕ) (i : ℕ)
+    → drop i (numbersIn fs image) ≡ numbersIn (drop i fs) (drop (total (take i (widths fs))) image)
+unfolding numbersIn total
+numbers-drop fs image zero = refl
+numbers-drop [] image (suc i) = refl
+numbers-drop (f ∷ fs) image (suc i) =
+    numbers-drop fs (drop (f .width) image) i ∙ ap (numbersIn (drop i fs)) (drop-drop (total (take i (widths fs))) (f .width) image)
+
 -- number i stands at the sum of the widths before it, in as many bytes as its width
 pub number-at : (fs : List Field) (image : List ℕ) (i : ℕ)
     → getD (numbersIn fs image) i 0 ≡ numberOf (take (getD (widths fs) i 0) (drop (total (take i (widths fs))) image))

@@ -1,12 +1,14 @@
--- Laws of `some-of` and `least`. Assumes nothing.
+-- Laws of `some-of`, `least` and `total`. Assumes nothing.
 use mathlib.Core.Path.{_≡_, refl, sym, ap, _∙_, subst}
 use mathlib.Core.Bool.{Bool, true, false, _||_}
 use mathlib.Core.Logic.{_≢_}
-use Prim.Native.Nat.{ℕ, zero, suc, min, _≤_, _<_}
+use Prim.Native.Nat.{ℕ, zero, suc, min, _+_, _*_, _≤_, _<_}
 use native.Mathlib.Omega.{arith}
+use native.Mathlib.Nat.{suc-mul}
+use native.Mathlib.Numerals.{add-one}
 use lib.Dec.{T, eqb, eqb→eq, eqb-refl}
-use Rattle.rules.specs.Lists.{least, some-of}
-use Rattle.rules.proofs.laws.Tests.{leq, both, or-left, or-right}
+use Rattle.rules.specs.Lists.{least, some-of, total}
+use Rattle.rules.proofs.laws.Tests.{leq, less, both, or-left, or-right}
 
 pub some-mono : (m : ℕ) (P R : ℕ → Bool) → ((j : ℕ) → T (P j) → T (R j)) → T (some-of m P) → T (some-of m R)
 unfolding some-of
@@ -63,3 +65,31 @@ least-met (suc m) g far l =
     leq (g m) (least m g far) (λ _. (j : ℕ) × (j < suc m) × (min (g m) (least m g far) ≡ g j))
     (λ h. (m, omega arith, omega arith))
     (λ h. let r = least-met m g far (omega arith) in (r .0, omega (arith, r .1), omega (arith, r .2)))
+
+-- a sum: of none, and of one more
+pub total-none : (g : ℕ → ℕ) → 0 ≡ total 0 g
+unfolding total
+total-none g = refl
+
+pub total-more : (g : ℕ → ℕ) (j n m : ℕ) → n ≡ total j g → m ≡ g j → n + m ≡ total (j + 1) g
+unfolding total
+total-more g j n m e f = rw (add-one j) (omega (arith, e, f))
+
+-- sums go with what is summed
+pub total-mono : (m : ℕ) (f g : ℕ → ℕ) → ((j : ℕ) → f j ≤ g j) → total m f ≤ total m g
+unfolding total
+total-mono zero f g h = omega arith
+total-mono (suc m) f g h = omega (arith, h m, total-mono m f g h)
+
+-- each part is at most the sum, and the sum at most so often the largest
+pub total-part : (m : ℕ) (g : ℕ → ℕ) (j : ℕ) → j < m → g j ≤ total m g
+unfolding total
+total-part zero g j l = absurd (omega arith)
+total-part (suc m) g j l =
+    less j m (λ _. g j ≤ g m + total m g) (λ n. omega (arith, total-part m g j n))
+    (λ n. let e : j ≡ m = omega arith in subst (λ i. g i ≤ g m + total m g) (sym e) (omega arith))
+
+pub total-most : (m : ℕ) (g : ℕ → ℕ) (b : ℕ) → ((j : ℕ) → g j ≤ b) → total m g ≤ m * b
+unfolding total
+total-most zero g b h = omega arith
+total-most (suc m) g b h = omega (arith, h m, total-most m g b h, suc-mul m b)

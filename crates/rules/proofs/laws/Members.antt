@@ -1,5 +1,5 @@
 -- What holds of every member of a list, and of its parts. Assumes nothing.
-use mathlib.Core.Path.{_≡_, refl, ap, subst}
+use mathlib.Core.Path.{_≡_, refl, ap, ap₂, subst}
 use mathlib.Core.Bool.{Bool, true, false, cond, _&&_, _||_}
 use mathlib.Core.List.{List, [], _∷_, _++_}
 use mathlib.Core.Logic.{_≢_}
@@ -17,6 +17,10 @@ All Q (x ∷ xs) = Q x × All Q xs
 pub all-map : (Q R : ℕ → Type 0) (l : List ℕ) → ((x : ℕ) → Q x → R x) → All Q l → All R l
 all-map Q R [] f h = tt
 all-map Q R (x ∷ l) f h = (f x (h .0), all-map Q R l f (h .1))
+
+pub all-both : (Q R : ℕ → Type 0) (l : List ℕ) → All Q l → All R l → All (λ x. Q x × R x) l
+all-both Q R [] h k = tt
+all-both Q R (x ∷ l) h k = ((h .0, k .0), all-both Q R l (h .1) (k .1))
 
 pub all-append : (Q : ℕ → Type 0) (a b : List ℕ) → All Q a → All Q b → All Q (a ++ b)
 all-append Q [] b h k = k
@@ -55,6 +59,12 @@ only-only P R [] = refl
 only-only P R (x ∷ l) =
     both (P x) (λ t. only R (cond t (x ∷ only P l) (only P l)) ≡ cond (t && R x) (x ∷ only (λ k. P k && R k) l) (only (λ k. P k && R k) l))
     (λ _. ap (λ m. cond (R x) (x ∷ m) m) (only-only P R l)) (λ _. only-only P R l)
+
+-- two tests that agree on the members pick alike
+pub only-alike : (P Q : ℕ → Bool) (l : List ℕ) → All (λ k. P k ≡ Q k) l → only P l ≡ only Q l
+unfolding only
+only-alike P Q [] h = refl
+only-alike P Q (x ∷ l) h = ap₂ (λ b m. cond b (x ∷ m) m) (h .0) (only-alike P Q l (h .1))
 
 pub range-in : (Q : ℕ → Type 0) (a n : ℕ) → ((i : ℕ) → a ≤ i → i < a + n → Q i) → All Q (range a n)
 unfolding range

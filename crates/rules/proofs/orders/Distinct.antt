@@ -1,8 +1,8 @@
 -- No two pages have one rank or one use key, so each order is one of packed numbers, and a search finds its head. Assumes nothing.
-use mathlib.Core.Path.{_≡_, refl, sym, ap, _∙_, subst}
-use mathlib.Core.Bool.{Bool, true, not}
+use mathlib.Core.Path.{_≡_, sym, ap, _∙_, subst}
+use mathlib.Core.Bool.{Bool, not}
 use mathlib.Core.List.{map}
-use mathlib.Core.Option.{Option, none, some}
+use mathlib.Core.Option.{none, some}
 use mathlib.Core.Logic.{_⊎_, inl, inr, _↔_}
 use Prim.Native.Nat.{ℕ, _+_, _-_, _*_, _%_, _≤_, _<_}
 use native.Mathlib.Omega.{arith}
@@ -12,9 +12,9 @@ use Rattle.rules.specs.Pages.{fileOf, pageOf, cached, Page, pages, cache
 use Rattle.rules.specs.Readers.{readerAt}
 use Rattle.rules.specs.Valid.{Valid}
 use Rattle.rules.specs.UseTimes.{sees, timeFor, seat, never, useKey, ahead, seen}
-use Rattle.rules.specs.Orders.{place, stealOrder, wanted, fetchOrder, victim}
-use Rattle.rules.proofs.laws.Tests.{less, side, and-both, and-first, sixteen}
-use Rattle.rules.proofs.laws.Members.{only-true, only-only}
+use Rattle.rules.specs.Orders.{place, order1989, wanted, fetchOrder}
+use Rattle.rules.proofs.laws.Tests.{less, side, and-first, sixteen}
+use Rattle.rules.proofs.laws.Members.{only-only}
 use Rattle.rules.proofs.laws.Sorts.{by-falling, only-sorted}
 use Rattle.rules.proofs.calls.Valids.{placed-at}
 use Rattle.rules.specs.Ranks.{rank, cachedAmong, victimAmong, pack}
@@ -111,7 +111,7 @@ module _ (s : State) (w : Valid s) where
   cached-one k i a b = rank-one k i (w .cached-in k a) (w .cached-in i b)
 
   -- what code does: pack, sort the numbers, larger first, and take the keys off
-  pub steal-by-sort : stealOrder s ≡ map (λ n. n % 8192) (falling (λ n. n) (map (pack (rank s)) (cachedPages s)))
+  pub steal-by-sort : order1989 s ≡ map (λ n. n % 8192) (falling (λ n. n) (map (pack (rank s)) (cachedPages s)))
   unfolding cachedPages
   steal-by-sort = steal-ranked s w ∙ by-sort s w (cached s) (w .cached-in) _ larger-first (rank s) cached-one
 
@@ -152,45 +152,6 @@ module _ (s : State) (w : Valid s) where
       λ e. none-in s w (cachedAmong files s) among-in _ larger-first (rank s) (sym among-ranked ∙ e),
       λ h. among-ranked ∙ none-of s w (cachedAmong files s) among-in _ larger-first (rank s) h,
     )
-
-  -- ---- the box's own, of all files
-
-  abbrev all : ℕ → Bool
-  all f = true
-
-  of-all : (k : ℕ) → T (cached s k) → T (cachedAmong all s k)
-  of-all k h = and-both (cached s k) true h tt
-
-  victim-all : victim s ≡ victimAmong all s
-  unfolding victim victimAmong
-  victim-all = ap head (sym (only-true (stealOrder s)))
-
-  -- the victim is cached
-  pub victim-cached : (v : ℕ) → victim s ≡ some v → T (cached s v)
-  victim-cached v e = and-first (cached s v) _ (among-cached all v (sym victim-all ∙ e))
-
-  -- the victim has the largest rank
-  pub victim-top : (v : ℕ) → victim s ≡ some v → (k : ℕ) → T (cached s k) → rank s k ≤ rank s v
-  victim-top v e k h = among-top all v (sym victim-all ∙ e) k (of-all k h)
-
-  -- there is no victim exactly where nothing is cached
-  pub no-victim : (victim s ≡ none) ↔ ((k : ℕ) → T (cached s k) → ⊥)
-  no-victim = (
-    λ e k c. among-none all .0 (sym victim-all ∙ e) k (of-all k c),
-    λ h. victim-all ∙ among-none all .1 (λ k c. h k (and-first (cached s k) _ c)),
-  )
-
-  -- a set that has every file gives the victim
-  pub among-all : (files : ℕ → Bool) → ((f : ℕ) → f < 8 → T (files f)) → victimAmong files s ≡ victim s
-  among-all files has = go (victim s) refl
-    where
-      go : (o : Option ℕ) → victim s ≡ o → victimAmong files s ≡ victim s
-      go none e = among-none files .1 (λ k c. no-victim .0 e k (and-first (cached s k) _ c)) ∙ sym e
-      go (some v) e =
-          let c = victim-cached v e in
-          head-is files v (and-both (cached s v) _ c (has (fileOf v) (omega (arith, w .cached-in v c .low))))
-          (λ k h. victim-top v e k (and-first (cached s k) _ h))
-          ∙ sym e
 
   -- ---- the fetch order
 

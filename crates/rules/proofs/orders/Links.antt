@@ -10,7 +10,7 @@ use Rattle.rules.specs.Lists.{only, falling, rising, some-of, least}
 use Rattle.rules.specs.Pages.{keyOf, pages, cached, inFetch}
 use Rattle.rules.specs.Readers.{readerAt}
 use Rattle.rules.specs.UseTimes.{before, steps, present, missing, between, pruned, sees, timeFor, seat, never, useFor, useKey, ahead, seen}
-use Rattle.rules.specs.Orders.{place, notAhead, notSeen, useTime, stealOrder, absent, fetchOrder}
+use Rattle.rules.specs.Orders.{place, notAhead, notSeen, useTime, order1989, absent, fetchOrder}
 use Rattle.rules.specs.Views.{noPages}
 use Rattle.rules.proofs.laws.Tests.{is-false}
 use Rattle.rules.proofs.calls.Kept.{blank-off}
@@ -45,8 +45,8 @@ module _ (s : State) (q : Reader → ℕ → ℕ) where
   fetchBy = rising keyBy (only (λ k. seenBy k && absent s k) (pages s))
 
 -- the rules' own are those by `between`
-steal-by : (s : State) → stealOrder s ≡ stealBy s (between s)
-unfolding stealOrder notAhead notSeen useTime useKey seen useFor timeFor sees
+steal-by : (s : State) → order1989 s ≡ stealBy s (between s)
+unfolding order1989 notAhead notSeen useTime useKey seen useFor timeFor sees
 steal-by s = refl
 
 fetch-by : (s : State) → fetchOrder s ≡ fetchBy s (between s)
@@ -84,7 +84,7 @@ module _ (s : State) (closed : (k : ℕ) → T (inFetch s k) → ⊥) where
   between-01 = fun-ext (λ r. fun-ext (λ k. missing-cached (r .file) (r .position) (steps r k - 1)))
 
   -- the orders are those of 01
-  pub steal-01 : stealOrder s ≡ stealBy s (q01 s)
+  pub steal-01 : order1989 s ≡ stealBy s (q01 s)
   steal-01 = steal-by s ∙ ap (stealBy s) between-01
 
   pub fetch-01 : fetchOrder s ≡ fetchBy s (q01 s)

@@ -1,5 +1,5 @@
--- A page's rank hangs on its own file alone, and on turn, look-ahead and fetch time; two states alike in every file have one steal order. Where fetches take
--- no time, it does not hang on what is present either: q is there and counts for nothing. Assumes nothing.
+-- A page's rank hangs on its own file alone, and on turn, look-ahead and fetch time; two states alike in every file have one steal order by the 1989
+-- rule. Where fetches take no time, it does not hang on what is present either: q is there and counts for nothing. Assumes nothing.
 use mathlib.Core.Path.{_≡_, refl, sym, ap, ap₂, _∙_, fun-ext}
 use mathlib.Core.Bool.{false, cond, _&&_, and-assoc}
 use mathlib.Core.Logic.{_⊎_, inl, inr}
@@ -13,7 +13,7 @@ use Rattle.rules.specs.Pages.{size, fileOf, keyOf, cached, pages, cached
 use Rattle.rules.specs.Readers.{readerAt, attached, readsFile}
 use Rattle.rules.specs.Valid.{Valid}
 use Rattle.rules.specs.UseTimes.{before, steps, present, missing, between, pruned, sees, timeFor, never, useFor, useKey, ahead, seen}
-use Rattle.rules.specs.Orders.{stealOrder}
+use Rattle.rules.specs.Orders.{order1989}
 use Rattle.rules.proofs.laws.Tests.{both, is-false, and-second}
 use Rattle.rules.specs.Ranks.{rank, Presents}
 use Rattle.rules.proofs.orders.Ranks.{steal-ranked}
@@ -157,8 +157,8 @@ module _ (s t : State) (k : ℕ) (a : SameFile (fileOf k) s t) where
       let z : useKey s k ≡ useKey t k = ap (λ g. least 16 g never) (fun-ext (λ j. slot-same j .use-alike)) in
       rw (x, y, z)
 
--- two states alike in every file have one steal order
-pub steal-local : (s t : State) → Valid s → Valid t → ((f : ℕ) → SameFile f s t) → stealOrder s ≡ stealOrder t
+-- two states alike in every file have one steal order by the 1989 rule
+pub steal-local : (s t : State) → Valid s → Valid t → ((f : ℕ) → SameFile f s t) → order1989 s ≡ order1989 t
 unfolding cachedPages pages
 steal-local s t v w a =
     let r : rank s ≡ rank t = fun-ext (λ k. rank-local s t k (a (fileOf k))) in

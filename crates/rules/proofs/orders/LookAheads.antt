@@ -62,7 +62,7 @@ missing-more s f c n (suc m) =
     let e : missing s f c (suc m + n) ≡ missing s f c (suc (m + n)) = ap (missing s f c) (omega arith) in
     omega (arith, missing-one s f c (m + n), missing-more s f c n m)
 
-pruned-rises : (s : State) (q m : ℕ) → q ≤ m → T (pruned s q) → T (pruned s m)
+pub pruned-rises : (s : State) (q m : ℕ) → q ≤ m → T (pruned s q) → T (pruned s m)
 unfolding pruned
 pruned-rises s q m l h =
     let n : ℕ = s .«look_ahead» / s .«fetch_time» in

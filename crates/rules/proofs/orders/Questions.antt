@@ -3,16 +3,17 @@
 use mathlib.Core.Path.{_≡_, refl, sym, subst}
 use mathlib.Core.Bool.{Bool, true, false, cond}
 use mathlib.Core.List.{[]}
-use Prim.Native.Nat.{ℕ, zero, suc, _+_, _*_, _/_, _≤_, _<_}
+use Prim.Native.Nat.{ℕ, _+_, _*_, _/_, _≤_, _<_}
 use native.Mathlib.Omega.{arith}
 use lib.Dec.{T, eqb, eqb→eq}
 use Rattle.bits.specs.Map.{oneOf}
-use Rattle.rules.specs.Lists.{any, total}
+use Rattle.rules.specs.Lists.{any}
 use Rattle.rules.specs.Pages.{pages}
 use Rattle.rules.specs.Readers.{readerAt, attached}
 use Rattle.rules.specs.UseTimes.{sees, lookAhead, timeFor, seat, useKey, seen}
 use Rattle.rules.specs.Questions.{slotAt, whenOf, wordsOf, wordsRead, wordsMost}
 use Rattle.rules.specs.Valid.{Valid}
+use Rattle.rules.proofs.laws.Leasts.{total-mono}
 use Rattle.rules.proofs.laws.Tests.{is-true, sixteen}
 use Rattle.rules.proofs.laws.Members.{any-only}
 use Rattle.rules.proofs.laws.Keys.{one-of, one-of-count}
@@ -61,12 +62,6 @@ answer-soonest s w k h =
     )
 
 -- ---- the words
-
--- sums go with what is summed
-total-mono : (m : ℕ) (f g : ℕ → ℕ) → ((j : ℕ) → f j ≤ g j) → total m f ≤ total m g
-unfolding total
-total-mono zero f g h = omega arith
-total-mono (suc m) f g h = omega (arith, h m, total-mono m f g h)
 
 -- of no page there is none
 pub no-words : wordsOf [] ≡ 0

@@ -1,4 +1,4 @@
--- The steal order is the cached pages by falling rank. Assumes nothing.
+-- The steal order of the 1989 rule is the cached pages by falling rank. Assumes nothing.
 use mathlib.Core.Path.{_≡_, refl, sym, ap, ap₂, _∙_, fun-ext}
 use mathlib.Core.Bool.{Bool, true, false, not, _&&_}
 use mathlib.Core.List.{_++_}
@@ -12,7 +12,7 @@ use Rattle.rules.specs.Pages.{size, fileOf, cached, Page, pages, cachedP
 use Rattle.rules.specs.Readers.{readerAt}
 use Rattle.rules.specs.Valid.{Valid}
 use Rattle.rules.specs.UseTimes.{before, steps, between, pruned, sees, timeFor, never, useFor, useKey, ahead, seen}
-use Rattle.rules.specs.Orders.{place, notAhead, notSeen, useTime, stealOrder}
+use Rattle.rules.specs.Orders.{place, notAhead, notSeen, useTime, order1989}
 use Rattle.rules.specs.Ranks.{rank}
 use Rattle.rules.proofs.laws.Tests.{leq, side, is-true, is-false, not-not, and-first, and-second}
 use Rattle.rules.proofs.laws.Members.{All, all-only, only-only, range-in, range-at, each-in, each-at}
@@ -141,9 +141,9 @@ module _ (s : State) (w : Valid s) where
   seen-test true false false h = refl
   seen-test false a e h = refl
 
-  -- the steal order is the cached pages by falling rank
-  pub steal-ranked : stealOrder s ≡ falling (rank s) (cachedPages s)
-  unfolding stealOrder cachedPages
+  -- the steal order of the 1989 rule is the cached pages by falling rank
+  pub steal-ranked : order1989 s ≡ falling (rank s) (cachedPages s)
+  unfolding order1989 cachedPages
   steal-ranked =
       sym (first
       ∙ ap₂ _++_ (ap (falling (rank s)) (only-only (cached s) (λ k. not (ahead s k)) (pages s)) ∙ behind-part)

@@ -11,7 +11,7 @@ use Rattle.rules.specs.Lists.{range, each, only, every, put, sorted, lea
 use Rattle.rules.specs.Pages.{keyOf, pages, cachedPages, fetchingPages, held, ends, clusters}
 use Rattle.rules.specs.Readers.{noReader, readerAt, markAt}
 use Rattle.rules.specs.UseTimes.{before, present, missing, pruned, sees, lookAhead, tested, timeFor, useFor, useKey, ahead, seen}
-use Rattle.rules.specs.Orders.{notAhead, notSeen, useTime, stealOrder, fetchOrder, victim}
+use Rattle.rules.specs.Orders.{notAhead, notSeen, useTime, order1989, stealOrder, fetchOrder, victim}
 use Rattle.rules.specs.Calls.{
   withMarks,
   withSlot,
@@ -46,7 +46,7 @@ use Rattle.rules.specs.Listings.{
   fetchListOf,
   clustersOf,
 }
-use Rattle.rules.specs.Image.{conditionNumber, layout, bytesOf, imageOf, Saved, saveOf, numberOf, numbersIn, filledSlot, upgraded}
+use Rattle.rules.specs.Image.{conditionNumber, layout, bytesOf, imageOf, Saved, saveOf, numberOf, numbersIn, filledSlot, marked, ruled, upgraded}
 use Rattle.rules.specs.Entries.{code, Call, attach, detach, read, arrive, lost, run, measure, callOf}
 use Rattle.rules.specs.Lines.{
   split,
@@ -64,7 +64,7 @@ use Rattle.rules.specs.Lines.{
   programOf,
 }
 use Rattle.rules.specs.Schedules.{num}
-use Rattle.rules.proofs.tables.Soundings.{upTo, stateWith, reader, at, f0}
+use Rattle.rules.proofs.tables.Soundings.{upTo, stateBy, stateWith, reader, at, f0}
 use Rattle.rules.proofs.tables.Sample.{bytes}
 use Rattle.rules.specs.declared.State.{State}
 use Rattle.rules.specs.declared.Reader.{Reader}
@@ -80,24 +80,26 @@ pub record Row : Type 0 where
   pub found : List ℕ
   pub due : List ℕ
 
-abbrev row : List ℕ → List ℕ → Row
+abbrev pub row : List ℕ → List ℕ → Row
 row found due = record { found = found; due = due }
 
 abbrev pub Hold : List Row → Type 0
 Hold rows = map (λ r. r .found) rows ≡ map (λ r. r .due) rows
 
--- ---- Save: the image, "little-endian"; A.2: of 2,240 bytes
+-- ---- Save: the image, "little-endian"; A.6: of 2,274 bytes
 
 -- the bytes that are not 0, each behind its place
 unfoldable pub nonzero : ℕ → List ℕ → List ℕ
 nonzero i [] = []
 nonzero i (b ∷ bs) = cond (eqb b 0) [] (i ∷ b ∷ []) ++ nonzero (i + 1) bs
 
--- numbers of several bytes, a reader that runs, one that waits, one in the last slot, the first and the last page cached, a page in fetch
+-- numbers of several bytes, a reader that runs, one that waits, one in the last slot, the first and the last page cached, a page in fetch; by
+-- the 1993 rule, with the most readers that can be expected of a file, and the most that are counted
 abbrev laden : State
 laden =
     withMarks
-    (stateWith 770 11 1967877 657672 (1024 ∷ 300 ∷ 0 ∷ 0 ∷ 0 ∷ 0 ∷ 0 ∷ 1024 ∷ [])
+    (stateBy 1 (1000 ∷ 0 ∷ 0 ∷ 0 ∷ 0 ∷ 0 ∷ 0 ∷ 1 ∷ []) (0 ∷ 65535 ∷ 0 ∷ 0 ∷ 0 ∷ 0 ∷ 0 ∷ 258 ∷ []) 770 11 1967877 657672
+    (1024 ∷ 300 ∷ 0 ∷ 0 ∷ 0 ∷ 0 ∷ 0 ∷ 1024 ∷ [])
     (reader Running 0 1000 513 772 ∷ reader Waiting 1 258 299 300 ∷ (replicate 13 noReader ++ reader Running 7 1 2 3 ∷ []))
     (0 ∷ 9 ∷ 1024 ∷ 8191 ∷ []) (1323 ∷ []))
     (258 ∷ 299 ∷ (replicate 13 0 ++ 1 ∷ []))
@@ -114,7 +116,9 @@ image =
     -- the cached map and the fetch map
     ∷ 160 ∷ 1 ∷ 161 ∷ 2 ∷ 288 ∷ 1 ∷ 1183 ∷ 128 ∷ 1349 ∷ 8
     -- the marks of the three
-    ∷ 2208 ∷ 2 ∷ 2209 ∷ 1 ∷ 2210 ∷ 43 ∷ 2211 ∷ 1 ∷ 2238 ∷ 1 ∷ []
+    ∷ 2208 ∷ 2 ∷ 2209 ∷ 1 ∷ 2210 ∷ 43 ∷ 2211 ∷ 1 ∷ 2238 ∷ 1
+    -- the rule, E of files 0 and 7, R of files 1 and 7
+    ∷ 2240 ∷ 1 ∷ 2242 ∷ 232 ∷ 2243 ∷ 3 ∷ 2256 ∷ 1 ∷ 2260 ∷ 255 ∷ 2261 ∷ 255 ∷ 2272 ∷ 2 ∷ 2273 ∷ 1 ∷ []
 
 -- the number, and the buffer after the call: its length and its bytes that are not 0
 unfoldable pub saved : Saved → List ℕ
@@ -123,21 +127,21 @@ saved r = code (r .answer) ∷ length (r .buffer) ∷ nonzero 0 (r .buffer)
 -- "12: buffer shorter; bytes after .. keep"
 unfoldable pub saves : List Row
 saves =
-    row (saved (saveOf laden (7 ∷ replicate 2207 0))) (12 ∷ 2208 ∷ 0 ∷ 7 ∷ [])
-    ∷ row (saved (saveOf laden (7 ∷ replicate 2238 0))) (12 ∷ 2239 ∷ 0 ∷ 7 ∷ [])
-    ∷ row (saved (saveOf laden (replicate 2240 9))) (5177344 ∷ 2240 ∷ image)
-    ∷ row (saved (saveOf laden (replicate 2241 9))) (5177344 ∷ 2241 ∷ (image ++ 2240 ∷ 9 ∷ []))
+    row (saved (saveOf laden (7 ∷ replicate 2239 0))) (12 ∷ 2240 ∷ 0 ∷ 7 ∷ [])
+    ∷ row (saved (saveOf laden (7 ∷ replicate 2272 0))) (12 ∷ 2273 ∷ 0 ∷ 7 ∷ [])
+    ∷ row (saved (saveOf laden (replicate 2274 9))) (5177344 ∷ 2274 ∷ image)
+    ∷ row (saved (saveOf laden (replicate 2275 9))) (5177344 ∷ 2275 ∷ (image ++ 2274 ∷ 9 ∷ []))
     ∷ []
 
 pub saves-hold : Hold saves
 unfolding saves saved nonzero bit putBit each layout bytesOf imageOf saveOf code
 saves-hold = refl
 
--- ---- an older image: A.2: "2,208 bytes are still read, marks equal to positions"
+-- ---- an older image: A.2: "2,208 bytes are still read, marks equal to positions"; A.6: "shorter ones are read as 1989 with E and R 0"
 
--- two readers, the first without its last page, and an empty slot between them
+-- two readers, the first without its last page, and an empty slot between them; by the 1993 rule, with readers expected and attached
 abbrev unfilled : State
-unfilled = stateWith 1 0 1 0 (1024 ∷ 300 ∷ []) (reader Running 1 10 299 0 ∷ noReader ∷ reader Running 0 10 2 3 ∷ replicate 13 noReader) [] []
+unfilled = stateBy 1 (7 ∷ []) (8 ∷ []) 1 0 1 0 (1024 ∷ 300 ∷ []) (reader Running 1 10 299 0 ∷ noReader ∷ reader Running 0 10 2 3 ∷ replicate 13 noReader) [] []
 
 -- an image's length and its bytes that are not 0 behind the first 28
 unfoldable pub laidOut : List ℕ → List ℕ
@@ -147,16 +151,19 @@ unfoldable pub older : List Row
 older =
     -- the last page is the file's size, 300, and the marks are 299 and 2
     row (laidOut (upgraded (take 2208 (imageOf unfilled))))
-    (2240 ∷ 28 ∷ 1 ∷ 29 ∷ 1 ∷ 30 ∷ 10 ∷ 32 ∷ 43 ∷ 33 ∷ 1 ∷ 34 ∷ 44 ∷ 35 ∷ 1 ∷ 44 ∷ 1 ∷ 46 ∷ 10 ∷ 48 ∷ 2 ∷ 50 ∷ 3
+    (2274 ∷ 28 ∷ 1 ∷ 29 ∷ 1 ∷ 30 ∷ 10 ∷ 32 ∷ 43 ∷ 33 ∷ 1 ∷ 34 ∷ 44 ∷ 35 ∷ 1 ∷ 44 ∷ 1 ∷ 46 ∷ 10 ∷ 48 ∷ 2 ∷ 50 ∷ 3
     ∷ 2208 ∷ 43 ∷ 2209 ∷ 1 ∷ 2212 ∷ 2 ∷ [])
-    -- "in it, or a longer one", an image stays as it is
+    -- one of 2,240 bytes gets rule, E and R alone
+    ∷ row (laidOut (upgraded (take 2240 (imageOf unfilled))))
+    (2274 ∷ 28 ∷ 1 ∷ 29 ∷ 1 ∷ 30 ∷ 10 ∷ 32 ∷ 43 ∷ 33 ∷ 1 ∷ 44 ∷ 1 ∷ 46 ∷ 10 ∷ 48 ∷ 2 ∷ 50 ∷ 3 ∷ [])
+    -- "only shorter images come back longer": one of 2,274 stays as it is
     ∷ row (laidOut (upgraded (imageOf unfilled)))
-    (2240 ∷ 28 ∷ 1 ∷ 29 ∷ 1 ∷ 30 ∷ 10 ∷ 32 ∷ 43 ∷ 33 ∷ 1 ∷ 44 ∷ 1 ∷ 46 ∷ 10 ∷ 48 ∷ 2 ∷ 50 ∷ 3 ∷ [])
+    (2274 ∷ 28 ∷ 1 ∷ 29 ∷ 1 ∷ 30 ∷ 10 ∷ 32 ∷ 43 ∷ 33 ∷ 1 ∷ 44 ∷ 1 ∷ 46 ∷ 10 ∷ 48 ∷ 2 ∷ 50 ∷ 3 ∷ 2240 ∷ 1 ∷ 2242 ∷ 7 ∷ 2258 ∷ 8 ∷ [])
     ∷ row (upgraded (7 ∷ [])) (7 ∷ [])
     ∷ []
 
 pub older-hold : Hold older
-unfolding older laidOut nonzero bit putBit range each layout bytesOf numberOf numbersIn imageOf filledSlot upgraded
+unfolding older laidOut nonzero bit putBit range each layout bytesOf numberOf numbersIn imageOf filledSlot marked ruled upgraded
 older-hold = refl
 
 -- ---- Steal list, Fetch list, Clusters: "All: 12, list too short. Past what is written the list is unchanged"
@@ -194,7 +201,7 @@ lists =
 
 pub lists-hold : Hold lists
 unfolding lists written made bit putBit range each only put sorted least some-of total pages held ends clusters before present missing pruned
-    sees lookAhead tested timeFor useFor useKey ahead seen notAhead notSeen useTime stealOrder fetchOrder listed orderListed
+    sees lookAhead tested timeFor useFor useKey ahead seen notAhead notSeen useTime order1989 stealOrder fetchOrder listed orderListed
     stealListOf fetchListOf clustersOf
 lists-hold = refl
 
@@ -372,7 +379,7 @@ orders =
 
 pub orders-hold : Hold orders
 unfolding orders bit putBit range each only put sorted least some-of pages held ends clusters before present missing pruned sees
-    timeFor useFor useKey ahead seen notAhead notSeen useTime stealOrder fetchOrder
+    timeFor useFor useKey ahead seen notAhead notSeen useTime order1989 stealOrder fetchOrder
 orders-hold = refl
 
 -- ---- what Arrive, Lost, Detach and Steal leave
@@ -423,7 +430,7 @@ effects =
 
 pub effects-hold : Hold effects
 unfolding effects leaves stolenTwice bit putBit range each only put sorted least some-of pages cachedPages fetchingPages before
-    present missing pruned sees timeFor useFor useKey ahead seen notAhead notSeen useTime stealOrder victim full dropped woken landed
+    present missing pruned sees timeFor useFor useKey ahead seen notAhead notSeen useTime order1989 stealOrder victim full dropped woken landed
     forFetch readRunning readOf arriveOf lostOf detachOf stealOf
 effects-hold = refl
 
@@ -448,7 +455,7 @@ texts =
 
 pub texts-hold : Hold texts
 unfolding texts bytes bit putBit range each only every put sorted least some-of pages cachedPages fetchingPages held ends clusters
-    before present missing pruned sees timeFor useFor useKey ahead seen notAhead notSeen useTime stealOrder fetchOrder victim attachOf
+    before present missing pruned sees timeFor useFor useKey ahead seen notAhead notSeen useTime order1989 stealOrder fetchOrder victim attachOf
     readRunning readOf stealOf full dropped woken landed forFetch arriveOf detachOf lostOf prefetchOf fetchOpen readTurn turnOf turnsOf
     runOf split isDecimal decimalValue isField wellFormed digitsOf lineOf obeyed respondOf linesOf answers programOf
 texts-hold = refl

@@ -8,7 +8,7 @@ use Rattle.rules.specs.Lists.{range, each, only, put, sorted, least, som
 use Rattle.rules.specs.Pages.{keyOf, pages, held, ends, clusters}
 use Rattle.rules.specs.Readers.{noReader}
 use Rattle.rules.specs.UseTimes.{before, present, missing, pruned, sees, timeFor, useFor, useKey, ahead, seen}
-use Rattle.rules.specs.Orders.{notAhead, notSeen, useTime, stealOrder, fetchOrder}
+use Rattle.rules.specs.Orders.{notAhead, notSeen, useTime, order1989, stealOrder, fetchOrder}
 use Rattle.rules.specs.declared.State.{State}
 use Rattle.rules.specs.declared.Reader.{Reader}
 use Rattle.rules.specs.declared.Condition.{Condition}
@@ -37,9 +37,9 @@ pub record Row : Type 0 where
   pub sought : Sought
   pub answer : List ℕ
 
--- a state, of frames, turn, L, T, sizes, readers, cached pages and pages in fetch: no further files and readers, and all marks 0
-abbrev pub stateWith : ℕ → ℕ → ℕ → ℕ → List ℕ → List Reader → List ℕ → List ℕ → State
-stateWith frames turn look time sizes readers cached fetching =
+-- a state, of rule, E and R, frames, turn, L, T, sizes, readers, cached pages and pages in fetch: no further files and readers, and all marks 0
+abbrev pub stateBy : ℕ → List ℕ → List ℕ → ℕ → ℕ → ℕ → ℕ → List ℕ → List Reader → List ℕ → List ℕ → State
+stateBy rule expected attaches frames turn look time sizes readers cached fetching =
     record {
       frames = frames;
       turn = turn;
@@ -48,9 +48,16 @@ stateWith frames turn look time sizes readers cached fetching =
       sizes = take 8 (sizes ++ replicate 8 0);
       readers = take 16 (readers ++ replicate 16 noReader);
       marks = replicate 16 0;
+      rule = rule;
+      expected = take 8 (expected ++ replicate 8 0);
+      attaches = take 8 (attaches ++ replicate 8 0);
       cached = mapOf cached;
       fetching = mapOf fetching;
     }
+
+-- by the 1989 rule, E and R 0
+abbrev pub stateWith : ℕ → ℕ → ℕ → ℕ → List ℕ → List Reader → List ℕ → List ℕ → State
+stateWith = stateBy 0 [] []
 
 -- the state of a row: L 40
 abbrev pub stateOf : Row → State
@@ -140,10 +147,10 @@ Told rows = map (λ r. find (r .sought) (stateOf r)) rows ≡ map (λ r. r .answ
 -- every row holds, computed from the rules
 pub soundings : Told table
 unfolding table putBit range each only put sorted least some-of bit pages before present missing pruned sees timeFor useFor useKey
-    ahead seen notAhead notSeen useTime stealOrder fetchOrder held ends clusters
+    ahead seen notAhead notSeen useTime order1989 stealOrder fetchOrder held ends clusters
 soundings = refl
 
 pub worked-hold : Told worked
 unfolding worked putBit range each only put sorted least some-of bit pages before present missing pruned sees timeFor useFor useKey
-    ahead seen notAhead notSeen useTime stealOrder fetchOrder held ends clusters
+    ahead seen notAhead notSeen useTime order1989 stealOrder fetchOrder held ends clusters
 worked-hold = refl

@@ -1,7 +1,6 @@
 -- Under the premises of the third statement the head of the steal order is the cached page that is read last. Assumes nothing.
 use mathlib.Core.Path.{_≡_, refl, ap, _∙_, subst}
 use mathlib.Core.Bool.{Bool, true, false, not, cond, _&&_}
-use mathlib.Core.List.{List}
 use mathlib.Core.Logic.{_⊎_, inl, inr}
 use mathlib.Core.Option.{some}
 use Prim.Native.Nat.{ℕ, _+_, _-_, _*_, _/_, _%_, _≤_, _<_}
@@ -21,7 +20,7 @@ use Rattle.rules.proofs.calls.Valids.{placed-at}
 use Rattle.rules.proofs.orders.LookAheads.{before-is}
 use Rattle.rules.specs.Ranks.{rank}
 use Rattle.rules.proofs.orders.Ranks.{seen-small, rank-behind, rank-unseen, rank-seen}
-use Rattle.rules.proofs.orders.Distinct.{victim-top}
+use Rattle.rules.proofs.orders.Victims.{victim-top}
 use Rattle.rules.proofs.third.Belady.{nextUse}
 use Rattle.rules.proofs.third.Scan.{Slot, Slots, vacant, reader, requests, away, Fits, nearest, next-use}
 use Rattle.rules.specs.declared.State.{State}
@@ -159,7 +158,7 @@ module _ (s : State) (v : Valid s) (w : ℕ) (p : Premises s w) where
   victim-last n i e k c =
       omega (
         arith,
-        rank-nearest n k i (victim-top s v i e k c),
+        rank-nearest n k i (victim-top s v (p .by-1989) i e k c),
         next-use n (slots s) (s .turn) k (v .turn-high) (fits s v),
         next-use n (slots s) (s .turn) i (v .turn-high) (fits s v),
       )

@@ -28,18 +28,19 @@ module _ (s : State) (v : Valid s) (w : ℕ) where
 
   pub third-in-full : ((slot : ℕ) → Attached slot → readerAt s slot .pace ≡ w) → s .«fetch_time» ≡ 0
       → ((slot : ℕ) → Attached slot → w * readerAt s slot .last ≤ s .«look_ahead») → length (fetchingPages s) ≡ 0
-      → (n : ℕ) → n ≤ 16384
+      → s .rule ≡ 0 → (n : ℕ) → n ≤ 16384
       → (fetches : ℕ) × (reads : ℕ) × (runOf s n .answer ≡ Ran fetches reads)
       × (hitPages n s ≡ laid n s) × (reads ≡ length (laid n s))
       × Serves 8192 (s .frames) (laid n s) (hitSets n s) × (fetches ≡ fetchesIn 8192 (cached s) (hitSets n s))
       × ((Bs : List Set) → Serves 8192 (s .frames) (laid n s) Bs → fetches ≤ fetchesIn 8192 (cached s) Bs)
   unfolding fetchOpen
-  third-in-full paces time covers closed n most =
+  third-in-full paces time covers closed rule n most =
       let p : Premises s w = record {
         one-pace = λ j a. paces j (holds-one j a);
         no-time = time;
         covers = λ j a. covers j (holds-one j a);
         none-open = rw closed refl;
+        by-1989 = rule;
       } in
       let r = third s n .best v w p most in
       let b = r .3 in

@@ -136,4 +136,5 @@ module _ (s : State) (v : Valid s) where
     no-time = p .no-time;
     covers = λ j. moved-all (λ r. T (attached r) → Covers s w r) j (p .covers j) (p .covers j);
     none-open = ap (λ f. not (eqb (length (only f (pages s))) 0)) e ∙ p .none-open;
+    by-1989 = p .by-1989;
   }

@@ -1,15 +1,16 @@
 -- A reader that begins to wait, and its page in fetch, leave the steal order as it was where fetches take no time. Assumes nothing.
-use mathlib.Core.Path.{_≡_, refl, sym}
+use mathlib.Core.Path.{_≡_, refl, sym, ap}
+use mathlib.Core.Bool.{cond}
 use mathlib.Core.List.{List}
 use mathlib.Core.Logic.{inl}
 use Prim.Native.Nat.{ℕ, _<_}
 use native.Mathlib.Omega.{arith}
-use lib.ListN.{getD, set}
+use lib.ListN.{getD, set, length}
 use lib.Seq.{getD-set-same, getD-set-other}
-use lib.Dec.{T}
+use lib.Dec.{T, eqb}
 use Rattle.rules.specs.Readers.{noReader, readerAt, attached, inCondition}
 use Rattle.rules.specs.Valid.{Valid}
-use Rattle.rules.specs.Orders.{stealOrder}
+use Rattle.rules.specs.Orders.{weight, repeated, order1993, stealOrder}
 use Rattle.rules.specs.Calls.{withReaders, withFetching}
 use Rattle.rules.proofs.laws.Tests.{key, is-true}
 use Rattle.rules.proofs.orders.Local.{AlikeReader, alike-same, steal-local}
@@ -29,11 +30,14 @@ module _ (s : State) (v : Valid s) (u : ℕ) (l : u < 16) (here : T (attached (r
       (record { attached-same = sym (is-true _ here); file-same = refl; pace-same = refl; position-same = refl; last-same = refl }))
       (λ ne. alike-same (getD-set-other (s .readers) u j _ noReader (λ e. ne (sym e))))
 
-  -- the steal order once reader u waits, whatever is in fetch. A page in fetch is one less that q counts (A.5); with T = 0, which the third statement has, that
-  -- moves no use key
+  -- the steal order once reader u waits, whatever is in fetch, under either rule. A page in fetch is one less that q counts (A.5); with T = 0, which the
+  -- third statement has, that moves no use key
   pub steal-same : s .«fetch_time» ≡ 0 → (fetching : List ℕ) → Valid (withFetching (withReaders s (paused s u)) fetching)
       → stealOrder (withFetching (withReaders s (paused s u)) fetching) ≡ stealOrder s
-  steal-same free fetching w = steal-local (withFetching (withReaders s (paused s u)) fetching) s w v
+  unfolding stealOrder order1993
+  steal-same free fetching w =
+      ap (λ l. cond (eqb (s .rule) 0) l (repeated (s .frames) (weight s) (length l) l))
+      (steal-local (withFetching (withReaders s (paused s u)) fetching) s w v
       (λ f.
       record {
         turn-same = refl;
@@ -43,4 +47,4 @@ module _ (s : State) (v : Valid s) (u : ℕ) (l : u < 16) (here : T (attached (r
         readers-same = λ j. inl (paused-alike j);
         cached-same = λ k _. refl;
         present-same = λ h. absurd (omega (arith, free));
-      })
+      }))

@@ -11,7 +11,7 @@ use Rattle.rules.specs.Pages.{pages, cached, cachedPages, fetchingPages}
 use Rattle.rules.specs.Readers.{noReader, readerAt, attached}
 use Rattle.rules.specs.Valid.{Valid, Placed, ReaderIn}
 use Rattle.rules.specs.UseTimes.{before, present, missing, pruned, sees, timeFor, useFor, useKey, ahead, seen}
-use Rattle.rules.specs.Orders.{notAhead, notSeen, useTime, stealOrder, victim}
+use Rattle.rules.specs.Orders.{notAhead, notSeen, useTime, order1989, stealOrder, victim}
 use Rattle.rules.specs.Calls.{withReader, fresh, settingsIn, setupOf, readRunning, readOf, full, dropped, woken, landed, forFetch, arriveOf}
 use Rattle.rules.specs.Run.{fetchOpen, readTurn, turnOf, turnsOf, runOf}
 use Rattle.rules.specs.Schedules.{Set, Serves, fetchesIn}
@@ -26,7 +26,7 @@ use Rattle.rules.specs.declared.Answer.the-variants.{Ran}
 
 -- two frames, nothing cached, a file of eight pages, and a look-ahead of 60 ticks
 abbrev start : State
-start = fresh 2 60 0 (8 ∷ replicate 7 0)
+start = fresh 2 60 0 (8 ∷ replicate 7 0) 0 (replicate 8 0)
 
 -- two readers of it up to page 6, the second three pages ahead of the first: at pace 10 the look-ahead covers their last page, and one tick less would not
 abbrev pub lead : State
@@ -52,7 +52,7 @@ placed c h = record {
 -- it is valid
 pub lead-valid : Valid lead
 unfolding setupOf settingsIn every
-lead-valid = readers-changed start (setup-valid 2 60 0 (8 ∷ replicate 7 0) refl) (lead .readers) refl
+lead-valid = readers-changed start (setup-valid 2 60 0 (8 ∷ replicate 7 0) 0 (replicate 8 0) refl refl) (lead .readers) refl
     (each-reader (λ r. ReaderIn (r .condition) start r) (placed 0 (omega arith)) (placed 3 (omega arith)) refl)
     (λ j. rw (same-at {A = ℕ} 16 j 0) (omega arith))
 
@@ -64,6 +64,7 @@ lead-premises = record {
   no-time = refl;
   covers = each-reader (λ r. T (attached r) → Covers lead 10 r) (λ _. omega arith) (λ _. omega arith) (λ a. absurd a);
   none-open = refl;
+  by-1989 = refl;
 }
 
 -- ---- what it reads and fetches
@@ -71,7 +72,7 @@ lead-premises = record {
 -- 16,384 turns, the most that are permitted, fetch seven times for two frames and six pages: pages are given up, and one is fetched twice
 pub lead-answer : runOf lead 16384 .answer ≡ Ran 7 9
 unfolding bit putBit range each only put sorted least some-of pages cachedPages fetchingPages before present missing pruned sees
-    timeFor useFor useKey ahead seen notAhead notSeen useTime stealOrder victim readRunning readOf full dropped woken landed forFetch
+    timeFor useFor useKey ahead seen notAhead notSeen useTime order1989 stealOrder victim readRunning readOf full dropped woken landed forFetch
     arriveOf fetchOpen readTurn turnOf turnsOf runOf
 lead-answer = refl
 

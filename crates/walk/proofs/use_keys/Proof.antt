@@ -10,7 +10,8 @@ use Rattle.rules.specs.declared.State.{State}
 use Rattle.rules.proofs.orders.Local.{maps-present}
 use Rattle.walk.specs.Walks.{Asked}
 use Rattle.walk.specs.Tables.{KeyedBy}
-use Rattle.walk.proofs.Slots.{valid-in-file, keyed-none, keyed-all, testedBy, wordsBy, counts-all, total-none, total-more}
+use Rattle.walk.proofs.Slots.{valid-in-file, keyed-none, keyed-all, testedBy, wordsBy, counts-all}
+use Rattle.rules.proofs.laws.Leasts.{total-none, total-more}
 use Rattle.walk.proofs.use_keys.Statement.{statement}
 use Rattle.walk.proofs.use_keys.Tie as tie
 

@@ -1,7 +1,7 @@
--- The two numbers, each read in its place, are tested one after the other.
+-- The three numbers, each read in its place, are tested one after the other.
 use native.Mathlib.Omega.{arith}
 use borrow.Author.Needs.{needs}
-use Rattle.rules.proofs.images.Offsets.{setting-at, gap-at}
+use Rattle.rules.proofs.images.Offsets.{setting-at, gap-at, filler-at}
 use Rattle.image.proofs.Checks.{stops, passes}
 use Rattle.image.proofs.restoring.gaps_hold.Statement.{statement}
 use Rattle.image.proofs.restoring.gaps_hold.Tie as tie
@@ -20,10 +20,29 @@ get-u32-requires c κs = search needs
 
 returns-2 : tie.Need-returns-2
 returns-2 c =
-    let after-get-u8 = c .before .before in
+    let after-get-u32 = c .before in
+    let after-get-u8 = after-get-u32 .before .before in
     let at-start = after-get-u8 .before .before in
     let image = at-start .args .image .now in
-    rw (setting-at image 2 (omega arith), gap-at image, ← after-get-u8 .get-u8 .ensures, ← c .get-u32 .ensures) (search (passes, needs))
+    rw (setting-at image 2 (omega arith), gap-at image, ← after-get-u8 .get-u8 .ensures, ← after-get-u32 .get-u32 .ensures) (search (stops, needs))
+
+get-u8-requires-2 : tie.Need-get-u8-requires-2
+get-u8-requires-2 c κs = search needs
+
+returns-3 : tie.Need-returns-3
+returns-3 c =
+    let after-get-u32 = c .before .before in
+    let after-get-u8 = after-get-u32 .before .before in
+    let at-start = after-get-u8 .before .before in
+    let image = at-start .args .image .now in
+    rw (
+      setting-at image 2 (omega arith),
+      gap-at image,
+      filler-at image,
+      ← after-get-u8 .get-u8 .ensures,
+      ← after-get-u32 .get-u32 .ensures,
+      ← c .get-u82 .ensures,
+    ) (search (passes, needs))
 
 pub gaps-hold-spec : {M : Type 1} → statement M
-gaps-hold-spec = tie.close (tie.spec get-u8-requires returns get-u32-requires returns-2)
+gaps-hold-spec = tie.close (tie.spec get-u8-requires returns get-u32-requires returns-2 get-u8-requires-2 returns-3)

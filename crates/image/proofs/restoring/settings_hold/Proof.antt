@@ -1,7 +1,7 @@
 -- The settings are tested one after the other, up to the first that is out of range.
 use mathlib.Core.Path.{ap, _∙_}
 use borrow.Author.Needs.{needs}
-use Rattle.rules.specs.Lists.{within}
+use Rattle.rules.specs.Lists.{every, within}
 use Rattle.rules.specs.Calls.{settingsIn}
 use Rattle.rules.proofs.laws.Cases.{call-stop, call-pass}
 use Rattle.image.proofs.Checks.{and-later}
@@ -56,13 +56,47 @@ returns-3 c =
     let after-get-u32-2 = after-within-3 .before in
     search (and-later, call-stop, after-within-3 .within3 .ensures ∙ ap (within 0 2000000) (after-get-u32-2 .get-u322 .ensures), c .if3 .taken)
 
-sizes-hold-requires : tie.Need-sizes-hold-requires
-sizes-hold-requires c κs = search needs
+eight-hold-requires : tie.Need-eight-hold-requires
+eight-hold-requires c κs = search needs
 
 returns-4 : tie.Need-returns-4
 unfolding settingsIn
 returns-4 c =
-    let else-3 = c .before in
+    let after-eight-hold = c .before in
+    search (and-later, call-stop, after-eight-hold .eight-hold .ensures, c .if4 .taken)
+
+get-u8-requires : tie.Need-get-u8-requires
+get-u8-requires c κs = search needs
+
+cast-within-4 : tie.Need-cast-within-4
+cast-within-4 c = search needs
+
+within-requires-4 : tie.Need-within-requires-4
+within-requires-4 c κs = search needs
+
+returns-5 : tie.Need-returns-5
+unfolding settingsIn
+returns-5 c =
+    let after-within-4 = c .before in
+    let after-get-u8 = after-within-4 .before in
+    search (and-later, call-stop, after-within-4 .within4 .ensures ∙ ap (within 0 1) (after-get-u8 .get-u8 .ensures), c .if5 .taken) depth 9
+
+eight-in-requires : tie.Need-eight-in-requires
+eight-in-requires c κs = search needs
+
+eight-hold-requires-2 : tie.Need-eight-hold-requires-2
+eight-hold-requires-2 c κs = search needs
+
+returns-6 : tie.Need-returns-6
+unfolding settingsIn
+returns-6 c =
+    let after-eight-in = c .before .before in
+    let else-5 = after-eight-in .before in
+    let after-within-4 = else-5 .before in
+    let after-get-u8 = after-within-4 .before in
+    let else-4 = after-get-u8 .before in
+    let after-eight-hold = else-4 .before in
+    let else-3 = after-eight-hold .before in
     let after-within-3 = else-3 .before in
     let after-get-u32-2 = after-within-3 .before in
     let else-2 = after-get-u32-2 .before in
@@ -71,16 +105,12 @@ returns-4 c =
     let else-1 = after-get-u32 .before in
     let after-within = else-1 .before in
     let after-get-u16 = after-within .before in
-    search (
-      call-pass,
-      c .sizes-hold .ensures,
-      after-within-3 .within3 .ensures ∙ ap (within 0 2000000) (after-get-u32-2 .get-u322 .ensures),
-      else-3 .if3 .left,
-      after-within-2 .within2 .ensures ∙ ap (within 1 2000000) (after-get-u32 .get-u32 .ensures),
-      else-2 .if2 .left,
-      after-within .within .ensures ∙ ap (within 1 1024) (after-get-u16 .get-u16 .ensures),
-      else-1 .if1 .left,
-    ) depth 9
+    call-pass _ _ _ _ (after-within .within .ensures ∙ ap (within 1 1024) (after-get-u16 .get-u16 .ensures)) (else-1 .if1 .left)
+    (call-pass _ _ _ _ (after-within-2 .within2 .ensures ∙ ap (within 1 2000000) (after-get-u32 .get-u32 .ensures)) (else-2 .if2 .left)
+    (call-pass _ _ _ _ (after-within-3 .within3 .ensures ∙ ap (within 0 2000000) (after-get-u32-2 .get-u322 .ensures)) (else-3 .if3 .left)
+    (call-pass _ _ _ _ (after-eight-hold .eight-hold .ensures) (else-4 .if4 .left)
+    (call-pass _ _ _ _ (after-within-4 .within4 .ensures ∙ ap (within 0 1) (after-get-u8 .get-u8 .ensures)) (else-5 .if5 .left)
+    (c .eight-hold2 .ensures ∙ ap (every (within 0 1000)) (after-eight-in .eight-in .ensures))))))
 
 pub settings-hold-spec : {M : Type 1} → statement M
 settings-hold-spec =
@@ -98,5 +128,12 @@ settings-hold-spec =
     cast-within-3
     within-requires-3
     returns-3
-    sizes-hold-requires
-    returns-4)
+    eight-hold-requires
+    returns-4
+    get-u8-requires
+    cast-within-4
+    within-requires-4
+    returns-5
+    eight-in-requires
+    eight-hold-requires-2
+    returns-6)

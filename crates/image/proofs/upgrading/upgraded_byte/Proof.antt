@@ -1,74 +1,23 @@
--- By where the byte stands: behind the old image, outside the readers, in a reader's first six bytes, or in its last page.
+-- By where the byte stands: behind the marks, or before their end, in an image that had marks or in one that gets them.
 use borrow.Author.Needs.{needs}
-use Rattle.image.proofs.Upgrades.{front-byte, back-byte, slot-byte, last-byte, mark-byte}
+use Rattle.image.proofs.Upgrades.{rule-byte, same-byte, unmarked-left, marked-byte}
 use Rattle.image.proofs.upgrading.upgraded_byte.Statement.{statement}
 use Rattle.image.proofs.upgrading.upgraded_byte.Tie as tie
 
-mul-get-u16 : tie.Need-mul-get-u16
-mul-get-u16 c = search needs
-
-add-get-u16 : tie.Need-add-get-u16
-add-get-u16 c = search needs
-
-add-get-u16-2 : tie.Need-add-get-u16-2
-add-get-u16-2 c = search needs
-
-get-u16-requires : tie.Need-get-u16-requires
-get-u16-requires c κs = search needs
-
-byte-of-requires : tie.Need-byte-of-requires
-byte-of-requires c κs = search needs
-
 returns : tie.Need-returns
-returns c = search (mark-byte, needs)
+returns c = search (rule-byte, needs)
 
 get-u8-requires : tie.Need-get-u8-requires
 get-u8-requires c κs = search needs
 
 returns-2 : tie.Need-returns-2
-returns-2 c = search (back-byte, needs)
+returns-2 c = search (same-byte, needs)
 
-get-u8-requires-2 : tie.Need-get-u8-requires-2
-get-u8-requires-2 c κs = search needs
+marked-byte-requires : tie.Need-marked-byte-requires
+marked-byte-requires c κs = search (unmarked-left, needs)
 
 returns-3 : tie.Need-returns-3
-returns-3 c = search (front-byte, needs)
-
-get-u8-requires-3 : tie.Need-get-u8-requires-3
-get-u8-requires-3 c κs = search needs
-
-returns-4 : tie.Need-returns-4
-returns-4 c = search (slot-byte, needs)
-
-last-in-requires : tie.Need-last-in-requires
-last-in-requires c κs = search needs
-
-sub-byte-of : tie.Need-sub-byte-of
-sub-byte-of c = search needs
-
-byte-of-requires-2 : tie.Need-byte-of-requires-2
-byte-of-requires-2 c κs = search needs
-
-returns-5 : tie.Need-returns-5
-returns-5 c = search (last-byte, needs)
+returns-3 c = search (marked-byte, needs)
 
 pub upgraded-byte-spec : {M : Type 1} → statement M
-upgraded-byte-spec =
-    tie.close
-    (tie.spec
-    mul-get-u16
-    add-get-u16
-    add-get-u16-2
-    get-u16-requires
-    byte-of-requires
-    returns
-    get-u8-requires
-    returns-2
-    get-u8-requires-2
-    returns-3
-    get-u8-requires-3
-    returns-4
-    last-in-requires
-    sub-byte-of
-    byte-of-requires-2
-    returns-5)
+upgraded-byte-spec = tie.close (tie.spec returns get-u8-requires returns-2 marked-byte-requires returns-3)
