@@ -3,13 +3,14 @@ use mathlib.Core.Path.{_≡_, refl, sym, ap, ap₂, _∙_}
 use mathlib.Core.List.{List, [], _∷_}
 use Prim.Native.Nat.{ℕ, zero, suc, _+_, _-_, _*_, _/_, _%_, _^_, _≤_, _<_}
 use native.Mathlib.Nat.{zero-add, add-zero, add-suc, pow-suc}
+use native.Mathlib.Decide.{ℕ-discrete}
 use native.Mathlib.Omega.{arith}
 use lib.Arith.{lt-one}
 use lib.Count.{ones-step, ones as digitSum}
-use lib.ListN.{getD}
-use Rattle.bits.specs.Map.{digit, bit, ones}
+use lib.ListN.{getD, length}
+use Rattle.bits.specs.Map.{digit, bit, putBit, ones}
 use Rattle.bits.proofs.Words.{digit-step, digit-shr, shl-low, shl-high}
-use Rattle.bits.proofs.Bits.{Same, bit-le, bit-word, word-same, whole-same}
+use Rattle.bits.proofs.Bits.{Same, bit-le, bit-word, word-same, whole-same, put-same, put-other}
 
 -- no key
 pub ones-none : (words : List ℕ) (a : ℕ) → ones words a 0 ≡ 0
@@ -113,3 +114,21 @@ pub ones-parts : (words : List ℕ) (a n : ℕ) → 64 - a % 64 < n
 ones-parts words a n h =
     let e : (a / 64 + 1) * 64 - a ≡ 64 - a % 64 = omega arith in
     rw e at (ones-cut words a n (a / 64 + 1) (omega arith) (omega arith))
+
+-- ---- a bit put
+
+module _ (words : List ℕ) (k v : ℕ) (low : v ≤ 1) where
+  -- at none of the keys
+  pub ones-put-out : (a n : ℕ) → ((j : ℕ) → j < n → a + j ≡ k → ⊥) → ones (putBit words k v) a n ≡ ones words a n
+  ones-put-out a n out = ones-same (putBit words k v) a words a n (λ j h. put-other words k v (a + j) low (out j h))
+
+  -- at one of them
+  pub ones-put : k / 64 < length words → (a n : ℕ) → a ≤ k → k < a + n → ones (putBit words k v) a n + bit words k ≡ ones words a n + v
+  ones-put there a zero l h = absurd (omega arith)
+  ones-put there a (suc n) l h =
+      rw (ones-more (putBit words k v) a n, ones-more words a n) (by (λ m. ones-put there a n l m) (ℕ-discrete (a + n) k))
+    where
+      by : (k < a + n → ones (putBit words k v) a n + bit words k ≡ ones words a n + v) → Dec (a + n ≡ k)
+          → ones (putBit words k v) a n + bit (putBit words k v) (a + n) + bit words k ≡ ones words a n + bit words (a + n) + v
+      by fewer (yes e) = rw (e, put-same words k v low there, ones-put-out a n (λ j g. omega arith)) (omega arith)
+      by fewer (no e) = rw (put-other words k v (a + n) low e) (omega (arith, fewer (omega arith)))

@@ -1,49 +1,29 @@
--- Pages counted by the bits of a map, and whether a frame is free. Assumes nothing.
-use Prim.Native.Nat.{ℕ, _+_, _*_, _-_, _/_, _%_, _≤_, _<_}
+-- Pages counted by the bits of a map: whether a frame is free, and what is known of a page before it is counted in or out. Assumes nothing.
+use Prim.Native.Nat.{ℕ, _*_, _/_, _≤_, _<_}
 use mathlib.Core.Path.{_≡_, refl, sym, ap, _∙_}
-use mathlib.Core.List.{List, []}
-use mathlib.Core.Option.{none}
+use mathlib.Core.List.{List}
+use mathlib.Core.Option.{Option, none, some}
+use native.Mathlib.Decide.{ℕ-discrete}
 use native.Mathlib.Omega.{arith}
 use lib.ListN.{length, getD}
 use lib.Dec.{T, leb}
-use Rattle.bits.specs.Map.{bit, ones, on}
-use Rattle.bits.proofs.Bits.{bit-le}
-use Rattle.bits.proofs.Counts.{ones-add, ones-clear}
+use Rattle.bits.specs.Map.{bit, ones, on, putBit}
+use Rattle.bits.proofs.Bits.{put-other, put-length}
+use Rattle.bits.proofs.Counts.{ones-put}
 use Rattle.rules.specs.Lists.{only}
 use Rattle.rules.specs.Pages.{pages, Page, cachedPages}
 use Rattle.rules.specs.Valid.{Valid}
 use Rattle.rules.specs.Orders.{victim}
 use Rattle.rules.specs.Calls.{full, dropped}
-use Rattle.rules.specs.Views.{stateOf}
 use Rattle.rules.specs.declared.State.{State}
-use Rattle.rules.specs.declared.View.{View}
-use Rattle.order.specs.Choices.{Housed}
-use Rattle.rules.proofs.laws.Tests.{key}
+use Rattle.parts.specs.Held.{Held}
+use Rattle.calls.specs.Inner.{CachedIn, eased}
 use Rattle.rules.proofs.laws.Cases.{cond-yes, cond-no, outcomes}
 use Rattle.rules.proofs.laws.Counts.{count-ones, pages-count}
 
 -- a map of pages of the files has as many of them as set bits
 pub pages-ones : (s : State) → Valid s → (words : List ℕ) → ((k : ℕ) → T (on words k) → Page s k) → length (only (on words) (pages s)) ≡ ones words 0 8192
 pages-ones s v words inside = pages-count s (v .sizes-high) (on words) inside ∙ count-ones words 8192
-
--- the pages of one file more: above its size none is cached
-pub file-ones : (v : View) (map : List ℕ) → ((f : ℕ) → getD (v .sizes) f 0 ≤ 1024) → Housed v map → (taken f more : ℕ) → f < 8
-    → taken ≡ ones map 0 (f * 1024) → more ≡ ones map (f * 1024) (getD (v .sizes) f 0) → taken + more ≡ ones map 0 ((f + 1) * 1024)
-file-ones v map low housed taken f more l a b =
-    let size : ℕ = getD (v .sizes) f 0 in
-    let all : (f + 1) * 1024 ≡ f * 1024 + (size + (1024 - size)) = omega (arith, low f) in
-    let first : 0 + f * 1024 ≡ f * 1024 = omega arith in
-    let none : ones map (f * 1024 + size) (1024 - size) ≡ 0 =
-    ones-clear map (f * 1024 + size) (1024 - size) (λ j h. clear (f * 1024 + size + j) (omega arith)) in
-    rw (all, ones-add map 0 (f * 1024) (size + (1024 - size)), first, ones-add map (f * 1024) size (1024 - size), none) (omega arith)
-  where
-    clear : (k : ℕ) → (k / 1024 ≡ f) × (getD (v .sizes) f 0 ≤ k % 1024) → bit map k ≡ 0
-    clear k h =
-        key (bit map k) 1 (λ t. (T t → Page (stateOf v [] []) k) → bit map k ≡ 0)
-        (λ e p. let there = p tt .there in
-        let q : getD (v .sizes) (k / 1024) 0 ≡ getD (v .sizes) f 0 = ap (λ i. getD (v .sizes) i 0) (h .0) in
-        absurd (omega arith))
-        (λ ne _. omega (arith, bit-le map k)) (housed k)
 
 module _ (s : State) (v : Valid s) (n : ℕ) (e : n ≡ ones (s .cached) 0 8192) where
   -- n counts the cached pages
@@ -60,3 +40,27 @@ module _ (s : State) (v : Valid s) (n : ℕ) (e : n ≡ ones (s .cached) 0 8192)
   pub taken-victim : s .frames ≤ n → victim s ≡ dropped s
   unfolding dropped full
   taken-victim h = cond-yes (λ o. victim s ≡ o) (leb (s .frames) (length (cachedPages s))) (victim s) none (rw held (search outcomes)) refl
+
+-- the file of a cached page has one
+pub held-some : (cached held : List ℕ) → Held cached held → (k : ℕ) → k < 8192 → k / 64 < length cached → bit cached k ≡ 1 → 0 < getD held (k / 1024) 0
+held-some cached held a k low there e =
+    omega (
+      arith,
+      e,
+      a .pages (k / 1024) (omega arith),
+      ones-put cached k 0 (omega arith) there (k / 1024 * 1024) 1024 (omega arith) (omega arith),
+    )
+
+-- a page that is not cached is not once room is made
+pub eased-clear : (cached : List ℕ) (gone : Option ℕ) (k : ℕ) → CachedIn cached gone → bit cached k ≡ 0 → bit (eased cached gone) k ≡ 0
+eased-clear cached none k a e = e
+eased-clear cached (some g) k a e = by (ℕ-discrete k g)
+  where
+    by : Dec (k ≡ g) → bit (putBit cached g 0) k ≡ 0
+    by (yes q) = absurd (omega (arith, e, ap (bit cached) q, a g refl .1))
+    by (no q) = put-other cached g 0 k (omega arith) q ∙ e
+
+-- the map is as long as it was
+pub eased-length : (cached : List ℕ) (gone : Option ℕ) → length (eased cached gone) ≡ length cached
+eased-length cached none = refl
+eased-length cached (some g) = put-length cached g 0

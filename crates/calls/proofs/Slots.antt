@@ -10,6 +10,8 @@ use lib.Seq.{set-getD}
 use lib.Dec.{eqb}
 use Rattle.bits.specs.Map.{bit, putBit}
 use Rattle.rules.specs.Lists.{within}
+use Rattle.rules.specs.Pages.{size}
+use Rattle.rules.specs.Valid.{Valid, Placed, ReaderIn}
 use Rattle.rules.specs.Readers.{noReader, readerAt, markAt, byCondition, attached, nextKey, inCondition}
 use Rattle.rules.specs.Calls.{
   reply,
@@ -34,13 +36,13 @@ use Rattle.rules.specs.declared.Reply.{Reply}
 use Rattle.rules.specs.declared.View.{View}
 use Rattle.rules.specs.declared.Outcome.{Outcome}
 use Rattle.rules.specs.Views.{stateOf, replyOf}
-use Rattle.rules.specs.declared.Answer.the-variants.{Done, End, Fetch}
+use Rattle.rules.specs.declared.Answer.the-variants.{Refused, Done, End, Fetch}
 use Rattle.rules.specs.declared.Condition.{Condition}
 use Rattle.rules.specs.declared.Condition.the-variants.{Empty, Running, Waiting}
 use Rattle.rules.proofs.laws.Cases.{passed, failed}
 use Rattle.rules.proofs.calls.OneRecord.{SlotCall, reading, callAt, one-record}
 use Rattle.parts.specs.Files.{noFileIn, noRangeIn}
-use Rattle.calls.specs.Inner.{OthersStay}
+use Rattle.calls.specs.Inner.{Readable, OthersStay}
 use Rattle.calls.proofs.Outcomes.{answers, keyed}
 
 -- a call of a slot leaves the other slots' records, with these maps before and those after
@@ -98,13 +100,43 @@ module _ (s : State) (slot file pace start last : ℕ) (r : Reply) where
 
 -- ---- Read
 
+-- a placed record can be looked at
+placed-in : (s : State) (r : Reader) → ((f : ℕ) → size s f ≤ 1024) → Placed s r → Readable r
+placed-in s r high p = (p .file-high, p .position-in, omega (arith, p .last-high, high (r .file)))
+
+-- so can one that is as its condition has it
+in-file : (c : Condition) (s : State) (r : Reader) → ((f : ℕ) → size s f ≤ 1024) → ReaderIn c s r → Readable r
+in-file Empty s r high e = rw e (omega arith, omega arith, omega arith)
+in-file Running s r high p = placed-in s r high p
+in-file Waiting s r high p = placed-in s r high (p .0)
+
+-- and every record of a valid state
+pub readable : (s : State) → Valid s → (j : ℕ) → Readable (readerAt s j)
+readable s v j = in-file (readerAt s j .condition) s (readerAt s j) (v .sizes-high) (v .readers-in j)
+
+-- a slot that gets the record that it has
+stays : (s : State) (slot : ℕ) (r : Reader) → r ≡ readerAt s slot → set (s .readers) slot r ≡ s .readers
+stays s slot r e = ap (set (s .readers) slot) e ∙ set-getD (s .readers) slot noReader
+
+-- by the condition of the slot's record
+module _ (s : State) (slot : ℕ) (low : slot < 16) (r : Reader) (e : r ≡ readerAt s slot) where
+  pub read-empty : r .condition ≡ Empty → reply (withFetching (withReader s slot r) (s .fetching)) (Refused 6) ≡ readOf s slot
+  unfolding readOf
+  read-empty h = rw (stays s slot r e, ← e) (search answers depth 12)
+
+  pub read-waiting : r .condition ≡ Waiting → reply (withFetching (withReader s slot r) (s .fetching)) (Refused 7) ≡ readOf s slot
+  unfolding readOf
+  read-waiting h = rw (stays s slot r e, ← e) (search answers depth 12)
+
+  pub read-runs : r .condition ≡ Running → (q : Reply) → q ≡ readRunning s slot r → q ≡ readOf s slot
+  unfolding readOf
+  read-runs h q k = rw (← e) (search answers depth 12)
+
 -- Z: the slot gets the record that it has
 pub read-end : (s : State) (slot : ℕ) (r : Reader) → r ≡ readerAt s slot → r .position ≡ r .last
     → reply (withFetching (withReader s slot r) (s .fetching)) End ≡ readRunning s slot r
 unfolding readRunning
-read-end s slot r e h =
-    let stays : set (s .readers) slot r ≡ s .readers = ap (set (s .readers) slot) e ∙ set-getD (s .readers) slot noReader in
-    rw stays (search keyed depth 12)
+read-end s slot r e h = rw (stays s slot r e) (search keyed depth 12)
 
 -- F by the results: the page's key, whether the maps have the page, the record that waits, and the fetch map with the page
 pub read-fetch : (s : State) (slot : ℕ) (r w : Reader) (k : ℕ) (hit wait : Bool) (still : List ℕ)

@@ -1,24 +1,26 @@
 -- The parts of the rules that the functions work out, over just the fields that they read. Assumes nothing: these are definitions.
-use Prim.Native.Nat.{ℕ, _<_}
+use Prim.Native.Nat.{ℕ, _≤_, _<_}
 use mathlib.Core.Path.{_≡_}
 use mathlib.Core.Bool.{cond}
 use mathlib.Core.List.{List}
 use mathlib.Core.Logic.{_≢_}
 use mathlib.Core.Option.{Option, some}
 use lib.ListN.{getD}
-use Rattle.bits.specs.Map.{on, putBit}
+use Rattle.bits.specs.Map.{bit, on}
 use Rattle.rules.specs.Lists.{onOption}
 use Rattle.rules.specs.Pages.{fileOf, pageOf, keyOf}
 use Rattle.rules.specs.Readers.{readerIn}
-use Rattle.rules.specs.Calls.{reply, withReader, withFetching, withCached, without, closed}
+use Rattle.rules.specs.Calls.{reply, withReaders, withReader, withFetching, withCached, without}
 use Rattle.parts.specs.Files.{noFileIn, noPageIn}
 use Rattle.rules.specs.declared.State.{State}
+use Rattle.rules.specs.declared.Reader.{Reader}
 use Rattle.rules.specs.declared.Reply.{Reply}
 use Rattle.rules.specs.declared.Answer.{Answer}
 use Rattle.rules.specs.declared.View.{View}
 use Rattle.rules.specs.declared.Outcome.{Outcome}
 use Rattle.rules.specs.declared.Answer.the-variants.{Refused, Arrived, Replaced}
 use Rattle.calls.specs.declared.Step.{Step}
+use Rattle.calls.specs.declared.Landing.{Landing}
 use Rattle.calls.specs.declared.Fetched.{Fetched}
 use Rattle.calls.specs.declared.Fetched.the-variants.{Open, Refused as NotOpen}
 
@@ -30,7 +32,11 @@ outcomeOf v a = record { view = v; answer = a }
 abbrev pub refusal : View → ℕ → Outcome
 refusal v number = outcomeOf v (Refused number)
 
--- the state and the answer after a running reader's Read: its slot has the new record, and the fetch map is this
+-- a record that Read can look at; every record of a valid state is one
+abbrev pub Readable : Reader → Type 0
+Readable r = (r .file < 8) × (r .position ≤ r .last) × (r .last ≤ 1024)
+
+-- the state and the answer after the Read of a record: its slot has the new record, and the fetch map is this
 abbrev pub stepped : State → ℕ → Step → List ℕ → Reply
 stepped s slot r fetching = reply (withFetching (withReader s slot (r .reader)) fetching) (r .answer)
 
@@ -45,17 +51,17 @@ openFetch sizes fetching file page =
 abbrev pub OthersStay : View → ℕ → View → Type 0
 OthersStay v slot w = (j : ℕ) → j ≢ slot → (readerIn (w .readers) j ≡ readerIn (v .readers) j) × (getD (w .marks) j 0 ≡ getD (v .marks) j 0)
 
--- the key of the page chosen, if any, is one of a map's
-abbrev pub InMap : Option ℕ → Type 0
-InMap gone = (k : ℕ) → gone ≡ some k → k < 8192
+-- the page chosen, if any, is one that the map has
+abbrev pub CachedIn : List ℕ → Option ℕ → Type 0
+CachedIn words gone = (k : ℕ) → gone ≡ some k → (k < 8192) × (bit words k ≡ 1)
 
 -- the cached map without that page, if there is one
 abbrev pub eased : List ℕ → Option ℕ → List ℕ
 eased words gone = onOption gone (without words) words
 
--- the state with page k landed, where that page made room for it
-abbrev pub landedWith : State → Option ℕ → ℕ → State
-landedWith s gone k = withCached (closed s k) (putBit (eased (s .cached) gone) k 1)
+-- the state and the answer after an Arrive: the readers are these, and so are the maps
+abbrev pub landedIn : State → Landing → List ℕ → List ℕ → Reply
+landedIn s r cached fetching = reply (withFetching (withCached (withReaders s (r .readers)) cached) fetching) (r .answer)
 
 -- Arrive's answer, which names that page
 abbrev pub arrivalOf : Option ℕ → Answer

@@ -10,8 +10,8 @@ ghost use mathlib.Core.Path.{_≡_};
 ghost use mathlib.Core.Bool.{true};
 ghost use mathlib.Core.List.{List, [], map};
 ghost use Prim.Native.Nat.{ℕ, min, _+_, _≤_, _<_};
-ghost use lib.ListN.{getD, replicate};
-ghost use Rattle.bits.specs.Map.{ones};
+ghost use lib.ListN.{getD, length, replicate};
+ghost use Rattle.bits.specs.Map.{bit, putBit};
 ghost use Rattle.rules.specs.Views.{stateOf, noPages, replyOf};
 ghost use Rattle.rules.specs.Lists.{within, every};
 ghost use Rattle.rules.specs.Readers.{readerIn};
@@ -26,8 +26,8 @@ ghost use Rattle.rules.specs.Calls.{
   readOf,
   stealOf,
   dropped,
+  without,
   woken,
-  closed,
   arriveOf,
   detachOf,
   lostOf,
@@ -36,8 +36,9 @@ ghost use Rattle.rules.specs.Calls.{
   measuredPace,
   measureOf,
 };
-ghost use Rattle.order.specs.Choices.{chosen, Housed};
-ghost use Rattle.calls.specs.Inner.{outcomeOf, refusal, stepped, openFetch, OthersStay, InMap, eased, landedWith, arrivalOf};
+ghost use Rattle.parts.specs.Held.{Held};
+ghost use Rattle.order.specs.Choices.{chosen};
+ghost use Rattle.calls.specs.Inner.{outcomeOf, refusal, Readable, stepped, openFetch, OthersStay, CachedIn, eased, landedIn, arrivalOf};
 
 // What Arrive and Lost find of a page: the key of one that is in fetch, or the number of the refusal.
 pub enum Fetched {
@@ -45,9 +46,15 @@ pub enum Fetched {
     Refused(u8),
 }
 
-// What a Read makes of a running reader: the record that it has then, and the answer.
+// What a Read makes of a slot: the record that it has then, and the answer.
 pub struct Step {
     pub reader: Reader,
+    pub answer: Answer,
+}
+
+// What an Arrive makes of the readers, and the answer.
+pub struct Landing {
+    pub readers: [Reader; 16],
     pub answer: Answer,
 }
 
@@ -63,6 +70,12 @@ fn answered(reader: Reader, answer: Answer) -> Step
     ensures { λ r. ⌜ r ≡ record { reader = reader; answer = answer } ⌝ }
 {
     Step { reader, answer }
+}
+
+fn landed(readers: [Reader; 16], answer: Answer) -> Landing
+    ensures { λ r. ⌜ r ≡ record { readers = readers; answer = answer } ⌝ }
+{
+    Landing { readers, answer }
 }
 
 // A refusal gives the view back.
@@ -246,7 +259,7 @@ pub fn attach(mut v: View, slot: u64, file: u64, pace: u64, start: u64, last: u6
 
 // The Read of a running reader, whose record is `old`. The view stays with the caller, which stores the record: a view is dear to pass.
 fn read_running(cached: &[u64; 128], fetching: &mut [u64; 128], old: Reader) -> Step
-    requires { ⌜ (old .file < 8) × (old .position ≤ old .last) × (old .last ≤ 1024) ⌝ }
+    requires { ⌜ Readable old ⌝ }
     ensures { λ r. ⌜ ((v : View) (i : ℕ) → old ≡ readerIn (v .readers) i
         → stepped (stateOf v (now (cached .entry)) (now (fetching .entry))) i r (now (fetching .exit))
         ≡ readRunning (stateOf v (now (cached .entry)) (now (fetching .entry))) i old) ⌝ }
@@ -268,7 +281,21 @@ fn read_running(cached: &[u64; 128], fetching: &mut [u64; 128], old: Reader) -> 
     answered(waiting, Answer::Fetch { file, page })
 }
 
-// The maps are looked at only for a running reader; the one that waits is not moved by Read but by the end of its fetch.
+// Read on one record. The maps are looked at only for a running reader; the one that waits is not moved by Read but by the end of its fetch.
+pub fn read_slot(cached: &[u64; 128], fetching: &mut [u64; 128], old: Reader) -> Step
+    requires { ⌜ Readable old ⌝ }
+    ensures { λ r. ⌜ ((v : View) (i : ℕ) → i < 16 → old ≡ readerIn (v .readers) i
+        → stepped (stateOf v (now (cached .entry)) (now (fetching .entry))) i r (now (fetching .exit))
+        ≡ readOf (stateOf v (now (cached .entry)) (now (fetching .entry))) i) ⌝ }
+{
+    let condition = old.condition;
+    match condition {
+        Condition::Empty => answered(old, Answer::Refused(6)),
+        Condition::Running => read_running(cached, fetching, old),
+        Condition::Waiting => answered(old, Answer::Refused(7)),
+    }
+}
+
 pub fn read(mut v: View, cached: &[u64; 128], fetching: &mut [u64; 128], slot: u64) -> Outcome
     requires { ⌜ Valid (stateOf v (now cached) (now fetching)) ⌝ }
     ensures { λ r. ⌜ replyOf r (now (cached .entry)) (now (fetching .exit)) ≡ readOf (stateOf v (now (cached .entry)) (now (fetching .entry))) slot ⌝ }
@@ -278,19 +305,11 @@ pub fn read(mut v: View, cached: &[u64; 128], fetching: &mut [u64; 128], slot: u
         return refuse(v, 2);
     }
     let i = slot as usize;
-    let old = v.readers[i];
-    let condition = old.condition;
-    match condition {
-        Condition::Empty => refuse(v, 6),
-        Condition::Running => {
-            let r = read_running(cached, fetching, old);
-            let answer = r.answer;
-            let reader = r.reader;
-            v.readers[i] = reader;
-            outcome(v, answer)
-        }
-        Condition::Waiting => refuse(v, 7),
-    }
+    let r = read_slot(cached, fetching, v.readers[i]);
+    let answer = r.answer;
+    let reader = r.reader;
+    v.readers[i] = reader;
+    outcome(v, answer)
 }
 
 // No map is lent: a fetch that the reader waited for stays open.
@@ -394,58 +413,81 @@ pub fn wake(readers: [Reader; 16], key: usize) -> [Reader; 16]
     next
 }
 
-// The page leaves fetch, and every reader that waits for it runs.
-fn close_fetch(mut v: View, fetching: &mut [u64; 128], key: usize) -> View
-    requires { ⌜ key < 8192 ⌝ }
-    ensures { λ r. ⌜ ((c : List ℕ) → stateOf r c (now (fetching .exit)) ≡ closed (stateOf v c (now (fetching .entry))) key) ⌝ }
-{
-    bits::clear_bit(fetching, key);
-    let waiting = v.readers;
-    let readers = wake(waiting, key);
-    v.readers = readers;
-    v
-}
-
-// The cached map is not lent: a page in fetch has no frame.
-pub fn lost(v: View, fetching: &mut [u64; 128], file: u64, page: u64) -> Outcome
+// The page leaves fetch, and every reader that waits for it runs. The cached map is not lent: a page in fetch has no frame.
+pub fn lost(mut v: View, fetching: &mut [u64; 128], file: u64, page: u64) -> Outcome
     requires { ⌜ getD (v .sizes) file 0 ≤ 1024 ⌝ }
     ensures { λ r. ⌜ ((c : List ℕ) → replyOf r c (now (fetching .exit)) ≡ lostOf (stateOf v c (now (fetching .entry))) file page) ⌝ }
 {
     let sizes = v.sizes;
     let fetched = open_fetch(sizes, fetching, file, page);
     match fetched {
-        Fetched::Open(key) => outcome(close_fetch(v, fetching, key), Answer::Done),
+        Fetched::Open(key) => {
+            let waiting = v.readers;
+            bits::clear_bit(fetching, key);
+            let readers = wake(waiting, key);
+            v.readers = readers;
+            outcome(v, Answer::Done)
+        }
         Fetched::Refused(number) => refuse(v, number),
     }
 }
 
 // The page chosen, if any, gives up its frame.
-fn make_room(cached: &mut [u64; 128], gone: Choice)
-    requires { ⌜ InMap (chosen gone) ⌝ }
+fn make_room(cached: &mut [u64; 128], held: &mut [u16; 8], gone: Choice)
+    requires { ⌜ (length (now cached) ≡ 128) × CachedIn (now cached) (chosen gone) ⌝ }
+    requires { ⌜ Held (now cached) (now held) ⌝ }
     ensures { λ _. ⌜ now (cached .exit) ≡ eased (now (cached .entry)) (chosen gone) ⌝ }
+    ensures counted { λ _. ⌜ Held (now (cached .exit)) (now (held .exit)) ⌝ }
 {
     match gone {
-        Choice::Key(k) => bits::clear_bit(cached, k as usize),
+        Choice::Key(k) => {
+            bits::clear_bit(cached, k as usize);
+            parts::page_out(held, k as usize);
+        }
         Choice::Nothing => {}
     }
 }
 
-// A page arrives: one that is chosen gives up its frame, the page leaves fetch, is cached, and every reader that waits for it runs.
-fn land(
-    v: View,
+// A page arrives on the maps and the counts: one that is chosen gives up its frame, and the page leaves fetch and is cached.
+pub fn put_in(
     cached: &mut [u64; 128],
     fetching: &mut [u64; 128],
+    held: &mut [u16; 8],
     key: usize,
     gone: Choice,
-) -> View
-    requires { ⌜ key < 8192 ⌝ }
-    requires { ⌜ InMap (chosen gone) ⌝ }
-    ensures { λ r.
-        ⌜ stateOf r (now (cached .exit)) (now (fetching .exit)) ≡ landedWith (stateOf v (now (cached .entry)) (now (fetching .entry))) (chosen gone) key ⌝ }
+)
+    requires { ⌜ (key < 8192) × (bit (now cached) key ≡ 0) ⌝ }
+    requires { ⌜ (length (now cached) ≡ 128) × CachedIn (now cached) (chosen gone) ⌝ }
+    requires { ⌜ Held (now cached) (now held) ⌝ }
+    ensures { λ _. ⌜ now (cached .exit) ≡ putBit (eased (now (cached .entry)) (chosen gone)) key 1 ⌝ }
+    ensures still { λ _. ⌜ now (fetching .exit) ≡ without (now (fetching .entry)) key ⌝ }
+    ensures counted { λ _. ⌜ Held (now (cached .exit)) (now (held .exit)) ⌝ }
 {
-    make_room(cached, gone);
+    make_room(cached, held, gone);
     bits::set_bit(cached, key);
-    close_fetch(v, fetching, key)
+    parts::page_in(held, key);
+    bits::clear_bit(fetching, key);
+}
+
+// A page arrives, and every reader that waits for it runs.
+fn land(
+    readers: [Reader; 16],
+    cached: &mut [u64; 128],
+    fetching: &mut [u64; 128],
+    held: &mut [u16; 8],
+    key: usize,
+    gone: Choice,
+) -> [Reader; 16]
+    requires { ⌜ (key < 8192) × (bit (now cached) key ≡ 0) ⌝ }
+    requires { ⌜ (length (now cached) ≡ 128) × CachedIn (now cached) (chosen gone) ⌝ }
+    requires { ⌜ Held (now cached) (now held) ⌝ }
+    ensures { λ r. ⌜ r ≡ map (woken key) readers ⌝ }
+    ensures filled { λ _. ⌜ now (cached .exit) ≡ putBit (eased (now (cached .entry)) (chosen gone)) key 1 ⌝ }
+    ensures still { λ _. ⌜ now (fetching .exit) ≡ without (now (fetching .entry)) key ⌝ }
+    ensures counted { λ _. ⌜ Held (now (cached .exit)) (now (held .exit)) ⌝ }
+{
+    put_in(cached, fetching, held, key, gone);
+    wake(readers, key)
 }
 
 // Arrive's answer, which names the page that gave up its frame.
@@ -461,66 +503,86 @@ pub fn arrival(gone: Choice) -> Answer
     }
 }
 
-// How many frames are taken. Only the pages that a file has are looked at.
-fn frames_taken(v: View, cached: &[u64; 128]) -> u32
-    requires { ⌜ ((file : ℕ) → getD (v .sizes) file 0 ≤ 1024) ⌝ }
-    requires { ⌜ Housed v (now cached) ⌝ }
-    ensures { λ r. ⌜ r ≡ ones (now (cached .entry)) 0 8192 ⌝ }
-{
-    let mut taken: u32 = 0;
-    let mut file: usize = 0;
-    while file < 8 {
-        taken += bits::count(cached, file * 1024, v.sizes[file] as usize);
-        file += 1;
-    }
-    taken
-}
-
 // The page that gives up its frame for one that arrives: where all frames are taken, the head of the steal order.
-fn give_up<'a>(v: View, cached: &'a [u64; 128], fetching: &'a [u64; 128]) -> Choice
+fn give_up<'a>(
+    v: View,
+    cached: &'a [u64; 128],
+    fetching: &'a [u64; 128],
+    held: &'a [u16; 8],
+) -> Choice
     requires { ⌜ Valid (stateOf v (now cached) (now fetching)) ⌝ }
+    requires { ⌜ Held (now cached) (now held) ⌝ }
     ensures { λ r. ⌜ chosen r ≡ dropped (stateOf v (now (cached .entry)) (now (fetching .entry))) ⌝ }
 {
-    if frames_taken(v, cached) < v.frames as u32 {
+    if parts::taken(held) < v.frames as u32 {
         return Choice::Nothing;
     }
-    order::victim(v, cached, fetching)
+    order::victim(v, cached, fetching, held)
 }
 
-// The page to give up is chosen before the one that arrives leaves fetch and is cached. So that one is never the one to go, and is present in the choice (A.5).
-pub fn arrive(
+// The page to give up is chosen before the one that arrives leaves fetch and is cached. So that one is never the one to go, and is present in the choice
+// (A.5). The view stays with the caller, which stores the readers.
+pub fn arrive_page(
     v: View,
     cached: &mut [u64; 128],
     fetching: &mut [u64; 128],
+    held: &mut [u16; 8],
+    file: u64,
+    page: u64,
+) -> Landing
+    requires { ⌜ Valid (stateOf v (now cached) (now fetching)) ⌝ }
+    requires { ⌜ Held (now cached) (now held) ⌝ }
+    ensures { λ r. ⌜ landedIn (stateOf v (now (cached .entry)) (now (fetching .entry))) r (now (cached .exit)) (now (fetching .exit))
+        ≡ arriveOf (stateOf v (now (cached .entry)) (now (fetching .entry))) file page ⌝ }
+    ensures counted { λ _. ⌜ Held (now (cached .exit)) (now (held .exit)) ⌝ }
+{
+    let sizes = v.sizes;
+    let readers = v.readers;
+    let fetched = open_fetch(sizes, fetching, file, page);
+    match fetched {
+        Fetched::Open(key) => {
+            let gone = give_up(v, cached, fetching, held);
+            let woken = land(readers, cached, fetching, held, key, gone);
+            landed(woken, arrival(gone))
+        }
+        Fetched::Refused(number) => landed(readers, Answer::Refused(number)),
+    }
+}
+
+pub fn arrive(
+    mut v: View,
+    cached: &mut [u64; 128],
+    fetching: &mut [u64; 128],
+    held: &mut [u16; 8],
     file: u64,
     page: u64,
 ) -> Outcome
     requires { ⌜ Valid (stateOf v (now cached) (now fetching)) ⌝ }
+    requires { ⌜ Held (now cached) (now held) ⌝ }
     ensures { λ r. ⌜ replyOf r (now (cached .exit)) (now (fetching .exit)) ≡ arriveOf (stateOf v (now (cached .entry)) (now (fetching .entry))) file page ⌝ }
+    ensures counted { λ _. ⌜ Held (now (cached .exit)) (now (held .exit)) ⌝ }
 {
-    let sizes = v.sizes;
-    let fetched = open_fetch(sizes, fetching, file, page);
-    match fetched {
-        Fetched::Open(key) => {
-            let gone = give_up(v, cached, fetching);
-            let after = land(v, cached, fetching, key, gone);
-            outcome(after, arrival(gone))
-        }
-        Fetched::Refused(number) => refuse(v, number),
-    }
+    let r = arrive_page(v, cached, fetching, held, file, page);
+    let answer = r.answer;
+    let readers = r.readers;
+    v.readers = readers;
+    outcome(v, answer)
 }
 
 // ---- Steal and Prefetch: the heads of the two orders. The view stays.
 
 // The order is worked out afresh, by the maps as they are lent.
-pub fn steal(v: View, cached: &mut [u64; 128], fetching: &[u64; 128]) -> Answer
+pub fn steal(v: View, cached: &mut [u64; 128], fetching: &[u64; 128], held: &mut [u16; 8]) -> Answer
     requires { ⌜ Valid (stateOf v (now cached) (now fetching)) ⌝ }
+    requires { ⌜ Held (now cached) (now held) ⌝ }
     ensures { λ r. ⌜ reply (stateOf v (now (cached .exit)) (now (fetching .entry))) r ≡ stealOf (stateOf v (now (cached .entry)) (now (fetching .entry))) ⌝ }
+    ensures counted { λ _. ⌜ Held (now (cached .exit)) (now (held .exit)) ⌝ }
 {
-    let gone = order::victim(v, cached, fetching);
+    let gone = order::victim(v, cached, fetching, held);
     match gone {
         Choice::Key(k) => {
             bits::clear_bit(cached, k as usize);
+            parts::page_out(held, k as usize);
             Answer::Stolen {
                 file: parts::file_of(k),
                 page: parts::page_of(k),

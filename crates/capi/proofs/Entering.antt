@@ -12,7 +12,7 @@ use Rattle.rules.specs.Valid.{Valid}
 use Rattle.rules.specs.Image.{imageLength, imageOf, restoreWhole}
 use Rattle.rules.specs.Entries.{code, carriedOut, Call, callOf, Entered, entered, enter}
 use Rattle.rules.proofs.images.Images.{done-length, done-or-not, whole-refused, lent-valid}
-use Rattle.rules.proofs.images.Enters.{enter-unrestored, enter-restored}
+use Rattle.rules.proofs.images.Enters.{enter-unrestored, enter-length, enter-restored}
 use Rattle.rules.proofs.calls.Kept.{kept}
 use Rattle.rules.specs.declared.Reply.{Reply}
 use Rattle.rules.specs.declared.Answer.the-variants.{Done}
@@ -25,6 +25,10 @@ module _ (image : List ℕ) (r : Reply) (ok : Bool) (told : ok ≡ carriedOut (r
   -- anything else leaves the image of the state
   pub end-saved : not ok ≡ false → (saved : List ℕ) → saved ≡ imageOf (r .state) → record { number = n; image = saved } ≡ entered image r
   end-saved t saved e = rw (numbered, sym told ∙ not-false ok t, e)
+
+-- a buffer of another length: 13, and it is left
+pub entry-length : (c : Call) (image : List ℕ) → (length image ≡ imageLength → ⊥) → record { number = 13; image = image } ≡ enter c image
+entry-length c image n = sym (enter-length c image n)
 
 -- the elements of a lent buffer are those of its type
 abbrev Lent : List ℕ → Type 0

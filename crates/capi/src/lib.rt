@@ -10,6 +10,9 @@ ghost use Rattle.rules.specs.Entries.{attach, detach, read, arrive, lost, prefe
 // What an entry returns for a buffer that is no image: Restore's refusal.
 const NO_IMAGE: u64 = 13;
 
+// As many bytes as an image has. Every entry tests it first, before it fills an array.
+const LENGTH: usize = image::IMAGE_LENGTH;
+
 // ---- the end of an entry
 
 // A refusal leaves the buffer; after any other answer it holds the state.
@@ -40,9 +43,13 @@ pub extern "C" fn quay_attach(
 ) -> u64
     ensures { λ n. ⌜ record { number = n; image = now (image .exit) } ≡ enter (attach slot file pace start last) (now (image .entry)) ⌝ }
 {
+    if image.len() != LENGTH {
+        return NO_IMAGE;
+    }
     let mut cached = [0u64; 128];
     let mut fetching = [0u64; 128];
-    let restored = image::restore_whole(image, &mut cached, &mut fetching);
+    let mut held = [0u16; 8];
+    let restored = image::restore_whole(image, &mut cached, &mut fetching, &mut held);
     let done = restored.answer;
     if !codes::carried_out(done) {
         return NO_IMAGE;
@@ -59,9 +66,13 @@ pub extern "C" fn quay_attach(
 pub extern "C" fn quay_detach(image: &mut [u8], slot: u64) -> u64
     ensures { λ n. ⌜ record { number = n; image = now (image .exit) } ≡ enter (detach slot) (now (image .entry)) ⌝ }
 {
+    if image.len() != LENGTH {
+        return NO_IMAGE;
+    }
     let mut cached = [0u64; 128];
     let mut fetching = [0u64; 128];
-    let restored = image::restore_whole(image, &mut cached, &mut fetching);
+    let mut held = [0u16; 8];
+    let restored = image::restore_whole(image, &mut cached, &mut fetching, &mut held);
     let done = restored.answer;
     if !codes::carried_out(done) {
         return NO_IMAGE;
@@ -78,9 +89,13 @@ pub extern "C" fn quay_detach(image: &mut [u8], slot: u64) -> u64
 pub extern "C" fn quay_read(image: &mut [u8], slot: u64) -> u64
     ensures { λ n. ⌜ record { number = n; image = now (image .exit) } ≡ enter (read slot) (now (image .entry)) ⌝ }
 {
+    if image.len() != LENGTH {
+        return NO_IMAGE;
+    }
     let mut cached = [0u64; 128];
     let mut fetching = [0u64; 128];
-    let restored = image::restore_whole(image, &mut cached, &mut fetching);
+    let mut held = [0u16; 8];
+    let restored = image::restore_whole(image, &mut cached, &mut fetching, &mut held);
     let done = restored.answer;
     if !codes::carried_out(done) {
         return NO_IMAGE;
@@ -93,14 +108,25 @@ pub extern "C" fn quay_read(image: &mut [u8], slot: u64) -> u64
 pub extern "C" fn quay_arrive(image: &mut [u8], file: u64, page: u64) -> u64
     ensures { λ n. ⌜ record { number = n; image = now (image .exit) } ≡ enter (arrive file page) (now (image .entry)) ⌝ }
 {
+    if image.len() != LENGTH {
+        return NO_IMAGE;
+    }
     let mut cached = [0u64; 128];
     let mut fetching = [0u64; 128];
-    let restored = image::restore_whole(image, &mut cached, &mut fetching);
+    let mut held = [0u16; 8];
+    let restored = image::restore_whole(image, &mut cached, &mut fetching, &mut held);
     let done = restored.answer;
     if !codes::carried_out(done) {
         return NO_IMAGE;
     }
-    let r = calls::arrive(restored.view, &mut cached, &mut fetching, file, page);
+    let r = calls::arrive(
+        restored.view,
+        &mut cached,
+        &mut fetching,
+        &mut held,
+        file,
+        page,
+    );
     finish(r, &cached, &fetching, image)
 }
 
@@ -108,9 +134,13 @@ pub extern "C" fn quay_arrive(image: &mut [u8], file: u64, page: u64) -> u64
 pub extern "C" fn quay_lost(image: &mut [u8], file: u64, page: u64) -> u64
     ensures { λ n. ⌜ record { number = n; image = now (image .exit) } ≡ enter (lost file page) (now (image .entry)) ⌝ }
 {
+    if image.len() != LENGTH {
+        return NO_IMAGE;
+    }
     let mut cached = [0u64; 128];
     let mut fetching = [0u64; 128];
-    let restored = image::restore_whole(image, &mut cached, &mut fetching);
+    let mut held = [0u16; 8];
+    let restored = image::restore_whole(image, &mut cached, &mut fetching, &mut held);
     let done = restored.answer;
     if !codes::carried_out(done) {
         return NO_IMAGE;
@@ -123,9 +153,13 @@ pub extern "C" fn quay_lost(image: &mut [u8], file: u64, page: u64) -> u64
 pub extern "C" fn quay_prefetch(image: &mut [u8]) -> u64
     ensures { λ n. ⌜ record { number = n; image = now (image .exit) } ≡ enter prefetch (now (image .entry)) ⌝ }
 {
+    if image.len() != LENGTH {
+        return NO_IMAGE;
+    }
     let mut cached = [0u64; 128];
     let mut fetching = [0u64; 128];
-    let restored = image::restore_whole(image, &mut cached, &mut fetching);
+    let mut held = [0u16; 8];
+    let restored = image::restore_whole(image, &mut cached, &mut fetching, &mut held);
     let done = restored.answer;
     if !codes::carried_out(done) {
         return NO_IMAGE;
@@ -139,15 +173,19 @@ pub extern "C" fn quay_prefetch(image: &mut [u8]) -> u64
 pub extern "C" fn quay_steal(image: &mut [u8]) -> u64
     ensures { λ n. ⌜ record { number = n; image = now (image .exit) } ≡ enter steal (now (image .entry)) ⌝ }
 {
+    if image.len() != LENGTH {
+        return NO_IMAGE;
+    }
     let mut cached = [0u64; 128];
     let mut fetching = [0u64; 128];
-    let restored = image::restore_whole(image, &mut cached, &mut fetching);
+    let mut held = [0u16; 8];
+    let restored = image::restore_whole(image, &mut cached, &mut fetching, &mut held);
     let done = restored.answer;
     if !codes::carried_out(done) {
         return NO_IMAGE;
     }
     let view = restored.view;
-    let answer = calls::steal(view, &mut cached, &fetching);
+    let answer = calls::steal(view, &mut cached, &fetching, &mut held);
     finish(Outcome { view, answer }, &cached, &fetching, image)
 }
 
@@ -155,14 +193,18 @@ pub extern "C" fn quay_steal(image: &mut [u8]) -> u64
 pub extern "C" fn quay_run(image: &mut [u8], turns: u64) -> u64
     ensures { λ n. ⌜ record { number = n; image = now (image .exit) } ≡ enter (run turns) (now (image .entry)) ⌝ }
 {
+    if image.len() != LENGTH {
+        return NO_IMAGE;
+    }
     let mut cached = [0u64; 128];
     let mut fetching = [0u64; 128];
-    let restored = image::restore_whole(image, &mut cached, &mut fetching);
+    let mut held = [0u16; 8];
+    let restored = image::restore_whole(image, &mut cached, &mut fetching, &mut held);
     let done = restored.answer;
     if !codes::carried_out(done) {
         return NO_IMAGE;
     }
-    let r = run::run(restored.view, &mut cached, &mut fetching, turns);
+    let r = run::run(restored.view, &mut cached, &mut fetching, &mut held, turns);
     finish(r, &cached, &fetching, image)
 }
 
@@ -170,9 +212,13 @@ pub extern "C" fn quay_run(image: &mut [u8], turns: u64) -> u64
 pub extern "C" fn quay_measure(image: &mut [u8], slot: u64, interval: u64, blocked: u64) -> u64
     ensures { λ n. ⌜ record { number = n; image = now (image .exit) } ≡ enter (measure slot interval blocked) (now (image .entry)) ⌝ }
 {
+    if image.len() != LENGTH {
+        return NO_IMAGE;
+    }
     let mut cached = [0u64; 128];
     let mut fetching = [0u64; 128];
-    let restored = image::restore_whole(image, &mut cached, &mut fetching);
+    let mut held = [0u16; 8];
+    let restored = image::restore_whole(image, &mut cached, &mut fetching, &mut held);
     let done = restored.answer;
     if !codes::carried_out(done) {
         return NO_IMAGE;

@@ -1,16 +1,17 @@
--- Restore's verdict from the tests that its code makes. Assumes nothing.
+-- Restore's verdict from the tests that its code makes, and the counts of the idle state. Assumes nothing.
 use mathlib.Core.Path.{_≡_, refl, sym, ap, ap₂, _∙_}
 use mathlib.Core.Bool.{Bool, true, false, not, _&&_, and-assoc}
 use mathlib.Core.List.{List}
-use Prim.Native.Nat.{ℕ, zero, suc, _+_, _≤_, _<_}
+use Prim.Native.Nat.{ℕ, zero, suc, _+_, _*_, _/_, _≤_, _<_}
+use native.Mathlib.Nat.{zero-div}
 use native.Mathlib.Decide.{decLt}
 use native.Mathlib.Omega.{arith}
 use borrow.Author.Tests.{not-true, not-false, ne-eqb, le-leb, lt-leb}
-use lib.ListN.{length, List·getD-eq-default}
+use lib.ListN.{length, replicate, List·getD-eq-default}
 use lib.Dec.{T, leb, eqb}
 use Rattle.bits.specs.Map.{bit, ones}
 use Rattle.bits.proofs.Bits.{bit-le}
-use Rattle.bits.proofs.Counts.{ones-none, ones-more}
+use Rattle.bits.proofs.Counts.{ones-none, ones-more, ones-clear}
 use Rattle.rules.specs.Lists.{range, every, within}
 use Rattle.rules.specs.Pages.{size, cached, Page, cachedPages}
 use Rattle.rules.specs.Schedules.{num, count}
@@ -21,8 +22,10 @@ use Rattle.rules.proofs.laws.Tests.{or-left}
 use Rattle.rules.proofs.laws.Members.{range-at}
 use Rattle.rules.proofs.laws.Indexed.{every-all}
 use Rattle.rules.proofs.laws.Counts.{pages-count}
+use Rattle.rules.proofs.calls.Kept.{same-at}
 use Rattle.rules.proofs.images.Accepts.{settings-in, key-in, unset}
 use Rattle.rules.proofs.images.Offsets.{sizesAt, ruleAt, expectedStart, setting-at, rule-at}
+use Rattle.parts.specs.Held.{Held}
 use Rattle.image.specs.Bytes.{numberAt, numbersAt, stateIn}
 use Rattle.image.specs.Tests.{SizesLow, settingsFrom, apartAt, sizeHolds}
 use Rattle.image.proofs.States.{sizes-read, expected-read, cached-long}
@@ -124,6 +127,16 @@ room-stop words frames number n e f l = lt-leb (ones words 0 8192) frames (rw (e
 -- no more
 pub room-pass : (words : List ℕ) (frames number n : ℕ) → n ≡ ones words 0 8192 → number ≡ frames → n ≤ number → leb (ones words 0 8192) frames ≡ true
 room-pass words frames number n e f l = le-leb (ones words 0 8192) frames (rw (e, f) at l)
+
+-- ---- the counts of the files' cached pages
+
+-- none in the idle state
+pub held-none : Held (replicate 128 0) (replicate 8 0)
+unfolding bit
+held-none = record {
+  eight = refl;
+  pages = λ f l. same-at {A = ℕ} 8 f 0 ∙ sym (ones-clear (replicate 128 0) (f * 1024) 1024 (λ j h. rw (same-at {A = ℕ} 128 ((f * 1024 + j) / 64) 0, zero-div)));
+}
 
 -- ---- Restore
 

@@ -6,6 +6,7 @@ ghost use Prim.Native.Nat.{_+_, _*_, _-_, _<_, _≤_};
 ghost use lib.Bits.{bitAnd, bitOr};
 ghost use lib.ListN.{length};
 ghost use lib.Dec.{eqb};
+ghost use Rattle.bits.specs.Map.{ones};
 ghost use Rattle.rules.specs.Lists.{range, every, within};
 ghost use Rattle.rules.specs.Views.{viewOf, replyOf};
 ghost use Rattle.rules.specs.Calls.{refused, idle as idleState};
@@ -24,6 +25,7 @@ ghost use Rattle.rules.specs.Image.{
   imageLength,
 };
 ghost use Rattle.parts.specs.Files.{sizedWith};
+ghost use Rattle.parts.specs.Held.{Held};
 ghost use Rattle.image.specs.Bytes.{numbersAt, stateIn};
 ghost use Rattle.image.specs.Tests.{FromImage, SizesLow, settingsFrom, apartAt, clearAt, clearAbove, sizeHolds};
 use crate::ATTACHES_AT;
@@ -395,9 +397,10 @@ fn gaps_hold(image: &[u8]) -> bool
     get_u8(image, FILLER_AT) == 0
 }
 
-// None of the grounds for 13 but the length. The maps are those of the image.
-fn accepted<'a>(image: &[u8], cached: &'a [u64; 128], fetching: &'a [u64; 128]) -> bool
-    requires { ⌜ (length (now image) ≡ imageLength) × (now cached ≡ stateIn (now image) .cached) × (now fetching ≡ stateIn (now image) .fetching) ⌝ }
+// None of the grounds for 13 but the length. The maps are those of the image, and so many frames are taken.
+fn accepted<'a>(image: &[u8], cached: &'a [u64; 128], fetching: &'a [u64; 128], taken: u32) -> bool
+    requires { ⌜ (length (now image) ≡ imageLength) × (now cached ≡ stateIn (now image) .cached) × (now fetching ≡ stateIn (now image) .fetching)
+        × (taken ≡ ones (now cached) 0 8192) ⌝ }
     ensures { λ r. ⌜ r ≡ accepts (imageNumbers (now (image .entry))) ⌝ }
 {
     let sizes = eight_in(image, SIZES_AT);
@@ -416,7 +419,7 @@ fn accepted<'a>(image: &[u8], cached: &'a [u64; 128], fetching: &'a [u64; 128]) 
     if !files_hold(&sizes, cached, fetching) {
         return false;
     }
-    if (get_u16(image, 0) as u32) < bits::count(cached, 0, 8192) {
+    if (get_u16(image, 0) as u32) < taken {
         return false;
     }
     if !gaps_hold(image) {
@@ -427,11 +430,13 @@ fn accepted<'a>(image: &[u8], cached: &'a [u64; 128], fetching: &'a [u64; 128]) 
 
 // ---- Restore
 
-fn refuse(cached: &mut [u64; 128], fetching: &mut [u64; 128]) -> Outcome
+fn refuse(cached: &mut [u64; 128], fetching: &mut [u64; 128], held: &mut [u16; 8]) -> Outcome
     ensures { λ r. ⌜ replyOf r (now (cached .exit)) (now (fetching .exit)) ≡ refused idleState 13 ⌝ }
+    ensures counted { λ _. ⌜ Held (now (cached .exit)) (now (held .exit)) ⌝ }
 {
     bits::clear_all(cached);
     bits::clear_all(fetching);
+    *held = [0u16; 8];
     let view = parts::idle();
     Outcome {
         view,
@@ -440,17 +445,26 @@ fn refuse(cached: &mut [u64; 128], fetching: &mut [u64; 128]) -> Outcome
 }
 
 // Restore of an image as long as Save writes it; any other is refused. The lent maps become those of the image, whatever they held; where it is refused, those
-// of the idle state.
-pub fn restore_whole(image: &[u8], cached: &mut [u64; 128], fetching: &mut [u64; 128]) -> Outcome
+// of the idle state. `held` becomes the counts of the files' cached pages.
+pub fn restore_whole(
+    image: &[u8],
+    cached: &mut [u64; 128],
+    fetching: &mut [u64; 128],
+    held: &mut [u16; 8],
+) -> Outcome
     ensures { λ r. ⌜ replyOf r (now (cached .exit)) (now (fetching .exit)) ≡ restoreWhole (now (image .entry)) ⌝ }
+    ensures counted { λ _. ⌜ Held (now (cached .exit)) (now (held .exit)) ⌝ }
 {
     if image.len() != IMAGE_LENGTH {
-        return refuse(cached, fetching);
+        return refuse(cached, fetching, held);
     }
     read_words(cached, image, CACHED_AT);
     read_words(fetching, image, FETCHING_AT);
-    if !accepted(image, cached, fetching) {
-        return refuse(cached, fetching);
+    // The length of a lent array is known once it is set, and the count asks for it.
+    *held = [0u16; 8];
+    parts::count_held(cached, held);
+    if !accepted(image, cached, fetching, parts::taken(held)) {
+        return refuse(cached, fetching, held);
     }
     let view = view_in(image);
     Outcome {

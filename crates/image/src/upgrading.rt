@@ -4,6 +4,7 @@ ghost use Prim.Native.Nat.{_<_};
 ghost use lib.ListN.{length, getD};
 ghost use Rattle.rules.specs.Views.{replyOf};
 ghost use Rattle.rules.specs.Image.{bytesOf, lastFrom, marked, Older, upgraded, restoreOf, imageNumbers, imageLength, unmarkedLength, unruledLength};
+ghost use Rattle.parts.specs.Held.{Held};
 use crate::GAP_AT;
 use crate::IMAGE_LENGTH;
 use crate::MARKS_AT;
@@ -95,24 +96,37 @@ fn upgrade(image: &[u8], newest: &mut [u8])
     }
 }
 
-fn restore_older(image: &[u8], cached: &mut [u64; 128], fetching: &mut [u64; 128]) -> Outcome
+fn restore_older(
+    image: &[u8],
+    cached: &mut [u64; 128],
+    fetching: &mut [u64; 128],
+    held: &mut [u16; 8],
+) -> Outcome
     requires { ⌜ Older (now image) ⌝ }
     ensures { λ r. ⌜ replyOf r (now (cached .exit)) (now (fetching .exit)) ≡ restoreOf (now (image .entry)) ⌝ }
+    ensures counted { λ _. ⌜ Held (now (cached .exit)) (now (held .exit)) ⌝ }
 {
     let mut newest = [0u8; IMAGE_LENGTH];
     upgrade(image, &mut newest);
-    restore_whole(&newest, cached, fetching)
+    restore_whole(&newest, cached, fetching, held)
 }
 
-// Restore of an image of any length. The lent maps become those of the image, whatever they held; where it is refused, those of the idle state.
-pub fn restore(image: &[u8], cached: &mut [u64; 128], fetching: &mut [u64; 128]) -> Outcome
+// Restore of an image of any length. The lent maps become those of the image, whatever they held; where it is refused, those of the idle state. `held` becomes
+// the counts of the files' cached pages.
+pub fn restore(
+    image: &[u8],
+    cached: &mut [u64; 128],
+    fetching: &mut [u64; 128],
+    held: &mut [u16; 8],
+) -> Outcome
     ensures { λ r. ⌜ replyOf r (now (cached .exit)) (now (fetching .exit)) ≡ restoreOf (now (image .entry)) ⌝ }
+    ensures counted { λ _. ⌜ Held (now (cached .exit)) (now (held .exit)) ⌝ }
 {
     if image.len() == UNMARKED_LENGTH {
-        return restore_older(image, cached, fetching);
+        return restore_older(image, cached, fetching, held);
     }
     if image.len() == UNRULED_LENGTH {
-        return restore_older(image, cached, fetching);
+        return restore_older(image, cached, fetching, held);
     }
-    restore_whole(image, cached, fetching)
+    restore_whole(image, cached, fetching, held)
 }

@@ -1,22 +1,25 @@
 -- What a line asks by the number of its fields, and then by its letter. Assumes nothing.
-use Prim.Native.Nat.{ℕ, _≤_}
+use Prim.Native.Nat.{ℕ, _≤_, _<_}
+use Prim.Native.Char.{code as ascii}
 use mathlib.Core.Path.{_≡_, sym, _∙_}
-use mathlib.Core.Bool.{true, false, and-false}
+use mathlib.Core.Bool.{true, false, true≢false, and-false}
 use mathlib.Core.List.{List, [], _∷_}
 use native.Mathlib.Omega.{arith}
-use borrow.Author.Tests.{ne-eqb, leb-true}
-use lib.ListN.{length, getD, take, drop, replicate, length-drop}
+use borrow.Author.Tests.{ne-eqb, eqb-true, ltb-true, leb-true}
+use lib.Dec.{eqb}
+use lib.ListN.{length, getD, take, drop, replicate, length-append, length-drop, length-map, length-replicate}
 use lib.Seq.{length-take-le, take-all}
 use Rattle.rules.specs.Lists.{range}
-use Rattle.rules.specs.Calls.{refused, setupOf}
-use Rattle.rules.specs.Lines.{wellFormed, told, toldSetup, obeyed, respondOf}
+use Rattle.rules.specs.Calls.{refused, setupOf, readOf, arriveOf}
+use Rattle.rules.specs.Lines.{fieldsOf, wellFormed, told, toldSetup, obeyed, respondOf}
 use Rattle.rules.specs.declared.State.{State}
 use Rattle.rules.proofs.laws.Cases.{and-true}
 use Rattle.rules.proofs.laws.Indexed.{part-listed}
-use Rattle.text.specs.Commands.{isCommand, commandOf}
+use Rattle.text.specs.Commands.{isCommand, noCommand, commandOf}
 use Rattle.text.specs.declared.Command.{Command}
 use Rattle.text.proofs.Pieces.{by-test}
 use Rattle.text.proofs.Asks.{responds}
+use Rattle.lines.specs.Responses.{isRead, isArrive}
 
 -- a number that is none of the letter's
 abbrev Not : ℕ → ℕ → Type 0
@@ -42,9 +45,9 @@ module _ (s : State) (c : ℕ) where
   other-one n d r m l = simp (ne-eqb c 68 d, ne-eqb c 82 r, ne-eqb c 78 m, ne-eqb c 67 l, and-false)
 
   -- I and X have two
-  pub other-two : (file page : ℕ) → Not c 73 → Not c 88 → obeyed s c (file ∷ page ∷ []) ≡ told (refused s 14)
+  pub other-two : (file page : ℕ) → isArrive c 2 ≡ false → Not c 88 → obeyed s c (file ∷ page ∷ []) ≡ told (refused s 14)
   unfolding obeyed
-  other-two file page i x = simp (ne-eqb c 73 i, ne-eqb c 88 x, and-false)
+  other-two file page i x = simp (ne-eqb c 73 (λ e. true≢false (rw e at i)), ne-eqb c 88 x, and-false)
 
   -- A has five
   pub other-five : (slot file pace start last : ℕ) → Not c 65 → obeyed s c (slot ∷ file ∷ pace ∷ start ∷ last ∷ []) ≡ told (refused s 14)
@@ -87,14 +90,52 @@ module _ (x : List ℕ) (e : length x ≡ 11) where
   unfolding range
   fields-sizes = sym (part-listed x 0 3 8 (omega arith)) ∙ take-all 8 (drop 3 x) (omega (arith, length-drop 3 x))
 
-module _ (s : State) (line : List ℕ) (c : Command) (e : c ≡ commandOf line) where
-  -- a line that was taken apart
-  pub responds-by : c .ok ≡ true → respondOf s line ≡ obeyed s (c .letter) (take (c .count) (c .fields))
-  responds-by ok = responds s line ∙ rw (← e, ok)
+-- a line that is no command
+no-command : (line : List ℕ) → commandOf line .ok ≡ false → commandOf line ≡ noCommand
+unfolding commandOf
+no-command line e = by-test (isCommand line) (λ t. absurd (true≢false (rw t at e))) (λ t. rw t)
 
-  -- any other line
-  pub responds-not : c .ok ≡ false → respondOf s line ≡ told (refused s 14)
-  responds-not ok = responds s line ∙ rw (← e, ok)
+fields-eleven : (line : List ℕ) → length (commandOf line .fields) ≡ 11
+unfolding commandOf isCommand
+fields-eleven line =
+    by-test (isCommand line)
+    (λ t.
+    let few : length (fieldsOf line) ≤ 11 = leb-true _ _ (and-true (wellFormed line) _ t .1) in
+    rw (t, length-append, length-map, length-replicate) (omega arith))
+    (λ t. rw t)
+
+module _ (s : State) (line : List ℕ) (c : Command) (e : c ≡ commandOf line) where
+  -- the line is answered by its letter and its fields; what is no command has the letter 0, which is none
+  pub responds-as : respondOf s line ≡ obeyed s (c .letter) (take (c .count) (c .fields))
+  responds-as =
+      rw e
+      (by-test (commandOf line .ok)
+      (λ ok. responds s line ∙ rw ok)
+      (λ no. responds s line ∙ rw (no, no-command line no) (sym (other-alone s 0 (λ z. omega arith) (λ z. omega arith) (λ z. omega arith) (λ z. omega arith)))))
+
+  -- a command has eleven places for fields
+  pub command-eleven : length (c .fields) ≡ 11
+  command-eleven = rw e (fields-eleven line)
+
+  -- R
+  pub responds-read : isRead (c .letter) (c .count) (getD (c .fields) 0 0) ≡ true
+      → (getD (c .fields) 0 0 < 16) × (respondOf s line ≡ told (readOf s (getD (c .fields) 0 0)))
+  unfolding obeyed
+  responds-read t =
+      let a = and-true (eqb (c .letter) (ascii "R")) _ t in
+      let b = and-true (eqb (c .count) 1) _ (a .1) in
+      let letter : c .letter ≡ ascii "R" = eqb-true _ _ (a .0) in
+      let count : c .count ≡ 1 = eqb-true _ _ (b .0) in
+      (ltb-true _ _ (b .1), responds-as ∙ rw (letter, count, ← field-first (c .fields) command-eleven))
+
+  -- I
+  pub responds-arrive : isArrive (c .letter) (c .count) ≡ true → respondOf s line ≡ told (arriveOf s (getD (c .fields) 0 0) (getD (c .fields) 1 0))
+  unfolding obeyed
+  responds-arrive t =
+      let a = and-true (eqb (c .letter) (ascii "I")) _ t in
+      let letter : c .letter ≡ ascii "I" = eqb-true _ _ (a .0) in
+      let count : c .count ≡ 2 = eqb-true _ _ (a .1) in
+      responds-as ∙ rw (letter, count, ← fields-two (c .fields) command-eleven)
 
 count-few : (line : List ℕ) → commandOf line .count ≤ 11
 unfolding commandOf isCommand

@@ -1,15 +1,19 @@
 -- A response given in a buffer: its line put, then the line end. Assumes nothing.
-use Prim.Native.Nat.{ℕ, _≤_, _<_}
-use mathlib.Core.Path.{_≡_, refl, _∙_, ap}
+use Prim.Native.Nat.{ℕ, _+_, _*_, _≤_, _<_}
+use mathlib.Core.Path.{_≡_, refl, sym, _∙_, ap}
 use mathlib.Core.Bool.{true, false}
 use mathlib.Core.List.{List, [], _∷_, _++_}
 use native.Mathlib.Omega.{arith}
 use types.Run.{OneOf, miss}
 use denote.Enum.Declared.{tagOf}
-use borrow.Author.Tests.{le-ltb}
-use lib.ListN.{length, take, drop, length-append}
+use borrow.Author.Tests.{le-ltb, eqb-false}
+use lib.ListN.{length, take, drop, replicate, length-append, getD-replicate}
 use lib.Seq.{take-at}
-use Rattle.rules.specs.Lines.{numbersOf, answerLine, told, toldSetup}
+use Rattle.bits.specs.Map.{bit}
+use Rattle.bits.proofs.Bits.{bit-le}
+use Rattle.bits.proofs.Counts.{ones-clear}
+use Rattle.rules.specs.Views.{noPages}
+use Rattle.rules.specs.Lines.{numbersOf, answerLine, Response, told, toldSetup}
 use Rattle.rules.specs.Entries.{letter, carriedOut}
 use Rattle.rules.specs.Listings.{Written, listed}
 use Rattle.rules.specs.declared.State.{State}
@@ -17,6 +21,8 @@ use Rattle.rules.specs.declared.Reply.{Reply}
 use Rattle.rules.specs.declared.Answer.{Answer}
 use Rattle.rules.specs.declared.Answer.the-variants.{Refused, Done, Hit, Wait, Fetch, End, Nothing, Stolen, Arrived, Replaced, Ran}
 use Rattle.rules.proofs.Answer.{the-type}
+use Rattle.rules.proofs.calls.Kept.{blank-off}
+use Rattle.parts.specs.Held.{Held}
 use Rattle.text.specs.Written.{Put}
 use Rattle.text.proofs.Puts.{put-more}
 use Rattle.lines.proofs.Rows.{line-length}
@@ -58,7 +64,26 @@ line-ended before between after line at len p q h = put-more before between afte
 pub gives-told : (r q : Reply) (before after : List ℕ) (a : Answered) → r ≡ q → Gives (told r) before after a → Gives (told q) before after a
 gives-told r q before after a e g = rw e at g
 
+-- of an equal response
+pub gives-same : (r q : Response) (before after : List ℕ) (a : Answered) → q ≡ r → Gives r before after a → Gives q before after a
+gives-same r q before after a e g = rw e g
+
+-- the line of a reply's answer gives the response of an equal reply
+pub gives-put : (r q : Reply) (before after : List ℕ) (len : ℕ) → r ≡ q → Put before 0 (answerLine (r .answer) ++ lineEnd) after len
+    → Gives (told q) before after (record { state = r .state; len = len })
+gives-put r q before after len e p = record { state = ap (λ (t : Reply). t .state) e; line = rw e at p }
+
 -- ---- Setup
+
+-- no page is cached, and each file has none
+pub none-held : Held noPages (replicate 8 0)
+none-held = record {
+  eight = refl;
+  pages = λ f l. getD-replicate 8 f 0 0 l ∙ sym (ones-clear noPages (f * 1024) 1024 (λ j _. clear (f * 1024 + j)));
+}
+  where
+    clear : (k : ℕ) → bit noPages k ≡ 0
+    clear k = let n = eqb-false (bit noPages k) 1 (blank-off k) in omega (arith, n, bit-le noPages k)
 
 -- the response of an equal reply
 pub gives-setup : (s : State) (r q : Reply) (before after : List ℕ) (a : Answered) → r ≡ q → Gives (toldSetup s r) before after a

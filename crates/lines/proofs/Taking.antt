@@ -10,29 +10,31 @@ use types.Run.{OneOf}
 use denote.Enum.Declared.{tagOf}
 use borrow.Rule.Slice.PartMut.{putMid}
 use borrow.Author.Tests.{le-leb, lt-leb, eq-eqb, ne-eqb, leb-true, eqb-true}
-use lib.ListN.{length, getD, take, drop, set, length-append, length-drop, length-set, drop-of-length-le, take-append-drop}
+use lib.ListN.{length, getD, take, drop, set, length-append, length-take, length-drop, length-set, drop-of-length-le, take-append-drop}
 use lib.Seq.{length-take-le, take-all, take-at, drop-at, drop-drop, drop-set-lt, getD-set-same}
 use lib.Dec.{eqb}
+use Rattle.rules.specs.Views.{stateOf}
 use Rattle.rules.specs.Valid.{Valid}
-use Rattle.rules.specs.Calls.{refused}
 use Rattle.rules.specs.Entries.{carriedOut}
 use Rattle.rules.specs.Image.{imageOf, restoreWhole}
-use Rattle.rules.specs.Lines.{split, told, respondOf}
+use Rattle.rules.specs.Lines.{split, Response, respondOf}
 use Rattle.rules.specs.declared.State.{State}
+use Rattle.rules.specs.declared.View.{View}
 use Rattle.rules.specs.declared.Reply.{Reply}
 use Rattle.rules.specs.declared.Answer.the-variants.{Done}
 use Rattle.rules.proofs.Answer.{the-type}
 use Rattle.rules.proofs.images.Images.{done-or-not, whole-refused}
 use Rattle.rules.proofs.laws.Cases.{and-true, cond-all}
 use Rattle.rules.specs.Lists.{written}
+use Rattle.parts.specs.Held.{Held}
 use Rattle.text.specs.Written.{Put}
-use Rattle.text.specs.Commands.{firstPiece}
+use Rattle.text.specs.Commands.{firstPiece, commandOf}
 use Rattle.text.specs.Cuts.{endOf, textIn, kept}
 use Rattle.text.specs.Streams.{Fed, behind, answered}
 use Rattle.text.proofs.Pieces.{split-some}
-use Rattle.text.proofs.Keeps.{by-most, end-line, end-last, text-none, kept-over, kept-fits, kept-front, kept-same, kept-none, copied-whole}
-use Rattle.text.proofs.Feeds.{long-refused}
-use Rattle.lines.specs.Responses.{answerRoom, lineEnd, Answered, Gives}
+use Rattle.text.proofs.Keeps.{by-most, end-line, end-last, text-none, kept-over, kept-fits, kept-front, kept-length, kept-same, kept-none, copied-whole}
+use Rattle.text.proofs.Asks.{parsed-long}
+use Rattle.lines.specs.Responses.{answerRoom, Roomy, lineEnd, Answered, Gives}
 use Rattle.lines.specs.Sessions.{taken, startOf, Gone, goneOf, Left, Taken, leftIn, fedIn, ready, saved, feedOf, finishOf}
 use Rattle.lines.proofs.Kept.{respond-kept}
 use Rattle.lines.proofs.Replies.{others, refused-by, carried-by}
@@ -65,26 +67,25 @@ module _ (text chunk : List ℕ) (from : ℕ) (out : List ℕ) where
 
 -- ---- a line that a piece completes
 
-module _ (s : State) (zeros copy line text piece : List ℕ) (before after : List ℕ) (a : Answered) (sized : length zeros ≡ length text)
+module _ (zeros copy line text piece : List ℕ) (sized : length zeros ≡ length text)
     (copied : copy ≡ written zeros 0 text) (joined : line ≡ kept copy (textIn copy ++ piece)) where
   line-is : line ≡ kept text (textIn text ++ piece)
   line-is = joined ∙ ap (λ t. kept t (textIn t ++ piece)) (copied ∙ copied-whole zeros text sized)
 
-  -- it is too long
-  pub answer-long : 200 < getD line 0 0 → Gives (told (refused s 14)) before after a → Gives (respondOf s (textIn text ++ piece)) before after a
-  answer-long h g =
+  -- it is too long, and the whole buffer is too
+  pub command-long : length text ≡ 201 → 200 < getD line 0 0 → commandOf line ≡ commandOf (textIn text ++ piece)
+  command-long all h =
       let over : 200 < getD (kept text (textIn text ++ piece)) 0 0 = rw line-is at h in
-      rw (long-refused s (textIn text ++ piece) (kept-over (textIn text ++ piece) text over)) g
+      let whole : length line ≡ 201 = ap length line-is ∙ kept-length (textIn text ++ piece) text all in
+      parsed-long line (omega arith) ∙ sym (parsed-long (textIn text ++ piece) (kept-over (textIn text ++ piece) text over))
 
   -- it stands behind its length
-  pub answer-short : getD line 0 0 ≤ 200 → Gives (respondOf s (take (1 + getD line 0 0 - 1) (drop 1 line))) before after a
-      → Gives (respondOf s (textIn text ++ piece)) before after a
-  answer-short h g =
+  pub command-short : getD line 0 0 ≤ 200 → commandOf (take (1 + getD line 0 0 - 1) (drop 1 line)) ≡ commandOf (textIn text ++ piece)
+  command-short h =
       let held = getD (kept text (textIn text ++ piece)) 0 0 in
       let fits : held ≤ 200 = rw line-is at h in
       let width : 1 + held - 1 ≡ held = omega arith in
-      let short = kept-fits (textIn text ++ piece) text fits in
-      rw (line-is, width, kept-front (textIn text ++ piece) text short) at g
+      rw (line-is, width, kept-front (textIn text ++ piece) text (kept-fits (textIn text ++ piece) text fits))
 
 -- ---- the pieces from a place on
 
@@ -175,6 +176,10 @@ module _ (m after bytes : List ℕ) (at next : ℕ) (inside : at ≤ length m) (
   put-past : drop next after ≡ drop next m
   put-past = ap (drop next) whole ∙ drop-at (take at m ++ bytes) (drop next m) next front
 
+-- behind the answers before it there is room for any answer
+pub part-room : (out : List ℕ) (len : ℕ) → answerRoom ≤ length out - len → Roomy (take (length out - len) (drop len out))
+part-room out len h = omega (arith, h, length-take (length out - len) (drop len out), length-drop len out)
+
 -- ---- the loop
 
 -- what is still to be taken of a chunk gives what was to be taken at first. `room` is the length of the buffer of answers; `len` bytes of it are written.
@@ -217,36 +222,52 @@ module _ (start : State) (text₀ chunk : List ℕ) (from : ℕ) (out₀ : List 
   out-is : take len out ++ drop len out₀ ≡ out
   out-is = rw (← k .past) (take-append-drop len out)
 
-  -- one line more
+  -- an answer more, whatever it is, fits
+  pub going-fits : (r : Response) (part : List ℕ) (a : Answered) → Gives r (take (length out - len) (drop len out)) part a
+      → length (putMid len (length out - len) out part) ≡ length out → len + a .len ≤ length out₀
+  going-fits r part a g same =
+      let bytes = r .line ++ lineEnd in
+      let p = put-behind out part len (a .len) bytes (k .fits) (g .line) in
+      let after = putMid len (length out - len) out part in
+      let whole-is = ap length (whole out after bytes len (len + a .len) (k .fits) p) in
+      omega (
+        arith,
+        k .long,
+        same,
+        whole-is,
+        length-append (take len out ++ bytes) (drop (len + a .len) out),
+        front out after bytes len (len + a .len) (k .fits) p,
+      )
+
+  -- one line more, which leaves the text empty
   pub going-more : end < length chunk → answerRoom ≤ length out - len → (part : List ℕ) (a : Answered)
       → Gives (respondOf s (textIn text ++ take (end - next) (drop next chunk))) (take (length out - len) (drop len out)) part a
-      → length (putMid len (length out - len) out part) ≡ length out → (to : ℕ) → to ≡ endOf chunk (end + 1)
-      → Going start text₀ chunk from out₀ (a .state) (set text 0 0) (putMid len (length out - len) out part) (end + 1) (len + a .len) to
-  going-more h room part a g same to ends =
+      → length (putMid len (length out - len) out part) ≡ length out → (none : List ℕ) → none ≡ set text 0 0 → (to : ℕ) → to ≡ endOf chunk (end + 1)
+      → Going start text₀ chunk from out₀ (a .state) none (putMid len (length out - len) out part) (end + 1) (len + a .len) to
+  going-more h room part a g same none emptied to ends =
       let line = textIn text ++ take (end - next) (drop next chunk) in
       let f : Fed = record { state = s; text = textIn text; output = take len out } in
       let bytes = respondOf s line .line ++ lineEnd in
       let p = put-behind out part len (a .len) bytes (k .fits) (g .line) in
       let after = putMid len (length out - len) out part in
       let front-is = put-front out after bytes len (len + a .len) (k .fits) p in
-      let whole-is = ap length (whole out after bytes len (len + a .len) (k .fits) p) in
       let first : 0 < length text = omega (arith, k .sized) in
-      let none : textIn (set text 0 0) ≡ [] = text-none (set text 0 0) (getD-set-same text 0 0 0 first) in
+      let zero : getD none 0 0 ≡ 0 = rw emptied (getD-set-same text 0 0 0 first) in
       let here : endOf chunk next < length chunk = rw (← k .ends) h in
       let fits : length (take len out) + answerRoom ≤ length out₀ = rw output-is (omega (arith, k .long)) in
       let step : taken (length out₀) f next (split (ascii "\n") (drop next chunk))
       ≡ taken (length out₀) (answered f line) (end + 1) (split (ascii "\n") (drop (end + 1) chunk))
       = rw (k .ends) (taken-line (length out₀) f chunk next here fits) in
-      let fed : answered f line ≡ record { state = a .state; text = textIn (set text 0 0); output = take (len + a .len) after } =
-      rw (g .state, none, front-is) in
+      let fed : answered f line ≡ record { state = a .state; text = textIn none; output = take (len + a .len) after } =
+      rw (g .state, text-none none zero, front-is) in
       record {
         same = k .same ∙ step ∙ ap (λ g. taken (length out₀) g (end + 1) (split (ascii "\n") (drop (end + 1) chunk))) fed;
-        fits = omega (arith, whole-is, length-append (take len out ++ bytes) (drop (len + a .len) out), front out after bytes len (len + a .len) (k .fits) p);
+        fits = rw (same, k .long) (going-fits (respondOf s line) part a g same);
         past = put-past out after bytes len (len + a .len) (k .fits) p ∙ further;
         long = same ∙ k .long;
-        sized = length-set text 0 0 ∙ k .sized;
-        bytes = drop-set-lt 1 text 0 0 (omega arith) ∙ k .bytes;
-        emptied = λ _. getD-set-same text 0 0 0 first;
+        sized = rw emptied (length-set text 0 0 ∙ k .sized);
+        bytes = rw emptied (drop-set-lt 1 text 0 0 (omega arith) ∙ k .bytes);
+        emptied = λ _. zero;
         valid = rw (g .state) (respond-kept s line (k .valid));
         ends = ends;
         inside = omega arith;
@@ -260,31 +281,35 @@ module _ (start : State) (text₀ chunk : List ℕ) (from : ℕ) (out₀ : List 
   going-far = omega (arith, k .ends)
 
   -- no line ends: the bytes left go behind the text
-  pub going-rest : length chunk ≤ end → (after : List ℕ) → after ≡ kept text (textIn text ++ take (length chunk - next) (drop next chunk))
-      → record { state = s; text = after; out = out; next = length chunk; len = len } ≡ goneOf start text₀ chunk from out₀
+  pub going-rest : length chunk ≤ end → (to : ℕ) (after : List ℕ) → (to ≡ length chunk) × (after ≡ kept text (textIn text ++ drop next chunk))
+      → record { state = s; text = after; out = out; next = to; len = len } ≡ goneOf start text₀ chunk from out₀
   unfolding goneOf
-  going-rest h after e =
+  going-rest h to after e =
       let f : Fed = record { state = s; text = textIn text; output = take len out } in
       let far : length chunk ≤ endOf chunk next = rw (← k .ends) h in
       let t = k .same ∙ taken-rest (length out₀) f chunk next (k .inside) far in
-      let all : take (length chunk - next) (drop next chunk) ≡ drop next chunk =
-      take-all (length chunk - next) (drop next chunk) (omega (arith, length-drop next chunk)) in
-      let text-is : after ≡ kept text₀ (textIn text ++ drop next chunk) =
-      e ∙ ap (λ l. kept text (textIn text ++ l)) all ∙ kept-same text text₀ (textIn text ++ drop next chunk) (k .bytes) in
-      rw (t, output-is, text-is, out-is)
+      let text-is : after ≡ kept text₀ (textIn text ++ drop next chunk) = e .1 ∙ kept-same text text₀ (textIn text ++ drop next chunk) (k .bytes) in
+      rw (t, output-is, e .0, text-is, out-is)
 
   -- no room is left
-  pub going-full : end < length chunk → length out - len < answerRoom → answerRoom ≤ length out₀
-      → record { state = s; text = text; out = out; next = next; len = len } ≡ goneOf start text₀ chunk from out₀
+  pub going-full : end < length chunk → length out - len < answerRoom → answerRoom ≤ length out₀ → (to : ℕ) (after : List ℕ) → (to ≡ next) × (after ≡ text)
+      → record { state = s; text = after; out = out; next = to; len = len } ≡ goneOf start text₀ chunk from out₀
   unfolding goneOf
-  going-full h full roomy =
+  going-full h full roomy to after e =
       let f : Fed = record { state = s; text = textIn text; output = take len out } in
       let here : endOf chunk next < length chunk = rw (← k .ends) h in
       let none : length out₀ < length (take len out) + answerRoom = rw output-is (omega (arith, k .long, k .fits)) in
       let t = k .same ∙ taken-full (length out₀) f chunk next here none in
       let zero = k .emptied (omega (arith, k .long)) in
       let text-is : kept text₀ (textIn text) ≡ text = ap (kept text₀) (text-none text zero) ∙ kept-none text₀ text (k .sized) zero (k .bytes) in
-      rw (t, output-is, text-is, out-is)
+      rw (t, output-is, text-is, out-is, e .0, e .1)
+
+-- the loop's variables by what the branch that was taken left in them
+pub going-joined : (start : State) (text₀ chunk : List ℕ) (from : ℕ) (out₀ text : List ℕ) (next end : ℕ)
+    (v w : View) (c d f g h i out after : List ℕ) (len most : ℕ) → d ≡ c → g ≡ f → i ≡ h → after ≡ out → w ≡ v → most ≡ len
+    → Going start text₀ chunk from out₀ (stateOf v c f) text out next len end → Held c h
+    → Going start text₀ chunk from out₀ (stateOf w d g) text after next most end × Held d i
+going-joined start text₀ chunk from out₀ text next end v w c d f g h i out after len most a b e j m n k held = rw (a, b, e, j, m, n) (k, held)
 
 -- ---- on lent buffers
 

@@ -16,6 +16,7 @@ ghost use Rattle.rules.specs.Valid.{Valid};
 ghost use Rattle.rules.specs.Calls.{refused};
 ghost use Rattle.rules.specs.Listings.{keysIn};
 ghost use Rattle.rules.specs.Lines.{lineOf, answerLine, orderLine, clustersLine, told, toldSetup, shown, fieldOf};
+ghost use Rattle.parts.specs.Held.{Held};
 ghost use Rattle.text.specs.Written.{Put};
 ghost use Rattle.lines.specs.Responses.{Roomy, lineEnd, orderOf, Front, clustersShown, saidOf, Gives};
 
@@ -102,7 +103,7 @@ fn put_clusters(out: &mut [u8], pages: &[u16], n: u16) -> usize
 // ---- what a line is answered
 
 // A call's answer, as a line with its line end.
-fn tell(answer: Answer, out: &mut [u8]) -> usize
+pub(crate) fn tell(answer: Answer, out: &mut [u8]) -> usize
     requires { ⌜ Roomy (now out) ⌝ }
     ensures { λ r. ⌜ Put (now (out .entry)) 0 (answerLine answer ++ lineEnd) (now (out .exit)) r ⌝ }
 {
@@ -143,13 +144,15 @@ pub(crate) fn say_setup(
     v: View,
     cached: &mut [u64; 128],
     fetching: &mut [u64; 128],
+    held: &mut [u16; 8],
     r: Outcome,
     out: &mut [u8],
 ) -> Said
-    requires { ⌜ Roomy (now out) ⌝ }
+    requires { ⌜ Held (now cached) (now held) × Roomy (now out) ⌝ }
     ensures { λ a.
         ⌜ Gives (toldSetup (stateOf v (now (cached .entry)) (now (fetching .entry))) (replyOf r noPages noPages))
         (now (out .entry)) (now (out .exit)) (saidOf a (now (cached .exit)) (now (fetching .exit))) ⌝ }
+    ensures counted { λ _. ⌜ Held (now (cached .exit)) (now (held .exit)) ⌝ }
 {
     let told = r.answer;
     match told {
@@ -157,6 +160,7 @@ pub(crate) fn say_setup(
         _ => {
             bits::clear_all(cached);
             bits::clear_all(fetching);
+            *held = [0u16; 8];
             say(r, out)
         }
     }

@@ -4,6 +4,7 @@ mod answers;
 mod dispatch;
 mod stream;
 
+use rules::Reader;
 use rules::View;
 pub use stream::feed;
 pub use stream::finish;
@@ -13,6 +14,18 @@ pub use stream::no_text;
 // A line's answer: the view after it, and how many bytes were written.
 struct Said {
     view: View,
+    len: usize,
+}
+
+// A Read's answer, with the record that the slot has then.
+struct SaidOne {
+    reader: Reader,
+    len: usize,
+}
+
+// An Arrive's answer, with the records of all slots.
+struct SaidAll {
+    readers: [Reader; 16],
     len: usize,
 }
 

@@ -1,23 +1,22 @@
 // The input in chunks, cut into lines: on lent buffers, the image of the box, the text since the last line end, and room for answers.
 
 use crate::Progress;
-use crate::Said;
 use crate::Went;
 use crate::answers;
 use crate::dispatch;
 use rules::Answer;
 use rules::View;
+use text::Command;
 ghost use Prim.Native.Nat.{_+_, _≤_, _<_};
 ghost use mathlib.Core.Path.{_≡_};
 ghost use mathlib.Core.List.{_++_};
-ghost use lib.ListN.{length};
+ghost use lib.ListN.{length, set, drop};
 ghost use Rattle.rules.specs.Views.{stateOf};
-ghost use Rattle.rules.specs.Valid.{Valid};
 ghost use Rattle.rules.specs.Calls.{idle};
 ghost use Rattle.rules.specs.Image.{imageOf};
-ghost use Rattle.rules.specs.Lines.{respondOf};
-ghost use Rattle.lines.specs.Responses.{Roomy, saidOf, Gives};
-ghost use Rattle.text.specs.Cuts.{textIn};
+ghost use Rattle.lines.specs.Responses.{Sound, Roomy};
+ghost use Rattle.text.specs.Commands.{commandOf};
+ghost use Rattle.text.specs.Cuts.{textIn, kept};
 ghost use Rattle.lines.specs.Sessions.{noText, ready, goneIn, goneOf, leftIn, fedIn, feedOf, finishOf};
 
 // No answer is longer: a letter, a count, at most 8,192 pairs of at most seven bytes, and a line end.
@@ -25,74 +24,90 @@ const ROOM: usize = 57351;
 
 // ---- a chunk line by line
 
-// Answers the line that a piece of a chunk completes: it stands behind the text that came before the chunk.
-fn answer_line(
-    v: View,
-    cached: &mut [u64; 128],
-    fetching: &mut [u64; 128],
-    text: &[u8],
-    piece: &[u8],
-    out: &mut [u8],
-) -> Said
-    requires { ⌜ Valid (stateOf v (now cached) (now fetching)) ⌝ }
-    requires { ⌜ (length (now text) ≡ 201) × Roomy (now out) ⌝ }
-    ensures { λ a.
-        ⌜ Gives (respondOf (stateOf v (now (cached .entry)) (now (fetching .entry))) (textIn (now (text .entry)) ++ now (piece .entry)))
-        (now (out .entry)) (now (out .exit)) (saidOf a (now (cached .exit)) (now (fetching .exit))) ⌝ }
+// The line that a piece of a chunk completes, taken apart: it stands behind the text that came before the chunk. One that is too long for its buffer is
+// none, and neither is the whole buffer.
+fn command_in(text: &[u8], piece: &[u8]) -> Command
+    requires { ⌜ length (now text) ≡ 201 ⌝ }
+    ensures { λ r. ⌜ r ≡ commandOf (textIn (now (text .entry)) ++ now (piece .entry)) ⌝ }
 {
     if text[0] == 0 {
-        return dispatch::respond(v, cached, fetching, piece, out);
+        return text::parse(piece);
     }
     let mut line = [0u8; 201];
     text::put_bytes(&mut line, 0, text);
     text::append(&mut line, piece);
     let end = line[0] as usize;
     if 200 < end {
-        return answers::refuse(v, out);
+        return text::parse(&line);
     }
-    dispatch::respond(v, cached, fetching, &line[1..1 + end], out)
+    text::parse(&line[1..1 + end])
 }
 
-// Takes lines of the chunk from `from` on, as long as there is room for one more answer. The bytes behind the last line end go behind the text.
+// The same, and the text is empty then.
+fn take_command(text: &mut [u8], piece: &[u8]) -> Command
+    requires { ⌜ length (now text) ≡ 201 ⌝ }
+    ensures { λ r. ⌜ r ≡ commandOf (textIn (now (text .entry)) ++ now (piece .entry)) ⌝ }
+    ensures emptied { λ _. ⌜ now (text .exit) ≡ set (now (text .entry)) 0 0 ⌝ }
+{
+    let c = command_in(text, piece);
+    text[0] = 0;
+    c
+}
+
+// Where no line ends any more, the bytes that are left go behind the text. Returns how far the chunk is taken then.
+fn keep_rest(text: &mut [u8], chunk: &[u8], next: usize, end: usize) -> usize
+    requires { ⌜ (length (now text) ≡ 201) × (next ≤ length (now chunk)) ⌝ }
+    ensures { λ r. ⌜ (end < length (now (chunk .entry)) → (r ≡ next) × (now (text .exit) ≡ now (text .entry))) ⌝ }
+    ensures rest { λ r. ⌜ (length (now (chunk .entry)) ≤ end → (r ≡ length (now (chunk .entry)))
+        × (now (text .exit) ≡ kept (now (text .entry)) (textIn (now (text .entry)) ++ drop next (now (chunk .entry))))) ⌝ }
+{
+    if end < chunk.len() {
+        return next;
+    }
+    text::append(text, &chunk[next..]);
+    chunk.len()
+}
+
+// Takes lines of the chunk from `next` on, as long as there is room for one more answer. The bytes behind the last line end go behind the text.
 fn go_through(
-    v: View,
+    mut v: View,
     cached: &mut [u64; 128],
     fetching: &mut [u64; 128],
+    held: &mut [u16; 8],
     text: &mut [u8],
     chunk: &[u8],
-    from: usize,
+    mut next: usize,
     out: &mut [u8],
 ) -> Went
-    requires { ⌜ Valid (stateOf v (now cached) (now fetching)) ⌝ }
-    requires { ⌜ (length (now text) ≡ 201) × (from ≤ length (now chunk)) × Roomy (now out) ⌝ }
-    ensures { λ r.
-        ⌜ goneIn r (now (cached .exit)) (now (fetching .exit)) (now (text .exit)) (now (out .exit))
-        ≡ goneOf (stateOf v (now (cached .entry)) (now (fetching .entry))) (now (text .entry)) (now (chunk .entry)) from (now (out .entry)) ⌝ }
+    requires { ⌜ Sound v (now cached) (now fetching) (now held) × (length (now text) ≡ 201) × (next ≤ length (now chunk)) × Roomy (now out) ⌝ }
+    ensures { λ r. ⌜ goneIn r (now (cached .exit)) (now (fetching .exit)) (now (text .exit)) (now (out .exit))
+        ≡ goneOf (stateOf v (now (cached .entry)) (now (fetching .entry))) (now (text .entry)) (now (chunk .entry)) next (now (out .entry)) ⌝ }
 {
-    let mut w = v;
-    let mut next = from;
     let mut len: usize = 0;
-    let mut end = text::line_end(chunk, from);
+    let mut end = text::line_end(chunk, next);
     while end < chunk.len() && ROOM <= out.len() - len {
-        let a = answer_line(
-            w,
-            cached,
-            fetching,
-            text,
-            &chunk[next..end],
-            &mut out[len..],
-        );
-        text[0] = 0;
-        w = a.view;
+        let c = take_command(text, &chunk[next..end]);
+        if dispatch::is_read(c.letter, c.count, c.fields[0]) {
+            let i = c.fields[0] as usize;
+            let a = dispatch::obey_read(cached, fetching, v.readers[i], &mut out[len..]);
+            let reader = a.reader;
+            v.readers[i] = reader;
+            len += a.len;
+        } else if dispatch::is_arrive(c.letter, c.count) {
+            let a = dispatch::obey_arrive(v, cached, fetching, held, c, &mut out[len..]);
+            let readers = a.readers;
+            v.readers = readers;
+            len += a.len;
+        } else {
+            let a = dispatch::obey(v, cached, fetching, held, c, &mut out[len..]);
+            v = a.view;
+            len += a.len;
+        }
         next = end + 1;
-        len += a.len;
         end = text::line_end(chunk, next);
     }
-    if chunk.len() <= end {
-        text::append(text, &chunk[next..]);
-        next = chunk.len();
-    }
-    Went { view: w, next, len }
+    next = keep_rest(text, chunk, next, end);
+    Went { view: v, next, len }
 }
 
 // ---- on lent buffers
@@ -148,7 +163,8 @@ pub fn feed(
     }
     let mut cached = [0u64; 128];
     let mut fetching = [0u64; 128];
-    let restored = image::restore_whole(image, &mut cached, &mut fetching);
+    let mut held = [0u16; 8];
+    let restored = image::restore_whole(image, &mut cached, &mut fetching, &mut held);
     let answer = restored.answer;
     match answer {
         Answer::Refused(_) => Progress { next: from, len: 0 },
@@ -157,6 +173,7 @@ pub fn feed(
                 restored.view,
                 &mut cached,
                 &mut fetching,
+                &mut held,
                 text,
                 chunk,
                 from,

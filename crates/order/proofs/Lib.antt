@@ -1,9 +1,10 @@
--- What the code of the two orders rests on: one slot's use key, the readers' array, all slots', the searches for the victim and for the next fetch.
-pub mod Ranges
+-- What the code of the two orders rests on: one slot's use key, the readers' array, all slots', pages behind all readers, the searches for the victim and for
+-- the next fetch.
 pub mod Between
 pub mod Slots
 pub mod Seating
 pub mod Sweeps
 pub mod Lacks
+pub mod Rearing
 pub mod Searching
 pub mod Leading

@@ -3,7 +3,7 @@ use mathlib.Core.Path.{_≡_, refl, sym, ap, ap₂, _∙_, subst}
 use mathlib.Core.Bool.{Bool, true, false, not, _&&_}
 use mathlib.Core.Option.{none, some}
 use Prim.Native.Nat.{ℕ, zero, suc, _+_, _-_, _*_, _≤_, _<_}
-use native.Mathlib.Decide.{decLt}
+use native.Mathlib.Decide.{ℕ-discrete, decLt}
 use native.Mathlib.Omega.{arith}
 use borrow.Author.Tests.{eq-eqb}
 use lib.Dec.{T, eqb, eqb→eq}
@@ -12,12 +12,14 @@ use Rattle.bits.proofs.Bits.{bit-le}
 use Rattle.bits.proofs.Finds.{Next, next-is, last-is}
 use Rattle.rules.specs.Lists.{head}
 use Rattle.rules.specs.Pages.{fileOf, cached}
-use Rattle.rules.specs.Readers.{readerAt, attached}
+use Rattle.rules.specs.Readers.{readerAt, attached, readsFile}
 use Rattle.rules.specs.Valid.{Valid}
 use Rattle.rules.specs.UseTimes.{before, never, useFor}
 use Rattle.rules.specs.Orders.{absent, fetchOrder, victim}
 use Rattle.rules.proofs.laws.Tests.{and-both}
-use Rattle.rules.proofs.laws.Cases.{passed}
+use Rattle.rules.proofs.laws.Below.{one-more}
+use Rattle.rules.proofs.laws.Cases.{passed, failed}
+use Rattle.rules.proofs.calls.Valids.{placed-at}
 use Rattle.rules.proofs.orders.Victims.{among-all}
 use Rattle.rules.proofs.orders.LookAheads.{before-is, is-before, use-least}
 use Rattle.rules.specs.Ranks.{rank, cachedAmong, victimAmong, lastCached, AtMost, FirstAbsent, NoneBelow, AtLeast, Before}
@@ -36,7 +38,7 @@ use Rattle.rules.proofs.orders.Candidates.{
 use Rattle.rules.specs.declared.State.{State}
 use Rattle.rules.specs.declared.Reader.{Reader}
 use Rattle.order.specs.Choices.{inSet}
-use Rattle.order.specs.Searches.{lower, Over, Ranked, Raised, Highest, Soonest}
+use Rattle.order.specs.Searches.{lower, Over, Ranked, Raised, Topped, Highest, Soonest}
 use Rattle.order.specs.declared.Pick.{Pick}
 use Rattle.order.proofs.Slots.{lower-least}
 use Rattle.bits.proofs.Joins.{joined-clear}
@@ -44,14 +46,10 @@ use Rattle.bits.proofs.Joins.{joined-clear}
 -- ---- the page to give up
 
 module _ (s : State) (files : ℕ → Bool) where
-  -- a file that is not of the set has no candidate
-  pub raised-out : (f n : ℕ) (p : Pick) → files f ≡ false → Ranked s files p → Raised s files f n p p
-  raised-out f n p out k = record { page = k; up = omega arith; most = λ h. absurd (subst T out h) }
-
   module _ (f n page : ℕ) (small : n ≤ 1024) (e : page ≡ lastCached s f n) (p : Pick) where
     -- there is no candidate
     pub raised-none : Ranked s files p → page ≡ 0 → Raised s files f n p p
-    raised-none k z = record { page = k; up = omega arith; most = λ h l. absurd (omega (arith, e)) }
+    raised-none k z = record { page = k; up = omega arith; most = λ l. absurd (omega (arith, e)) }
 
     module _ (value : ℕ) (o : Over s (f * 1024 + page - 1) (p .value) value) where
       most : (b : ℕ) → value ≤ b → AtMost s b f n
@@ -62,7 +60,7 @@ module _ (s : State) (files : ℕ → Bool) where
       raised-take in-set z l = record {
         page = record { held = λ _. held; its = λ _. sym (o .exact l) };
         up = omega arith;
-        most = λ _. most value (omega arith);
+        most = most value (omega arith);
       }
         where
           held : T (cachedAmong files s (f * 1024 + page - 1))
@@ -74,43 +72,86 @@ module _ (s : State) (files : ℕ → Bool) where
 
       -- a candidate of no higher rank
       pub raised-keep : Ranked s files p → value ≤ p .value → Raised s files f n p p
-      raised-keep k l = record { page = k; up = omega arith; most = λ _. most (p .value) l }
+      raised-keep k l = record { page = k; up = omega arith; most = most (p .value) l }
 
-  -- a search starts with none of the candidates
-  pub highest-none : Highest s files 24 (record { key = 0; value = 0 })
+  -- a bound that is raised still holds
+  raise : (a b : ℕ) → a ≤ b → (f n : ℕ) → AtMost s a f n → AtMost s b f n
+  raise a b l f n h t = omega (arith, h t)
+
+  module _ (f : ℕ) (p q : Pick) where
+    -- the file's last cached page is looked at first
+    pub topped-whole : (n : ℕ) → ((j : ℕ) → n ≤ j → j < 16 → T (readsFile f (readerAt s j)) → ⊥) → Raised s files f 1024 p q → Topped s files f n p q
+    topped-whole n empty a = record { page = a .page; up = a .up; whole = a .most; by-slot = λ j l u h. absurd (empty j l u h) }
+
+    -- then that of slot j, which is the last one before n with a reader of the file
+    pub topped-slot : (n j : ℕ) (t : Pick) → Topped s files f n p q → ((i : ℕ) → j < i → i < n → T (readsFile f (readerAt s i)) → ⊥)
+        → Raised s files f (readerAt s j .position) q t → Topped s files f j p t
+    topped-slot n j t a empty r = record {
+      page = r .page;
+      up = omega (arith, a .up, r .up);
+      whole = raise (q .value) (t .value) (r .up) f 1024 (a .whole);
+      by-slot = λ i l u h. by i l u h (ℕ-discrete i j) (decLt i n);
+    }
+      where
+        by : (i : ℕ) → j ≤ i → i < 16 → T (readsFile f (readerAt s i)) → Dec (i ≡ j) → Dec (i < n) → AtMost s (t .value) f (readerAt s i .position)
+        by i l u h (yes e) _ = rw e (r .most)
+        by i l u h (no e) (yes m) = absurd (empty i (omega arith) m h)
+        by i l u h (no e) (no m) = raise (q .value) (t .value) (r .up) f (readerAt s i .position) (a .by-slot i (omega arith) u h)
+
+    -- slots without a reader of the file have no candidate
+    pub topped-down : (n j : ℕ) → Topped s files f n p q → ((i : ℕ) → j ≤ i → i < n → T (readsFile f (readerAt s i)) → ⊥) → Topped s files f j p q
+    topped-down n j a empty = record {
+      page = a .page;
+      up = a .up;
+      whole = a .whole;
+      by-slot = λ i l u h. by i l u h (decLt i n);
+    }
+      where
+        by : (i : ℕ) → j ≤ i → i < 16 → T (readsFile f (readerAt s i)) → Dec (i < n) → AtMost s (q .value) f (readerAt s i .position)
+        by i l u h (yes m) = absurd (empty i l m h)
+        by i l u h (no m) = a .by-slot i (omega arith) u h
+
+  -- a search starts with none of the files
+  pub highest-none : Highest s files 0 (record { key = 0; value = 0 })
   highest-none = record {
     page = record { held = λ h. absurd (omega arith); its = λ h. absurd (omega arith) };
-    by-file = λ f l u. absurd (omega arith);
-    by-slot = λ j l u. absurd (omega arith);
+    by-file = λ f l. absurd (omega arith);
+    by-slot = λ f j l. absurd (omega arith);
   }
 
-  -- one candidate more, of a file or of a slot
-  pub highest-more : (i : ℕ) (p q : Pick) (f n : ℕ) → Highest s files (i + 1) p → Raised s files f n p q
-      → (i < 8 → (f ≡ i) × (n ≡ 1024))
-      → ((j : ℕ) → i ≡ 8 + j → T (attached (readerAt s j)) → (f ≡ readerAt s j .file) × (n ≡ readerAt s j .position))
-      → Highest s files i q
-  highest-more i p q f n a r of-file of-slot =
-      record {
-        page = r .page;
-        by-file = λ g l u o. by-file g l u o (decLt i g);
-        by-slot = λ j l u h o. by-slot j l u h o (decLt i (8 + j));
-      }
-    where
-      raised : (g m : ℕ) → AtMost s (p .value) g m → AtMost s (q .value) g m
-      raised g m h t = omega (arith, h t, r .up)
+  module _ (n : ℕ) (p : Pick) (a : Highest s files n p) where
+    -- one file more
+    pub highest-more : (q : Pick) → Topped s files n 0 p q → Highest s files (n + 1) q
+    highest-more q t = record {
+      page = t .page;
+      by-file = one-more (λ f. T (files f) → AtMost s (q .value) f 1024) n
+          (λ f l o. raise (p .value) (q .value) (t .up) f 1024 (a .by-file f l o)) (λ _. t .whole);
+      by-slot = λ f j l. one-more (λ f. T (files f) → j < 16 → T (readsFile f (readerAt s j)) → AtMost s (q .value) f (readerAt s j .position)) n
+          (λ f m o u h. raise (p .value) (q .value) (t .up) f (readerAt s j .position) (a .by-slot f j m o u h))
+          (λ _ u h. t .by-slot j (omega arith) u h) f l;
+    }
 
-      by-file : (g : ℕ) → i ≤ g → g < 8 → T (files g) → Dec (i < g) → AtMost s (q .value) g 1024
-      by-file g l u o (yes m) = raised g 1024 (a .by-file g (omega arith) u o)
-      by-file g l u o (no m) = let t = of-file (omega arith) in let e : f ≡ g = omega (arith, t .0) in (rw (e, t .1) at (r .most)) o
+    -- one that is not of the set
+    pub highest-skip : files n ≡ false → Highest s files (n + 1) p
+    highest-skip e = record {
+      page = a .page;
+      by-file = one-more (λ f. T (files f) → AtMost s (p .value) f 1024) n (a .by-file) (λ h. absurd (failed _ e h));
+      by-slot = λ f j l. one-more (λ f. T (files f) → j < 16 → T (readsFile f (readerAt s j)) → AtMost s (p .value) f (readerAt s j .position)) n
+          (λ f m o u h. a .by-slot f j m o u h) (λ h. absurd (failed _ e h)) f l;
+    }
 
-      by-slot : (j : ℕ) → i ≤ 8 + j → j < 16 → T (attached (readerAt s j)) → T (files (readerAt s j .file)) → Dec (i < 8 + j)
-          → AtMost s (q .value) (readerAt s j .file) (readerAt s j .position)
-      by-slot j l u h o (yes m) = raised (readerAt s j .file) (readerAt s j .position) (a .by-slot j (omega arith) u h o)
-      by-slot j l u h o (no m) = let t = of-slot j (omega arith) h in (rw (t .0, t .1) at (r .most)) o
+  -- all files
+  pub highest-all : (n : ℕ) (p : Pick) → n ≡ 8 → Highest s files n p → Highest s files 8 p
+  highest-all n p e a = rw e at a
 
-  module _ (w : Valid s) (p : Pick) (a : Highest s files 0 p) where
+  module _ (w : Valid s) (p : Pick) (a : Highest s files 8 p) where
     above : NoneAbove s files 8 16 (p .value)
-    above = record { by-file = λ f l. a .by-file f (omega arith) l; by-slot = λ j l. a .by-slot j (omega arith) l }
+    above = record {
+      by-file = λ f l. a .by-file f l;
+      by-slot = λ j l h o.
+          a .by-slot (readerAt s j .file) j (placed-at s w j h .file-high) o l
+          (and-both (attached (readerAt s j)) _ h (passed _ (eq-eqb (readerAt s j .file) _ refl)));
+    }
 
     -- the page kept is the one to give up
     pub highest-victim : 0 < p .value → victimAmong files s ≡ some (p .key)

@@ -8,11 +8,12 @@ use native.Mathlib.Decide.{ℕ-discrete, decLt}
 use native.Mathlib.Numerals.{add-one}
 use native.Mathlib.Omega.{arith}
 use borrow.Author.Tests.{eq-eqb, ne-eqb}
-use lib.Dec.{T, eqb}
+use lib.Dec.{T, eqb, eqb→eq}
 use lib.ListN.{length, getD, set, replicate, length-set}
 use lib.Seq.{getD-set-same, getD-set-other}
-use Rattle.rules.specs.Readers.{attached, readerIn, readsFile}
+use Rattle.rules.specs.Readers.{noReader, attached, readerIn, readsFile}
 use Rattle.rules.proofs.laws.Below.{one-more}
+use Rattle.rules.proofs.laws.Tests.{and-first, and-second}
 use Rattle.rules.proofs.laws.Cases.{failed}
 use Rattle.rules.proofs.calls.Kept.{same-at}
 use Rattle.rules.specs.declared.Reader.{Reader}
@@ -58,25 +59,39 @@ seated-none readers = record {
   last = λ f u. same-at 72 (48 + f) 0;
 }
 
-module _ (readers : List Reader) (n : ℕ) (seats : List ℕ) (a : Seated readers n seats) where
+module _ (readers : List Reader) (n : ℕ) (seats : List ℕ) (a : Seated readers n seats) (l : n < 16) (r : Reader) (er : r ≡ readerIn readers n) where
+  -- the position of slot n
+  abbrev one : List ℕ
+  one = set seats n (r .position)
+
+  one-kept : (i : ℕ) → i ≢ n → getD one i 0 ≡ getD seats i 0
+  one-kept i p = getD-set-other seats n i (r .position) 0 p
+
+  one-there : getD one n 0 ≡ readerIn readers n .position
+  one-there = getD-set-same seats n (r .position) 0 (omega (arith, a .long)) ∙ ap (λ r. r .position) er
+
   -- slot n is empty
-  pub seated-empty : attached (readerIn readers n) ≡ false → Seated readers (n + 1) seats
+  pub seated-empty : attached r ≡ false → Seated readers (n + 1) one
   seated-empty e = record {
-    long = a .long;
-    position = one-more (λ j. T (attached (readerIn readers j)) → getD seats j 0 ≡ readerIn readers j .position) n (a .position) (λ h. absurd (failed _ e h));
-    pace = one-more (λ j. T (attached (readerIn readers j)) → getD seats (16 + j) 0 ≡ readerIn readers j .pace) n (a .pace) (λ h. absurd (failed _ e h));
-    reach = one-more (λ j. T (attached (readerIn readers j)) → getD seats (56 + j) 0 ≡ readerIn readers j .last) n (a .reach) (λ h. absurd (failed _ e h));
+    long = let q = a .long in simp length-set q;
+    position = one-more (λ j. getD one j 0 ≡ readerIn readers j .position) n (λ j v. one-kept j (omega arith) ∙ a .position j v) one-there;
+    pace =
+        one-more (λ j. T (attached (readerIn readers j)) → getD one (16 + j) 0 ≡ readerIn readers j .pace) n
+        (λ j v t. one-kept (16 + j) (omega arith) ∙ a .pace j v t) vacant;
+    reach =
+        one-more (λ j. T (attached (readerIn readers j)) → getD one (56 + j) 0 ≡ readerIn readers j .last) n
+        (λ j v t. one-kept (56 + j) (omega arith) ∙ a .reach j v t) vacant;
     next =
-        one-more (λ j. T (attached (readerIn readers j)) → getD seats (32 + j) 0 ≡ lastSeat readers (readerIn readers j .file) j) n
-        (a .next) (λ h. absurd (failed _ e h));
-    last = λ f u. a .last f u ∙ sym (rw (seat-more readers f n, e) refl);
+        one-more (λ j. T (attached (readerIn readers j)) → getD one (32 + j) 0 ≡ lastSeat readers (readerIn readers j .file) j) n
+        (λ j v t. one-kept (32 + j) (omega arith) ∙ a .next j v t) vacant;
+    last = λ f u. one-kept (48 + f) (omega arith) ∙ a .last f u ∙ sym (rw (seat-more readers f n, ← er, e) refl);
   }
+    where
+      vacant : {A : Type 0} → T (attached (readerIn readers n)) → A
+      vacant h = absurd (failed (attached r) e (rw er h))
 
-  -- slot n has the reader r
-  module _ (l : n < 16) (r : Reader) (er : r ≡ readerIn readers n) (h : attached r ≡ true) (u : r .file < 8) where
-    abbrev one : List ℕ
-    one = set seats n (r .position)
-
+  -- slot n has a reader
+  module _ (h : attached r ≡ true) (u : r .file < 8) where
     abbrev two : List ℕ
     two = set one (16 + n) (r .pace)
 
@@ -89,7 +104,7 @@ module _ (readers : List Reader) (n : ℕ) (seats : List ℕ) (a : Seated reader
     kept : (i : ℕ) → i ≢ n → i ≢ 16 + n → i ≢ 32 + n → i ≢ 48 + r .file → getD four i 0 ≡ getD seats i 0
     kept i p q v w =
         getD-set-other three (48 + r .file) i (n + 1) 0 w ∙ getD-set-other two (32 + n) i _ 0 v
-        ∙ getD-set-other one (16 + n) i (r .pace) 0 q ∙ getD-set-other seats n i (r .position) 0 p
+        ∙ getD-set-other one (16 + n) i (r .pace) 0 q ∙ one-kept i p
 
     long : (length one ≡ 72) × (length two ≡ 72) × (length three ≡ 72) × (length four ≡ 72)
     long =
@@ -99,8 +114,7 @@ module _ (readers : List Reader) (n : ℕ) (seats : List ℕ) (a : Seated reader
     position : getD four n 0 ≡ readerIn readers n .position
     position =
         getD-set-other three (48 + r .file) n (n + 1) 0 (omega arith) ∙ getD-set-other two (32 + n) n _ 0 (omega arith)
-        ∙ getD-set-other one (16 + n) n (r .pace) 0 (omega arith) ∙ getD-set-same seats n (r .position) 0 (omega (arith, a .long))
-        ∙ ap (λ r. r .position) er
+        ∙ getD-set-other one (16 + n) n (r .pace) 0 (omega arith) ∙ one-there
 
     pace : getD four (16 + n) 0 ≡ readerIn readers n .pace
     pace =
@@ -111,7 +125,7 @@ module _ (readers : List Reader) (n : ℕ) (seats : List ℕ) (a : Seated reader
     next =
         getD-set-other three (48 + r .file) (32 + n) (n + 1) 0 (omega arith) ∙ getD-set-same two (32 + n) _ 0 (omega (arith, long .1))
         ∙ getD-set-other one (16 + n) (48 + r .file) (r .pace) 0 (omega arith)
-        ∙ getD-set-other seats n (48 + r .file) (r .position) 0 (omega arith) ∙ a .last (r .file) u
+        ∙ one-kept (48 + r .file) (omega arith) ∙ a .last (r .file) u
         ∙ ap (λ r. lastSeat readers (r .file) n) er
 
     -- the last slots: its file's is n, and any other's is as it was
@@ -126,8 +140,8 @@ module _ (readers : List Reader) (n : ℕ) (seats : List ℕ) (a : Seated reader
     abbrev five : List ℕ
     five = set four (56 + n) (r .last)
 
-    under : (i : ℕ) → i ≢ 56 + n → getD five i 0 ≡ getD four i 0
-    under i p = getD-set-other four (56 + n) i (r .last) 0 p
+    beside : (i : ℕ) → i ≢ 56 + n → getD five i 0 ≡ getD four i 0
+    beside i p = getD-set-other four (56 + n) i (r .last) 0 p
 
     reach : getD five (56 + n) 0 ≡ readerIn readers n .last
     reach = getD-set-same four (56 + n) (r .last) 0 (omega (arith, long .3)) ∙ ap (λ r. r .last) er
@@ -136,20 +150,110 @@ module _ (readers : List Reader) (n : ℕ) (seats : List ℕ) (a : Seated reader
     seated-reader = record {
       long = let e = a .long in simp length-set e;
       position =
-          one-more (λ j. T (attached (readerIn readers j)) → getD five j 0 ≡ readerIn readers j .position) n
-          (λ j v t. under j (omega arith) ∙ kept j (omega arith) (omega arith) (omega arith) (omega arith) ∙ a .position j v t)
-          (λ t. under n (omega arith) ∙ position);
+          one-more (λ j. getD five j 0 ≡ readerIn readers j .position) n
+          (λ j v. beside j (omega arith) ∙ kept j (omega arith) (omega arith) (omega arith) (omega arith) ∙ a .position j v)
+          (beside n (omega arith) ∙ position);
       pace =
           one-more (λ j. T (attached (readerIn readers j)) → getD five (16 + j) 0 ≡ readerIn readers j .pace) n
-          (λ j v t. under (16 + j) (omega arith) ∙ kept (16 + j) (omega arith) (omega arith) (omega arith) (omega arith) ∙ a .pace j v t)
-          (λ t. under (16 + n) (omega arith) ∙ pace);
+          (λ j v t. beside (16 + j) (omega arith) ∙ kept (16 + j) (omega arith) (omega arith) (omega arith) (omega arith) ∙ a .pace j v t)
+          (λ t. beside (16 + n) (omega arith) ∙ pace);
       reach =
           one-more (λ j. T (attached (readerIn readers j)) → getD five (56 + j) 0 ≡ readerIn readers j .last) n
-          (λ j v t. under (56 + j) (omega arith) ∙ kept (56 + j) (omega arith) (omega arith) (omega arith) (omega arith) ∙ a .reach j v t)
+          (λ j v t. beside (56 + j) (omega arith) ∙ kept (56 + j) (omega arith) (omega arith) (omega arith) (omega arith) ∙ a .reach j v t)
           (λ t. reach);
       next =
           one-more (λ j. T (attached (readerIn readers j)) → getD five (32 + j) 0 ≡ lastSeat readers (readerIn readers j .file) j) n
-          (λ j v t. under (32 + j) (omega arith) ∙ kept (32 + j) (omega arith) (omega arith) (omega arith) (omega arith) ∙ a .next j v t)
-          (λ t. under (32 + n) (omega arith) ∙ next);
-      last = λ f v. under (48 + f) (omega arith) ∙ last f v;
+          (λ j v t. beside (32 + j) (omega arith) ∙ kept (32 + j) (omega arith) (omega arith) (omega arith) (omega arith) ∙ a .next j v t)
+          (λ t. beside (32 + n) (omega arith) ∙ next);
+      last = λ f v. beside (48 + f) (omega arith) ∙ last f v;
     }
+
+-- ---- other readers, another position
+
+-- where as many slots have a reader of each file, the last one is the same
+seat-same : (readers others : List Reader) → ((f j : ℕ) → readsFile f (readerIn others j) ≡ readsFile f (readerIn readers j)) → (f n : ℕ)
+    → lastSeat others f n ≡ lastSeat readers f n
+unfolding lastSeat
+seat-same readers others e f zero = refl
+seat-same readers others e f (suc n) = rw (e f n, seat-same readers others e f n) refl
+
+-- slot n's record becomes q, which is alike but for its condition and its position, and the position is put into the array
+module _ (readers : List Reader) (seats : List ℕ) (a : Seated readers 16 seats) (len : length readers ≡ 16) (n : ℕ) (l : n < 16) (q : Reader)
+    (here : attached q ≡ attached (readerIn readers n)) (own : q .file ≡ readerIn readers n .file) (pace : q .pace ≡ readerIn readers n .pace)
+    (last : q .last ≡ readerIn readers n .last) where
+  abbrev others : List Reader
+  others = set readers n q
+
+  alike : (j : ℕ) → (attached (readerIn others j) ≡ attached (readerIn readers j)) × (readerIn others j .file ≡ readerIn readers j .file)
+      × (readerIn others j .pace ≡ readerIn readers j .pace) × (readerIn others j .last ≡ readerIn readers j .last)
+  alike j = by (ℕ-discrete j n)
+    where
+      by : Dec (j ≡ n) → (attached (readerIn others j) ≡ attached (readerIn readers j)) × (readerIn others j .file ≡ readerIn readers j .file)
+          × (readerIn others j .pace ≡ readerIn readers j .pace) × (readerIn others j .last ≡ readerIn readers j .last)
+      by (yes e) = rw (e, getD-set-same readers n q noReader (omega (arith, len))) (here, own, pace, last)
+      by (no e) = rw (getD-set-other readers n j q noReader e) (refl, refl, refl, refl)
+
+  files-alike : (f j : ℕ) → readsFile f (readerIn others j) ≡ readsFile f (readerIn readers j)
+  files-alike f j = rw (alike j .0, alike j .1) refl
+
+  pub seated-moved : Seated others 16 (set seats n (q .position))
+  seated-moved = record {
+    long = let z = a .long in simp length-set z;
+    position = λ j u. by j u (ℕ-discrete j n);
+    pace = λ j u t. beside (16 + j) (omega arith) ∙ a .pace j u (rw (← alike j .0) t) ∙ sym (alike j .2);
+    reach = λ j u t. beside (56 + j) (omega arith) ∙ a .reach j u (rw (← alike j .0) t) ∙ sym (alike j .3);
+    next = λ j u t.
+        beside (32 + j) (omega arith) ∙ a .next j u (rw (← alike j .0) t)
+        ∙ sym (seat-same readers others files-alike (readerIn others j .file) j ∙ ap (λ f. lastSeat readers f j) (alike j .1));
+    last = λ f u. beside (48 + f) (omega arith) ∙ a .last f u ∙ sym (seat-same readers others files-alike f 16);
+  }
+    where
+      beside : (i : ℕ) → i ≢ n → getD (set seats n (q .position)) i 0 ≡ getD seats i 0
+      beside i ne = getD-set-other seats n i (q .position) 0 ne
+
+      by : (j : ℕ) → j < 16 → Dec (j ≡ n) → getD (set seats n (q .position)) j 0 ≡ readerIn others j .position
+      by j u (yes e) =
+          rw e (getD-set-same seats n (q .position) 0 (omega (arith, a .long))
+          ∙ sym (ap (λ r. r .position) (getD-set-same readers n q noReader (omega (arith, len)))))
+      by j u (no e) = beside j e ∙ a .position j u ∙ sym (ap (λ r. r .position) (getD-set-other readers n j q noReader e))
+
+-- ---- along a file's chain
+
+-- at, counted from 1, is a slot with a reader of file f, or none
+pub record Linked (readers : List Reader) (f at : ℕ) : Type 0 where
+  pub high : at ≤ 16
+  pub sits : 0 < at → T (readsFile f (readerIn readers (at - 1)))
+
+module _ (readers : List Reader) (seats : List ℕ) (a : Seated readers 16 seats) (f : ℕ) where
+  -- the last slot of all
+  pub chain-first : f < 8 → Linked readers f (getD seats (48 + f) 0)
+  chain-first l = let t = seat-is readers f 16 in rw (a .last f l) (record { high = t .high; sits = t .found })
+
+  module _ (at : ℕ) (some : 0 < at) (l : Linked readers f at) where
+    abbrev reader : Reader
+    reader = readerIn readers (at - 1)
+
+    pub chain-here : T (attached reader)
+    chain-here = and-first (attached reader) _ (l .sits some)
+
+    pub chain-file : reader .file ≡ f
+    chain-file = eqb→eq _ _ (and-second (attached reader) _ (l .sits some))
+
+    pub chain-position : getD seats (at - 1) 0 ≡ reader .position
+    chain-position = a .position (at - 1) (omega (arith, l .high))
+
+    pub chain-pace : getD seats (16 + (at - 1)) 0 ≡ reader .pace
+    chain-pace = a .pace (at - 1) (omega (arith, l .high)) chain-here
+
+    pub chain-reach : getD seats (56 + (at - 1)) 0 ≡ reader .last
+    chain-reach = a .reach (at - 1) (omega (arith, l .high)) chain-here
+
+    -- the slot before it
+    pub chain-is : getD seats (32 + (at - 1)) 0 ≡ lastSeat readers f (at - 1)
+    chain-is = a .next (at - 1) (omega (arith, l .high)) chain-here ∙ ap (λ g. lastSeat readers g (at - 1)) chain-file
+
+    pub chain-less : getD seats (32 + (at - 1)) 0 < at
+    chain-less = omega (arith, chain-is, seat-is readers f (at - 1) .high)
+
+    pub chain-next : Linked readers f (getD seats (32 + (at - 1)) 0)
+    chain-next = let t = seat-is readers f (at - 1) in rw chain-is (record { high = omega (arith, t .high, l .high); sits = t .found })

@@ -1,11 +1,11 @@
 -- The choice of a file by the 1993 rule (A.6), one file after the other. Assumes nothing: these are definitions.
-use Prim.Native.Nat.{ℕ, _*_, _≤_, _<_}
+use Prim.Native.Nat.{ℕ, _≤_, _<_}
 use mathlib.Core.Path.{_≡_}
 use mathlib.Core.Bool.{cond, _&&_}
 use mathlib.Core.List.{List}
-use lib.ListN.{getD}
+use mathlib.Core.Logic.{_≢_}
+use lib.ListN.{getD, replicate}
 use lib.Dec.{ltb}
-use Rattle.bits.specs.Map.{ones}
 use Rattle.rules.specs.Orders.{weightSum, standing}
 use Rattle.rules.specs.declared.View.{View}
 use Rattle.parts.specs.Files.{weightIn}
@@ -19,26 +19,38 @@ leading frames sum weight f pages best =
     (record { file = f; number = standing frames sum weight f pages })
     best
 
--- how many cached pages file f has
-abbrev pub pagesIn : View → List ℕ → ℕ → ℕ
-pagesIn v map f = ones map (f * 1024) (getD (v .sizes) f 0)
+-- how many cached pages file f has, by the files' counts
+abbrev pub pagesIn : List ℕ → ℕ → ℕ
+pagesIn held f = getD held f 0
 
 -- the files' weights
 abbrev pub weightsOf : View → ℕ → ℕ
 weightsOf v = weightIn (v .expected) (v .attaches) (v .sizes)
 
--- the file's number
-abbrev pub numberIn : View → List ℕ → ℕ → ℕ
-numberIn v map f = standing (v .frames) (weightSum (weightsOf v)) (weightsOf v f) f (pagesIn v map f)
+-- the files' weights and, at 8, their sum, in one array; under the 1989 rule all are 0, which the sum never is under the other
+pub record Weights (v : View) (weights : List ℕ) : Type 0 where
+  pub none : v .rule ≡ 0 → weights ≡ replicate 9 0
+  pub sum : v .rule ≢ 0 → getD weights 8 0 ≡ weightSum (weightsOf v)
+  pub each : v .rule ≢ 0 → (f : ℕ) → f < 8 → getD weights f 0 ≡ weightsOf v f
+
+-- the ranges of such an array; that of a valid state has them
+pub record Weighed (weights : List ℕ) : Type 0 where
+  pub sum-high : getD weights 8 0 ≤ 8192000
+  pub each-high : (f : ℕ) → f < 8 → getD weights f 0 ≤ getD weights 8 0
+
+-- the file's number, by the frames, the weights and the counts
+abbrev pub numberIn : ℕ → List ℕ → List ℕ → ℕ → ℕ
+numberIn frames weights held f = standing frames (getD weights 8 0) (getD weights f 0) f (pagesIn held f)
 
 -- the file that leads, if any, which a number above 0 says, has cached pages and this number, and none of the first n files with cached pages has a higher one
-pub record Led (v : View) (map : List ℕ) (n : ℕ) (p : Lead) : Type 0 where
+pub record Led (frames : ℕ) (weights held : List ℕ) (n : ℕ) (p : Lead) : Type 0 where
   pub low : p .file < 8
-  pub pages : 0 < p .number → 0 < pagesIn v map (p .file)
-  pub its : 0 < p .number → numberIn v map (p .file) ≡ p .number
-  pub top : (f : ℕ) → f < n → 0 < pagesIn v map f → (0 < p .number) × (numberIn v map f ≤ p .number)
+  pub pages : 0 < p .number → 0 < pagesIn held (p .file)
+  pub its : 0 < p .number → numberIn frames weights held (p .file) ≡ p .number
+  pub top : (f : ℕ) → f < n → 0 < pagesIn held f → (0 < p .number) × (numberIn frames weights held f ≤ p .number)
 
 -- no file with cached pages has a higher number, and if any has cached pages, this one has
-pub record Foremost (v : View) (map : List ℕ) (file : ℕ) : Type 0 where
+pub record Foremost (frames : ℕ) (weights held : List ℕ) (file : ℕ) : Type 0 where
   pub low : file < 8
-  pub top : (f : ℕ) → f < 8 → 0 < pagesIn v map f → (0 < pagesIn v map file) × (numberIn v map f ≤ numberIn v map file)
+  pub top : (f : ℕ) → f < 8 → 0 < pagesIn held f
+      → (0 < pagesIn held file) × (numberIn frames weights held f ≤ numberIn frames weights held file)

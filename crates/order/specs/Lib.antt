@@ -3,3 +3,4 @@ pub mod Choices
 pub mod Leads
 pub mod Seats
 pub mod Searches
+pub mod Rears

@@ -1,14 +1,67 @@
 -- What a search for the head of an order keeps: the best page so far, with its number. Assumes nothing: these are definitions.
-use Prim.Native.Nat.{ℕ, min, _+_, _≤_, _<_}
+use Prim.Native.Nat.{ℕ, min, _≤_, _<_}
 use mathlib.Core.Path.{_≡_}
 use mathlib.Core.Bool.{Bool, cond}
+use mathlib.Core.List.{List}
 use lib.Dec.{T}
-use Rattle.rules.specs.Readers.{readerAt, attached}
+use Rattle.rules.specs.Readers.{readerIn, readerAt, readsFile}
 use Rattle.rules.specs.UseTimes.{sees, never, useFor, useKey}
 use Rattle.rules.specs.Orders.{wanted}
-use Rattle.rules.specs.Ranks.{rank, cachedAmong, AtMost, NoneBelow}
+use Rattle.rules.specs.Ranks.{rank, cachedAmong, Before, AtMost, NoneBelow}
+use Rattle.rules.specs.Valid.{Valid}
+use Rattle.rules.specs.Views.{stateOf}
 use Rattle.rules.specs.declared.State.{State}
+use Rattle.rules.specs.declared.View.{View}
+use Rattle.rules.specs.declared.Reader.{Reader}
+use Rattle.order.specs.declared.Terms.{Terms}
 use Rattle.order.specs.declared.Pick.{Pick}
+use Rattle.order.specs.Seats.{Seated}
+
+-- ---- what a search reads of a view
+
+-- the view's terms, at this turn
+abbrev pub termsOf : View → ℕ → Terms
+termsOf v turn = record { «look_ahead» = v .«look_ahead»; «fetch_time» = v .«fetch_time»; frames = v .frames; turn = turn }
+
+-- the view under these terms: it is the view itself where they are its own
+abbrev pub under : Terms → View → View
+under t v = record {
+  marks = v .marks;
+  expected = v .expected;
+  attaches = v .attaches;
+  frames = t .frames;
+  turn = t .turn;
+  rule = v .rule;
+  «look_ahead» = t .«look_ahead»;
+  «fetch_time» = t .«fetch_time»;
+  sizes = v .sizes;
+  readers = v .readers;
+}
+
+-- and so a state with these maps
+abbrev pub stateUnder : Terms → View → List ℕ → List ℕ → State
+stateUnder t v cached fetching = stateOf (under t v) cached fetching
+
+-- the slot's reader has page k before it, and this position and this pace
+pub record Sits (v : View) (slot position pace k : ℕ) : Type 0 where
+  pub ahead : Before (readerIn (v .readers) slot) k
+  pub position-is : position ≡ readerIn (v .readers) slot .position
+  pub pace-is : pace ≡ readerIn (v .readers) slot .pace
+
+-- that state is valid, and its readers are in this array
+pub record Sighted (t : Terms) (seats cached fetching : List ℕ) (v : View) : Type 0 where
+  pub valid : Valid (stateUnder t v cached fetching)
+  pub seated : Seated (v .readers) 16 seats
+
+-- there is such a view
+abbrev pub Sight : Terms → List ℕ → List ℕ → List ℕ → Type 0
+Sight t seats cached fetching = (v : View) × Sighted t seats cached fetching v
+
+-- the array is that of some readers
+abbrev pub SeatsOf : List ℕ → Type 0
+SeatsOf seats = (readers : List Reader) × Seated readers 16 seats
+
+-- ---- what it keeps
 
 -- the number low, or slot j's use key for page k where the slot has the page in look-ahead and the key is less
 abbrev pub lower : State → ℕ → ℕ → ℕ → ℕ
@@ -28,14 +81,20 @@ pub record Ranked (s : State) (files : ℕ → Bool) (p : Pick) : Type 0 where
 pub record Raised (s : State) (files : ℕ → Bool) (f n : ℕ) (p q : Pick) : Type 0 where
   pub page : Ranked s files q
   pub up : p .value ≤ q .value
-  pub most : T (files f) → AtMost s (q .value) f n
+  pub most : AtMost s (q .value) f n
 
--- of the 24 candidates, those of the files and then those of the slots, none from the one numbered i on that is of the set has a higher rank
-pub record Highest (s : State) (files : ℕ → Bool) (i : ℕ) (p : Pick) : Type 0 where
+-- q is kept instead of p after a look at file f's candidates: its last cached page, and for the slots from n on the last at or before the position
+pub record Topped (s : State) (files : ℕ → Bool) (f n : ℕ) (p q : Pick) : Type 0 where
+  pub page : Ranked s files q
+  pub up : p .value ≤ q .value
+  pub whole : AtMost s (q .value) f 1024
+  pub by-slot : (j : ℕ) → n ≤ j → j < 16 → T (readsFile f (readerAt s j)) → AtMost s (q .value) f (readerAt s j .position)
+
+-- no candidate of the first n files that is of the set has a higher rank
+pub record Highest (s : State) (files : ℕ → Bool) (n : ℕ) (p : Pick) : Type 0 where
   pub page : Ranked s files p
-  pub by-file : (f : ℕ) → i ≤ f → f < 8 → T (files f) → AtMost s (p .value) f 1024
-  pub by-slot : (j : ℕ) → i ≤ 8 + j → j < 16 → T (attached (readerAt s j)) → T (files (readerAt s j .file))
-      → AtMost s (p .value) (readerAt s j .file) (readerAt s j .position)
+  pub by-file : (f : ℕ) → f < n → T (files f) → AtMost s (p .value) f 1024
+  pub by-slot : (f j : ℕ) → f < n → T (files f) → j < 16 → T (readsFile f (readerAt s j)) → AtMost s (p .value) f (readerAt s j .position)
 
 -- the page kept, if any, is wanted, and no first absent page of the first m slots is used sooner
 pub record Soonest (s : State) (m : ℕ) (p : Pick) : Type 0 where

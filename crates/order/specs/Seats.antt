@@ -17,7 +17,7 @@ lastSeat readers f (suc n) = cond (readsFile f (readerIn readers n)) (suc n) (la
 -- the array has the first n slots
 pub record Seated (readers : List Reader) (n : ℕ) (seats : List ℕ) : Type 0 where
   pub long : length seats ≡ 72
-  pub position : (j : ℕ) → j < n → T (attached (readerIn readers j)) → getD seats j 0 ≡ readerIn readers j .position
+  pub position : (j : ℕ) → j < n → getD seats j 0 ≡ readerIn readers j .position
   pub pace : (j : ℕ) → j < n → T (attached (readerIn readers j)) → getD seats (16 + j) 0 ≡ readerIn readers j .pace
   pub reach : (j : ℕ) → j < n → T (attached (readerIn readers j)) → getD seats (56 + j) 0 ≡ readerIn readers j .last
   pub next : (j : ℕ) → j < n → T (attached (readerIn readers j)) → getD seats (32 + j) 0 ≡ lastSeat readers (readerIn readers j .file) j

@@ -1,29 +1,31 @@
 // The heads of the two orders. The orders themselves are not made here: of a few pages that can come first, the searches keep the best, by a page's rank
-// or its use key. What q takes for cached is in one of the two maps: they are put together word by word, where q is counted.
+// or its use key. What q takes for cached is in one of the two maps: they are put together word by word, where q is counted. What a search reads is lent or
+// passed by itself, without the view: a contract speaks of every view that has these numbers, these readers and these maps.
 
 use parts::NEVER;
 use rules::Reader;
 use rules::View;
 ghost use mathlib.Core.Path.{_≡_};
-ghost use mathlib.Core.Bool.{cond, _&&_};
+ghost use mathlib.Core.Bool.{Bool, true, cond, _&&_};
 ghost use mathlib.Core.List.{List, [], _∷_};
 ghost use Prim.Native.Nat.{ℕ, _+_, _-_, _*_, _%_, _<_, _≤_};
 ghost use lib.Dec.{T, leb, ltb, eqb};
-ghost use Rattle.bits.specs.Map.{joined, nextBit, ones};
+ghost use lib.ListN.{getD};
+ghost use Rattle.bits.specs.Map.{joined, nextBit};
 ghost use Rattle.rules.specs.declared.State.{State};
 ghost use Rattle.rules.specs.Lists.{head};
-ghost use Rattle.rules.specs.Pages.{Page};
 ghost use Rattle.rules.specs.Readers.{readerIn, attached};
 ghost use Rattle.rules.specs.Valid.{Valid};
 ghost use Rattle.rules.specs.UseTimes.{missing};
 ghost use Rattle.rules.specs.Orders.{fetchOrder, victim};
-ghost use Rattle.rules.specs.Ranks.{victimAmong, Presents, Before};
+ghost use Rattle.rules.specs.Ranks.{victimAmong, Presents};
 ghost use Rattle.rules.specs.Views.{stateOf};
-ghost use Rattle.parts.specs.Files.{Weighable};
-ghost use Rattle.order.specs.Choices.{chosen, inSet, Ranged, Housed};
-ghost use Rattle.order.specs.Leads.{leading, Foremost};
+ghost use Rattle.parts.specs.Held.{Held};
+ghost use Rattle.order.specs.Choices.{chosen, inSet};
+ghost use Rattle.order.specs.Leads.{leading, Weights, Weighed, Foremost};
 ghost use Rattle.order.specs.Seats.{Seated};
-ghost use Rattle.order.specs.Searches.{lower, Over, Ranked, Raised, Soonest};
+ghost use Rattle.order.specs.Searches.{termsOf, stateUnder, Sits, Sighted, Sight, SeatsOf, lower, Over, Ranked, Raised, Topped, Highest, Soonest};
+ghost use Rattle.order.specs.Rears.{Least, Back, Free, Rear};
 
 // The key of the page chosen, if any.
 pub enum Choice {
@@ -31,10 +33,18 @@ pub enum Choice {
     Nothing,
 }
 
-// The best page of a search so far, by its key, and the number by which it is best.
-struct Pick {
-    key: u16,
-    value: u64,
+// What the searches read of a view beside its readers.
+pub struct Terms {
+    pub look_ahead: u32,
+    pub fetch_time: u32,
+    pub frames: u16,
+    pub turn: u8,
+}
+
+// The best page of a search so far, by its key, and the number by which it is best; 0 where there is none yet.
+pub struct Pick {
+    pub key: u16,
+    pub value: u64,
 }
 
 // The file that leads in the choice of the 1993 rule so far, and its number; 0 where no file has cached pages.
@@ -45,6 +55,19 @@ struct Lead {
 
 // The set of the files 0 to 7.
 const ALL_FILES: u64 = 255;
+
+// ---- the readers and their use keys
+
+fn terms_of(v: View) -> Terms
+    ensures { λ r. ⌜ r ≡ termsOf v (v .turn) ⌝ }
+{
+    Terms {
+        look_ahead: v.look_ahead,
+        fetch_time: v.fetch_time,
+        frames: v.frames,
+        turn: v.turn,
+    }
+}
 
 // How many of the pages from + 1 to from + n of the file are not present.
 fn missing<'a>(
@@ -63,7 +86,7 @@ fn missing<'a>(
 
 // The least number so far, or the slot's use key where that is less. The pages between are counted only if the reader can still come first.
 fn lowered<'a>(
-    v: View,
+    t: Terms,
     cached: &'a [u64; 128],
     fetching: &'a [u64; 128],
     slot: usize,
@@ -72,25 +95,23 @@ fn lowered<'a>(
     key: usize,
     low: u64,
 ) -> u64
-    requires { ⌜ Ranged v ⌝ }
-    requires { ⌜ (slot < 16) × (key < 8192) ⌝ }
-    requires { ⌜ (position ≡ readerIn (v .readers) slot .position) × (pace ≡ readerIn (v .readers) slot .pace) ⌝ }
-    requires { ⌜ Before (readerIn (v .readers) slot) key ⌝ }
-    ensures { λ r. ⌜ r ≡ lower (stateOf v (now (cached .entry)) (now (fetching .entry))) key slot low ⌝ }
+    requires { ⌜ (t .turn < 16) × (slot < 16) × (key < 8192) × (position ≤ key % 1024) ⌝ }
+    ensures { λ r. ⌜ ((v : View) → Valid (stateUnder t v (now (cached .entry)) (now (fetching .entry))) → Sits v slot position pace key
+        → r ≡ lower (stateUnder t v (now (cached .entry)) (now (fetching .entry))) key slot low) ⌝ }
 {
     let from = position as usize;
     let steps = key % 1024 + 1 - from;
     let near = (steps as u64) * (pace as u64);
-    let look = v.look_ahead as u64;
+    let look = t.look_ahead as u64;
     if look < near {
         return low;
     }
-    let distance = parts::seat(v.turn, slot);
+    let distance = parts::seat(t.turn, slot);
     let earliest = near * 16 + distance;
     if low <= earliest {
         return low;
     }
-    let time = v.fetch_time as u64;
+    let time = t.fetch_time as u64;
     if time == 0 {
         return earliest;
     }
@@ -101,10 +122,10 @@ fn lowered<'a>(
     parts::lesser((near + q * time) * 16 + distance, low)
 }
 
-// What the sweeps read of the readers, in one array that can be lent. At `slot`: its reader's position; at 16 + slot: the pace; at 32 + slot: the last
+// What the searches read of the readers, in one array that can be lent. At `slot`: its record's position; at 16 + slot: the pace; at 32 + slot: the last
 // slot before it with a reader of the same file; at 48 + file: the last slot with a reader of the file; at 56 + slot: the last page. These slots count
 // from 1, and 0 is none.
-fn seats_of(readers: [Reader; 16]) -> [u16; 72]
+pub fn seats_of(readers: [Reader; 16]) -> [u16; 72]
     requires { ⌜ ((j : ℕ) → T (attached (readerIn readers j)) → readerIn readers j .file < 8) ⌝ }
     ensures { λ r. ⌜ Seated readers 16 r ⌝ }
 {
@@ -112,9 +133,9 @@ fn seats_of(readers: [Reader; 16]) -> [u16; 72]
     let mut slot: usize = 0;
     while slot < 16 {
         let r = readers[slot];
+        seats[slot] = r.position;
         if parts::is_attached(r) {
             let at = 48 + r.file as usize;
-            seats[slot] = r.position;
             seats[16 + slot] = r.pace;
             seats[32 + slot] = seats[at];
             seats[at] = slot as u16 + 1;
@@ -124,6 +145,109 @@ fn seats_of(readers: [Reader; 16]) -> [u16; 72]
     }
     seats
 }
+
+// ---- the page to give up, where a page is ahead of no reader
+
+// The lesser of `least` and a reader's position, where the reader has a page up to its last one.
+fn nearer(position: u16, last: u16, page: usize, least: usize) -> usize
+    ensures { λ r. ⌜ r ≡ cond (ltb position least && leb page last) position least ⌝ }
+    ensures low { λ r. ⌜ r ≤ least ⌝ }
+{
+    if least <= position as usize {
+        return least;
+    }
+    if (last as usize) < page {
+        return least;
+    }
+    position as usize
+}
+
+// The least position of the file's readers that still have the page before them; the page itself where none has.
+fn least_ahead(seats: &[u16; 72], file: usize, page: usize) -> usize
+    requires { ⌜ (file < 8) × SeatsOf (now seats) ⌝ }
+    ensures { λ r. ⌜ ((readers : List Reader) → Seated readers 16 (now (seats .entry)) → Least readers file page 0 r) ⌝ }
+    ensures low { λ r. ⌜ r ≤ page ⌝ }
+{
+    let mut least = page;
+    let mut at = seats[48 + file] as usize;
+    while 0 < at {
+        let slot = at - 1;
+        least = nearer(seats[slot], seats[56 + slot], page, least);
+        at = seats[32 + slot] as usize;
+    }
+    least
+}
+
+// The last cached page of the file that is not passed over: those between it and the page are ahead of one and the same reader. The page itself, if it is
+// cached and ahead of none.
+fn back_from(seats: &[u16; 72], cached: &[u64; 128], file: usize, page: usize) -> usize
+    requires { ⌜ (file < 8) × (page ≤ 1024) × SeatsOf (now seats) ⌝ }
+    ensures { λ r. ⌜ ((readers : List Reader) → Seated readers 16 (now (seats .entry))
+        → Back readers (now (cached .entry)) file page r × (r ≡ page → Free readers file r)) ⌝ }
+    ensures low { λ r. ⌜ r ≤ page ⌝ }
+{
+    bits::last_set(cached, file * 1024, least_ahead(seats, file, page))
+}
+
+// The last cached page of the file that is ahead of no reader; 0 where there is none.
+fn behind_all(seats: &[u16; 72], cached: &[u64; 128], file: usize, size: u16) -> usize
+    requires { ⌜ (file < 8) × (size ≤ 1024) × SeatsOf (now seats) ⌝ }
+    ensures { λ r. ⌜ ((readers : List Reader) → Seated readers 16 (now (seats .entry))
+        → Back readers (now (cached .entry)) file size r × Free readers file r) ⌝ }
+    ensures low { λ r. ⌜ r ≤ 1024 ⌝ }
+{
+    let mut page = back_from(seats, cached, file, size as usize);
+    let mut next = back_from(seats, cached, file, page);
+    while next < page {
+        page = next;
+        next = back_from(seats, cached, file, page);
+    }
+    page
+}
+
+// The best page so far, or the file's last one that is ahead of no reader, where that is higher.
+fn further_behind(
+    seats: &[u16; 72],
+    cached: &[u64; 128],
+    file: usize,
+    size: u16,
+    best: Pick,
+) -> Pick
+    requires { ⌜ (file < 8) × (size ≤ 1024) × SeatsOf (now seats) ⌝ }
+    ensures { λ r. ⌜ ((v : View) (fetching : List ℕ) → Valid (stateOf v (now (cached .entry)) fetching) → Seated (v .readers) 16 (now (seats .entry))
+        → size ≡ getD (v .sizes) file 0 → (files : ℕ → Bool) → files file ≡ true
+        → Rear (stateOf v (now (cached .entry)) fetching) files file best → Rear (stateOf v (now (cached .entry)) fetching) files (file + 1) r) ⌝ }
+{
+    let page = behind_all(seats, cached, file, size);
+    if page == 0 {
+        return best;
+    }
+    let value = 2 * NEVER + (page * 8 + file) as u64;
+    if best.value < value {
+        let key = (file * 1024 + page - 1) as u16;
+        return Pick { key, value };
+    }
+    best
+}
+
+// Of the files of a set the page that goes first of those ahead of no reader: by its page, then by its file.
+fn furthest_behind(sizes: &[u16; 8], seats: &[u16; 72], cached: &[u64; 128], files: u64) -> Pick
+    requires { ⌜ ((f : ℕ) → getD (now sizes) f 0 ≤ 1024) × SeatsOf (now seats) ⌝ }
+    ensures { λ r. ⌜ ((v : View) (fetching : List ℕ) → Valid (stateOf v (now (cached .entry)) fetching) → Seated (v .readers) 16 (now (seats .entry))
+        → now (sizes .entry) ≡ v .sizes → Rear (stateOf v (now (cached .entry)) fetching) (inSet files) 8 r) ⌝ }
+{
+    let mut best = Pick { key: 0, value: 0 };
+    let mut file: usize = 0;
+    while file < 8 {
+        if bits::has_digit(files, file) {
+            best = further_behind(seats, cached, file, sizes[file], best);
+        }
+        file += 1;
+    }
+    best
+}
+
+// ---- the page to give up, by ranks
 
 // Does a reader at the position still have the page before it, up to its last page?
 fn is_ahead(position: u16, last: u16, page: usize) -> bool
@@ -135,16 +259,16 @@ fn is_ahead(position: u16, last: u16, page: usize) -> bool
 // The rank of a page of its file, or, where that is no higher than the floor, a number that is no higher either: one pass over the file's readers,
 // from the last slot down, that stops as soon as the page cannot rank above the floor.
 fn rank_over<'a>(
-    v: View,
+    t: Terms,
     seats: &[u16; 72],
     cached: &'a [u64; 128],
     fetching: &'a [u64; 128],
     key: usize,
     floor: u64,
 ) -> u64
-    requires { ⌜ Ranged v × Seated (v .readers) 16 (now seats) ⌝ }
-    requires { ⌜ Page (stateOf v [] []) key ⌝ }
-    ensures { λ r. ⌜ Over (stateOf v (now (cached .entry)) (now (fetching .entry))) key floor r ⌝ }
+    requires { ⌜ (key < 8192) × Sight t (now seats) (now cached) (now fetching) ⌝ }
+    ensures { λ r. ⌜ ((v : View) → Sighted t (now (seats .entry)) (now (cached .entry)) (now (fetching .entry)) v
+        → Over (stateUnder t v (now (cached .entry)) (now (fetching .entry))) key floor r) ⌝ }
 {
     let page = key % 1024 + 1;
     let place = (page * 8 + key / 1024) as u64;
@@ -156,7 +280,7 @@ fn rank_over<'a>(
         if is_ahead(position, seats[56 + slot], page) {
             let low = parts::lesser(top, NEVER + place);
             let pace = seats[16 + slot];
-            top = lowered(v, cached, fetching, slot, position, pace, key, low);
+            top = lowered(t, cached, fetching, slot, position, pace, key, low);
             if top <= floor {
                 return top;
             }
@@ -166,98 +290,117 @@ fn rank_over<'a>(
     top
 }
 
-// The last cached one of the file's first n pages, if the file is of the set, there is one, and its rank is higher than the best.
+// The best page so far, or the last cached one of the file's first n pages, where there is one and its rank is higher.
 fn higher<'a>(
-    v: View,
+    t: Terms,
     seats: &[u16; 72],
     cached: &'a [u64; 128],
     fetching: &'a [u64; 128],
-    files: u64,
     file: usize,
     n: usize,
     best: Pick,
 ) -> Pick
-    requires { ⌜ Ranged v × Seated (v .readers) 16 (now seats) ⌝ }
-    requires { ⌜ Housed v (now cached) ⌝ }
-    requires { ⌜ (file < 8) × (n ≤ 1024) ⌝ }
-    requires { ⌜ Ranked (stateOf v (now cached) (now fetching)) (inSet files) best ⌝ }
-    ensures { λ r. ⌜ Raised (stateOf v (now (cached .entry)) (now (fetching .entry))) (inSet files) file n best r ⌝ }
+    requires { ⌜ (file < 8) × (n ≤ 1024) × Sight t (now seats) (now cached) (now fetching) ⌝ }
+    ensures { λ r. ⌜ ((v : View) → Sighted t (now (seats .entry)) (now (cached .entry)) (now (fetching .entry)) v → (files : ℕ → Bool) → files file ≡ true
+        → Ranked (stateUnder t v (now (cached .entry)) (now (fetching .entry))) files best
+        → Raised (stateUnder t v (now (cached .entry)) (now (fetching .entry))) files file n best r) ⌝ }
 {
-    if !bits::has_digit(files, file) {
-        return best;
-    }
     let page = bits::last_set(cached, file * 1024, n);
     if page == 0 {
         return best;
     }
     let key = file * 1024 + page - 1;
-    let value = rank_over(v, seats, cached, fetching, key, best.value);
-    if best.value < value {
-        return Pick {
-            key: key as u16,
-            value: value,
-        };
+    let rank = rank_over(t, seats, cached, fetching, key, best.value);
+    if best.value < rank {
+        let key = key as u16;
+        return Pick { key, value: rank };
     }
     best
 }
 
-// How many pages a slot's reader has behind it.
-fn behind(r: Reader) -> usize
-    ensures { λ n. ⌜ n ≡ cond (attached r) (r .position) 0 ⌝ }
+// The best page after a look at a file. Of its cached pages with no reader between, only the last can be of the highest rank. So the last of all is looked at,
+// and the last at or before each position of its readers.
+fn highest_of<'a>(
+    t: Terms,
+    seats: &[u16; 72],
+    cached: &'a [u64; 128],
+    fetching: &'a [u64; 128],
+    file: usize,
+    first: Pick,
+) -> Pick
+    requires { ⌜ (file < 8) × Sight t (now seats) (now cached) (now fetching) ⌝ }
+    ensures { λ r. ⌜ ((v : View) → Sighted t (now (seats .entry)) (now (cached .entry)) (now (fetching .entry)) v → (files : ℕ → Bool) → files file ≡ true
+        → Ranked (stateUnder t v (now (cached .entry)) (now (fetching .entry))) files first
+        → Topped (stateUnder t v (now (cached .entry)) (now (fetching .entry))) files file 0 first r) ⌝ }
 {
-    if parts::is_attached(r) {
-        return r.position as usize;
+    let mut best = higher(t, seats, cached, fetching, file, 1024, first);
+    let mut at = seats[48 + file] as usize;
+    while 0 < at {
+        let slot = at - 1;
+        let n = seats[slot] as usize;
+        best = higher(t, seats, cached, fetching, file, n, best);
+        at = seats[32 + slot] as usize;
     }
-    0
+    best
 }
 
-// The page to give up among the files of a set, which is a word with a digit for each file. Of a file's cached pages with no reader between, only the last
-// can be of the highest rank. So 24 pages are looked at: the last at or before each slot's position, then the last of each file.
+// The page of the highest rank of the files of a set.
+fn highest<'a>(
+    t: Terms,
+    seats: &[u16; 72],
+    cached: &'a [u64; 128],
+    fetching: &'a [u64; 128],
+    files: u64,
+) -> Pick
+    requires { ⌜ Sight t (now seats) (now cached) (now fetching) ⌝ }
+    ensures { λ r. ⌜ ((v : View) → Sighted t (now (seats .entry)) (now (cached .entry)) (now (fetching .entry)) v
+        → Highest (stateUnder t v (now (cached .entry)) (now (fetching .entry))) (inSet files) 8 r) ⌝ }
+{
+    let mut best = Pick { key: 0, value: 0 };
+    let mut file: usize = 0;
+    while file < 8 {
+        if bits::has_digit(files, file) {
+            best = highest_of(t, seats, cached, fetching, file, best);
+        }
+        file += 1;
+    }
+    best
+}
+
+// ---- the page to give up
+
+// The page to give up among the files of a set, which is a word with a digit for each file. A page ahead of no reader goes before any other, and is found
+// without ranks.
 pub fn victim_among<'a>(
-    v: View,
+    t: Terms,
+    sizes: &[u16; 8],
+    seats: &[u16; 72],
     cached: &'a [u64; 128],
     fetching: &'a [u64; 128],
     files: u64,
 ) -> Choice
-    requires { ⌜ Valid (stateOf v (now cached) (now fetching)) ⌝ }
-    ensures { λ r. ⌜ chosen r ≡ victimAmong (inSet files) (stateOf v (now (cached .entry)) (now (fetching .entry))) ⌝ }
+    requires { ⌜ ((f : ℕ) → getD (now sizes) f 0 ≤ 1024) × Sight t (now seats) (now cached) (now fetching) ⌝ }
+    ensures { λ r. ⌜ ((v : View) → Sighted t (now (seats .entry)) (now (cached .entry)) (now (fetching .entry)) v → now (sizes .entry) ≡ v .sizes
+        → chosen r ≡ victimAmong (inSet files) (stateUnder t v (now (cached .entry)) (now (fetching .entry)))) ⌝ }
 {
-    let readers = v.readers;
-    let seats = seats_of(readers);
-    let mut best = Pick { key: 0, value: 0 };
-    let mut i: usize = 24;
-    while 0 < i {
-        i -= 1;
-        let mut file = i;
-        let mut n: usize = 1024;
-        if 8 <= i {
-            let r = v.readers[i - 8];
-            file = r.file as usize;
-            n = behind(r);
-        }
-        best = higher(v, &seats, cached, fetching, files, file, n, best);
+    let behind = furthest_behind(sizes, seats, cached, files);
+    if 0 < behind.value {
+        return Choice::Key(behind.key);
     }
+    let best = highest(t, seats, cached, fetching, files);
     if best.value == 0 {
         return Choice::Nothing;
     }
     Choice::Key(best.key)
 }
 
-// The file that leads after a look at one more, of this size and weight: one with cached pages leads by a higher number. The sum is that of the weights.
-fn fuller(
-    cached: &[u64; 128],
-    frames: u16,
-    sum: u64,
-    weight: u64,
-    file: usize,
-    size: u16,
-    best: Lead,
-) -> Lead
+// The file that leads after a look at one more, with so many cached pages and of this weight: one with cached pages leads by a higher number. The sum is that
+// of the weights.
+fn fuller(pages: u16, frames: u16, sum: u64, weight: u64, file: usize, best: Lead) -> Lead
     requires { ⌜ (frames ≤ 1024) × (weight ≤ sum) × (sum ≤ 8192000) ⌝ }
-    requires { ⌜ (file < 8) × (size ≤ 1024) ⌝ }
-    ensures { λ r. ⌜ r ≡ leading frames sum weight file (ones (now (cached .entry)) (file * 1024) size) best ⌝ }
+    requires { ⌜ (file < 8) × (pages ≤ 1024) ⌝ }
+    ensures { λ r. ⌜ r ≡ leading frames sum weight file pages best ⌝ }
 {
-    let pages = bits::count(cached, file * 1024, size as usize);
     if pages == 0 {
         return best;
     }
@@ -268,27 +411,43 @@ fn fuller(
     best
 }
 
-// The file that the 1993 rule chooses: of those with cached pages the one with the highest number.
-fn chosen_file(v: View, cached: &[u64; 128]) -> usize
-    requires { ⌜ Weighable (v .frames) (v .expected) (v .sizes) ⌝ }
-    ensures { λ r. ⌜ Foremost v (now (cached .entry)) r ⌝ }
+// The files' weights, and at 8 their sum, as the 1993 rule has them; all 0 under the 1989 rule, where none is asked for. A sum of weights is never 0.
+pub fn weights_of(v: View) -> [u64; 9]
+    ensures { λ r. ⌜ Weights v r ⌝ }
 {
+    let mut weights = [0u64; 9];
+    if v.rule == 0 {
+        return weights;
+    }
     let expected = v.expected;
     let attaches = v.attaches;
     let sizes = v.sizes;
-    let sum = parts::weight_sum(expected, attaches, sizes);
+    weights[8] = parts::weight_sum(expected, attaches, sizes);
+    let mut file: usize = 0;
+    while file < 8 {
+        weights[file] = parts::weight(expected[file], attaches[file], sizes[file]);
+        file += 1;
+    }
+    weights
+}
+
+// The file that the 1993 rule chooses: of those with cached pages the one with the highest number.
+fn chosen_file(frames: u16, weights: &[u64; 9], held: &[u16; 8]) -> usize
+    requires { ⌜ (frames ≤ 1024) × Weighed (now weights) × ((f : ℕ) → f < 8 → getD (now held) f 0 ≤ 1024) ⌝ }
+    requires { ⌜ 0 < getD (now weights) 8 0 ⌝ }
+    ensures { λ r. ⌜ Foremost frames (now (weights .entry)) (now (held .entry)) r ⌝ }
+{
     let mut best = Lead { file: 0, number: 0 };
     let mut file: usize = 0;
     while file < 8 {
-        let weight = parts::weight(expected[file], attaches[file], sizes[file]);
-        best = fuller(cached, v.frames, sum, weight, file, sizes[file], best);
+        best = fuller(held[file], frames, weights[8], weights[file], file, best);
         file += 1;
     }
     best.file
 }
 
 // The set of one file.
-fn set_of(file: usize) -> u64
+pub fn set_of(file: usize) -> u64
     requires { ⌜ file < 8 ⌝ }
     ensures { λ r. ⌜ ((f : ℕ) → f < 8 → inSet r f ≡ eqb f file) ⌝ }
 {
@@ -296,25 +455,35 @@ fn set_of(file: usize) -> u64
 }
 
 // The files whose pages may go: all under the 1989 rule, the one chosen under the 1993 rule.
-fn files_open(v: View, cached: &[u64; 128]) -> u64
-    requires { ⌜ Weighable (v .frames) (v .expected) (v .sizes) ⌝ }
-    ensures { λ r. ⌜ ((fetching : List ℕ) → Valid (stateOf v (now (cached .entry)) fetching)
-        → victimAmong (inSet r) (stateOf v (now (cached .entry)) fetching) ≡ victim (stateOf v (now (cached .entry)) fetching)) ⌝ }
+pub fn files_open(frames: u16, weights: &[u64; 9], held: &[u16; 8]) -> u64
+    requires { ⌜ (frames ≤ 1024) × Weighed (now weights) × ((f : ℕ) → f < 8 → getD (now held) f 0 ≤ 1024) ⌝ }
+    ensures { λ r. ⌜ ((v : View) (cached fetching : List ℕ) → Valid (stateOf v cached fetching) → frames ≡ v .frames → Weights v (now (weights .entry))
+        → Held cached (now (held .entry)) → victimAmong (inSet r) (stateOf v cached fetching) ≡ victim (stateOf v cached fetching)) ⌝ }
 {
-    if v.rule == 0 {
+    if weights[8] == 0 {
         return ALL_FILES;
     }
-    set_of(chosen_file(v, cached))
+    set_of(chosen_file(frames, weights, held))
 }
 
 // The page to give up, by the state's rule.
-pub fn victim<'a>(v: View, cached: &'a [u64; 128], fetching: &'a [u64; 128]) -> Choice
-    requires { ⌜ Valid (stateOf v (now cached) (now fetching)) ⌝ }
+pub fn victim<'a>(
+    v: View,
+    cached: &'a [u64; 128],
+    fetching: &'a [u64; 128],
+    held: &[u16; 8],
+) -> Choice
+    requires { ⌜ Valid (stateOf v (now cached) (now fetching)) × Held (now cached) (now held) ⌝ }
     ensures { λ r. ⌜ chosen r ≡ victim (stateOf v (now (cached .entry)) (now (fetching .entry))) ⌝ }
 {
-    let files = files_open(v, cached);
-    victim_among(v, cached, fetching, files)
+    let weights = weights_of(v);
+    let files = files_open(v.frames, &weights, held);
+    let readers = v.readers;
+    let seats = seats_of(readers);
+    victim_among(terms_of(v), &v.sizes, &seats, cached, fetching, files)
 }
+
+// ---- the next fetch
 
 // The first digit from digit s on that is 0 in both words, or 64: the first 1 of the complement of both together.
 fn next_clear(x: u64, y: u64, s: usize) -> usize
@@ -372,12 +541,11 @@ fn sooner<'a>(
         return best;
     }
     let low = best.value;
-    let value = lowered(v, cached, fetching, slot, r.position, r.pace, key, low);
+    let t = terms_of(v);
+    let value = lowered(t, cached, fetching, slot, r.position, r.pace, key, low);
     if value < low {
-        return Pick {
-            key: key as u16,
-            value: value,
-        };
+        let key = key as u16;
+        return Pick { key, value };
     }
     best
 }

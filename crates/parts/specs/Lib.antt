@@ -1,2 +1,3 @@
 -- What the contracts of this crate speak of besides the rules.
 pub mod Files
+pub mod Held

@@ -6,7 +6,10 @@ use rules::Reader;
 use rules::View;
 ghost use mathlib.Core.Path.{_≡_};
 ghost use mathlib.Core.Bool.{false};
-ghost use Prim.Native.Nat.{min, _+_, _-_, _%_, _≤_, _<_};
+ghost use mathlib.Core.List.{List};
+ghost use Prim.Native.Nat.{ℕ, min, _+_, _-_, _*_, _/_, _%_, _≤_, _<_};
+ghost use lib.ListN.{getD, length};
+ghost use Rattle.bits.specs.Map.{bit, ones, putBit};
 ghost use Rattle.rules.specs.Views.{stateOf, noPages};
 ghost use Rattle.rules.specs.Lists.{within};
 ghost use Rattle.rules.specs.Pages.{fileOf, pageOf, keyOf};
@@ -15,6 +18,7 @@ ghost use Rattle.rules.specs.Calls.{fresh, idle, docked};
 ghost use Rattle.rules.specs.Orders.{weightOf, weightSum, standing};
 ghost use Rattle.rules.specs.Questions.{slotAt};
 ghost use Rattle.parts.specs.Files.{noFileIn, noPageIn, noRangeIn, weightIn, Small};
+ghost use Rattle.parts.specs.Held.{Held};
 
 // ---- numbers
 
@@ -138,6 +142,63 @@ pub fn standing(frames: u16, sum: u64, weight: u64, file: usize, pages: u64) -> 
     ensures small { λ r. ⌜ r < 274877906944 ⌝ }
 {
     (pages * sum + (frames as u64) * (sum - weight)) * 8 + file as u64
+}
+
+// ---- how many cached pages each file has
+
+// Counts them.
+pub fn count_held(cached: &[u64; 128], held: &mut [u16; 8])
+    requires { ⌜ length (now held) ≡ 8 ⌝ }
+    ensures { λ _. ⌜ Held (now (cached .entry)) (now (held .exit)) ⌝ }
+{
+    let mut file: usize = 0;
+    while file < 8 {
+        let n = bits::count(cached, file * 1024, 1024);
+        held[file] = n as u16;
+        file += 1;
+    }
+}
+
+// So many, and those of one file more.
+fn and_more(taken: u32, n: u16) -> u32
+    requires { ⌜ taken ≤ 1000000 ⌝ }
+    ensures { λ r. ⌜ r ≡ taken + n ⌝ }
+{
+    taken + n as u32
+}
+
+// How many frames are taken.
+pub fn taken(held: &[u16; 8]) -> u32
+    requires { ⌜ ((f : ℕ) → f < 8 → getD (now held) f 0 ≤ 1024) ⌝ }
+    ensures { λ r. ⌜ ((cached : List ℕ) → Held cached (now (held .entry)) → r ≡ ones cached 0 8192) ⌝ }
+{
+    let mut taken: u32 = 0;
+    let mut file: usize = 0;
+    while file < 8 {
+        taken = and_more(taken, held[file]);
+        file += 1;
+    }
+    taken
+}
+
+// A page that was not cached is cached.
+pub fn page_in(held: &mut [u16; 8], key: usize)
+    requires { ⌜ (key < 8192) × (length (now held) ≡ 8) × (getD (now held) (key / 1024) 0 ≤ 1024) ⌝ }
+    ensures { λ _. ⌜ ((cached : List ℕ) → Held cached (now (held .entry)) → bit cached key ≡ 0 → key / 64 < length cached
+        → Held (putBit cached key 1) (now (held .exit))) ⌝ }
+{
+    let n = held[key / 1024];
+    held[key / 1024] = n + 1;
+}
+
+// A page that was cached is not.
+pub fn page_out(held: &mut [u16; 8], key: usize)
+    requires { ⌜ (key < 8192) × (length (now held) ≡ 8) × (0 < getD (now held) (key / 1024) 0) ⌝ }
+    ensures { λ _. ⌜ ((cached : List ℕ) → Held cached (now (held .entry)) → bit cached key ≡ 1 → key / 64 < length cached
+        → Held (putBit cached key 0) (now (held .exit))) ⌝ }
+{
+    let n = held[key / 1024];
+    held[key / 1024] = n - 1;
 }
 
 // ---- readers

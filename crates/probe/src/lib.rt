@@ -46,7 +46,8 @@ pub extern "C" fn probe_restore(image: &[u8], buffer: &mut [u8]) -> u64
 {
     let mut cached = [0u64; 128];
     let mut fetching = [0u64; 128];
-    let restored = image::restore(image, &mut cached, &mut fetching);
+    let mut held = [0u16; 8];
+    let restored = image::restore(image, &mut cached, &mut fetching, &mut held);
     let done = restored.answer;
     let saved = image::save(restored.view, &cached, &fetching, buffer);
     two_numbers(codes::number(done), codes::number(saved))
@@ -109,7 +110,8 @@ fn probe_list(image: &[u8], stealing: bool, list: &mut [u16]) -> u64
 {
     let mut cached = [0u64; 128];
     let mut fetching = [0u64; 128];
-    let restored = image::restore(image, &mut cached, &mut fetching);
+    let mut held = [0u16; 8];
+    let restored = image::restore(image, &mut cached, &mut fetching, &mut held);
     let done = restored.answer;
     if !codes::carried_out(done) {
         return codes::number(done);
@@ -245,7 +247,8 @@ pub extern "C" fn probe_when_read(image: &[u8], questions: &[u64], answers: &mut
 {
     let mut cached = [0u64; 128];
     let mut fetching = [0u64; 128];
-    let restored = image::restore(image, &mut cached, &mut fetching);
+    let mut held = [0u16; 8];
+    let restored = image::restore(image, &mut cached, &mut fetching, &mut held);
     let done = restored.answer;
     if !codes::carried_out(done) {
         return codes::number(done);

@@ -1,4 +1,4 @@
--- An answer that is no F, or no H, as code knows it that has ruled that out: by the numbers of the other variants. Assumes nothing.
+-- An answer that is F, that is no F, or no H, as code knows it: by the numbers of the variants. Assumes nothing.
 use Prim.Native.Nat.{ℕ, _≤_}
 use mathlib.Core.Path.{_≡_, refl}
 use mathlib.Core.List.{List, [], _∷_}
@@ -33,9 +33,23 @@ not-fetch Arrived f y k = refl
 not-fetch (Replaced file page) f y k = refl
 not-fetch (Ran fetches reads) f y k = refl
 
--- what is made of an F
-pub is-fetch : {A : Type 0} (a : Answer) (file page : ℕ) (f : ℕ → ℕ → A) (x y : A) → a ≡ Fetch file page → x ≡ f file page → x ≡ onFetch a f y
-is-fetch a file page f x y e h = rw e h
+-- F
+abbrev pub IsFetch : Answer → Type 0
+IsFetch a = OneOf (4 ∷ []) (tagOf the-type a)
+
+-- what is made of an F: 1, where of any other answer 0 is made
+pub only-fetch : (a : Answer) → IsFetch a → onFetch {A = ℕ} a (λ _ _. 1) 0 ≡ 1
+only-fetch (Refused n) k = absurd (miss (4 ∷ []) 0 tt k)
+only-fetch Done k = absurd (miss (4 ∷ []) 1 tt k)
+only-fetch (Hit file page) k = absurd (miss (4 ∷ []) 2 tt k)
+only-fetch (Wait file page) k = absurd (miss (4 ∷ []) 3 tt k)
+only-fetch (Fetch file page) k = refl
+only-fetch End k = absurd (miss (4 ∷ []) 5 tt k)
+only-fetch Nothing k = absurd (miss (4 ∷ []) 6 tt k)
+only-fetch (Stolen file page) k = absurd (miss (4 ∷ []) 7 tt k)
+only-fetch Arrived k = absurd (miss (4 ∷ []) 8 tt k)
+only-fetch (Replaced file page) k = absurd (miss (4 ∷ []) 9 tt k)
+only-fetch (Ran fetches reads) k = absurd (miss (4 ∷ []) 10 tt k)
 
 -- an answer that is no H has no page of one
 pub not-hit : (a : Answer) → OneOf (0 ∷ 1 ∷ 3 ∷ 4 ∷ 5 ∷ 6 ∷ 7 ∷ 8 ∷ 9 ∷ 10 ∷ []) (tagOf the-type a) → 0 ≡ length (hitPage a)

@@ -1,3 +1,5 @@
--- What Run rests on: the answer of a turn, and turns one after the other.
+-- What Run rests on: the answer of a turn, the readers and their array, turns one after the other, and a turn as its code reads it.
 pub mod Answers
+pub mod Seatings
 pub mod Rounds
+pub mod Turnings

@@ -1,31 +1,92 @@
--- One turn, and one more at the end of those made. Assumes nothing.
+-- One turn on the array and the maps, and one more at the end of those made. Assumes nothing.
 use Prim.Native.Nat.{ℕ, zero, suc, _+_, _≤_, _<_}
 use mathlib.Core.Path.{_≡_, refl, sym, ap, ap₂, subst, _∙_}
-use mathlib.Core.Bool.{true, false, not, cond}
+use mathlib.Core.Bool.{Bool, true, false, not, cond}
 use mathlib.Core.List.{List, []}
+use mathlib.Core.Option.{Option}
 use native.Mathlib.Omega.{arith}
 use native.Mathlib.Numerals.{add-one}
-use lib.ListN.{length}
-use lib.Dec.{ltb, eqb}
-use Rattle.bits.specs.Map.{ones}
-use Rattle.rules.specs.Pages.{fetchingPages}
-use Rattle.rules.specs.Readers.{readerAt, attached, byCondition}
+use lib.ListN.{getD, set, length}
+use lib.Seq.{getD-set-same}
+use lib.Dec.{T, ltb, eqb}
+use Rattle.bits.specs.Map.{putBit, on, ones}
+use Rattle.rules.specs.Pages.{cached, inFetch, fetchingPages}
+use Rattle.rules.specs.Readers.{noReader, readerAt, byCondition, onward}
 use Rattle.rules.specs.Valid.{Valid}
-use Rattle.rules.specs.Calls.{reply, refused, readOf, arriveOf}
-use Rattle.rules.specs.Run.{fetchOpen, Turn, nextTurn, ended, readTurn, turnOf, Turns, turnsOf, runOf}
+use Rattle.rules.specs.Calls.{reply, refused, withReaders, withReader, withFetching, withCached, without, readOf, dropped}
+use Rattle.rules.specs.Run.{fetchOpen, onFetch, hitPage, nextTurn, ended, readTurn, turnOf, Turn, Turns, turnsOf, runOf}
 use Rattle.rules.specs.Third.{ThirdStatement}
 use Rattle.rules.specs.declared.State.{State}
+use Rattle.rules.specs.declared.Reader.{Reader}
 use Rattle.rules.specs.declared.Reply.{Reply}
-use Rattle.rules.specs.declared.Answer.the-variants.{Fetch, Ran}
+use Rattle.rules.specs.declared.Answer.{Answer}
+use Rattle.rules.specs.declared.Answer.the-variants.{Hit, Ran}
 use Rattle.rules.specs.declared.Condition.{Condition}
 use Rattle.rules.specs.declared.Condition.the-variants.{Empty, Running, Waiting}
-use Rattle.rules.proofs.laws.Cases.{cond-all, cond-yes, cond-no, fetch-all, outcomes}
-use Rattle.rules.proofs.calls.Kept.{read-kept, arrive-kept, turn-kept}
+use Rattle.rules.proofs.laws.Cases.{cond-yes, cond-no, outcomes}
+use Rattle.rules.proofs.calls.Kept.{turn-kept}
 use Rattle.rules.proofs.third.Optimal.{third-of}
+use Rattle.rules.proofs.third.Moves.{nowAt, goesNow, keyNow}
+use Rattle.rules.proofs.third.Turns.{none-in-fetch, awaiting, read-by, read-stored, stored, emptied, emptied-same, fetch-turn}
+use Rattle.parts.specs.Held.{Held}
+use Rattle.calls.specs.Inner.{stepped, eased}
+use Rattle.calls.specs.declared.Step.{Step}
 use Rattle.calls.proofs.Frames.{pages-ones}
-use Rattle.run.specs.Tallies.{Tally, tally, turned, Single}
-use Rattle.run.specs.declared.Turned.{Turned}
-use Rattle.run.proofs.Answers.{NoFetch, not-fetch, is-fetch, one-hit}
+use Rattle.run.specs.Places.{movedTo}
+use Rattle.run.specs.Tallies.{Tally, tally, soFar}
+use Rattle.run.proofs.Answers.{NoFetch, not-fetch, IsFetch, only-fetch}
+
+-- ---- what Read says of the turn's record
+
+-- F is 1, and any other answer 0
+abbrev fetches : Answer → ℕ
+fetches a = onFetch a (λ _ _. 1) 0
+
+-- what a Read of the slot leaves: its record there, and the fetch map
+module _ (s : State) (v : Valid s) (slot : ℕ) (low : slot < 16) (q : Step) (still : List ℕ) (r : Reply) (e : stepped s slot q still ≡ r) where
+  read-record : q .reader ≡ readerAt (r .state) slot
+  read-record =
+      sym (getD-set-same (s .readers) slot (q .reader) noReader (omega (arith, v .sixteen))) ∙ ap (λ r. readerAt (r .state) slot) e
+
+  read-map : still ≡ r .state .fetching
+  read-map = ap (λ r. r .state .fetching) e
+
+module _ (s : State) (v : Valid s) (closed : (k : ℕ) → T (inFetch s k) → ⊥) (q : Step) (still : List ℕ)
+    (e : stepped s (s .turn) q still ≡ readOf s (s .turn)) where
+  answer-is : q .answer ≡ readOf s (s .turn) .answer
+  answer-is = ap (λ r. r .answer) e
+
+  -- without F the reader moves at most, and no page is in fetch
+  pub read-moves : NoFetch (q .answer) → (q .reader ≡ movedTo (q .reader .position) (nowAt s)) × (still ≡ s .fetching)
+  read-moves k =
+      let no : fetches (readOf s (s .turn) .answer) ≡ 0 = ap fetches (sym answer-is) ∙ sym (not-fetch (q .answer) (λ _ _. 1) 0 k) in
+      let both = read-by s v closed Left (λ _. (at-rest, refl)) (λ _. (at-rest, refl)) (λ _ _ _. (gone-on, refl)) (λ _ _ z. absurd (omega arith)) no in (
+        subst (λ x. x ≡ movedTo (x .position) (nowAt s)) (sym (read-record s v (s .turn) (v .turn-high) q still _ e)) (both .0),
+        read-map s v (s .turn) (v .turn-high) q still _ e ∙ both .1,
+      )
+    where
+      At : Reader → Type 0
+      At x = x ≡ movedTo (x .position) (nowAt s)
+
+      Left : Reply → Type 0
+      Left r = fetches (r .answer) ≡ 0 → At (readerAt (r .state) (s .turn)) × (r .state .fetching ≡ s .fetching)
+
+      at-rest : At (nowAt s)
+      at-rest = refl
+
+      gone-on : At (getD (set (s .readers) (s .turn) (onward (nowAt s))) (s .turn) noReader)
+      gone-on = rw (getD-set-same (s .readers) (s .turn) (onward (nowAt s)) noReader (omega (arith, v .sixteen, v .turn-high))) refl
+
+  -- with F the reader has a page to read that is not cached, and that page is in fetch
+  pub read-begins : IsFetch (q .answer)
+      → T (goesNow s) × T (not (cached s (keyNow s))) × (still ≡ putBit (s .fetching) (keyNow s) 1)
+  read-begins k =
+      let yes : fetches (readOf s (s .turn) .answer) ≡ 1 = ap fetches (sym answer-is) ∙ only-fetch (q .answer) k in
+      let all = read-by s v closed Left (λ z. absurd (omega arith)) (λ z. absurd (omega arith)) (λ _ _ z. absurd (omega arith)) (λ g o _. (g, o, refl)) yes in
+      (all .0, all .1, read-map s v (s .turn) (v .turn-high) q still _ e ∙ all .2)
+    where
+      Left : Reply → Type 0
+      Left r = fetches (r .answer) ≡ 1 → T (goesNow s) × T (not (cached s (keyNow s))) × (r .state .fetching ≡ putBit (s .fetching) (keyNow s) 1)
 
 -- ---- one turn
 
@@ -49,63 +110,75 @@ turn-reads s l = go (readerAt s (s .turn) .condition) refl
     go Running e = refl
     go Waiting e = refl
 
-module _ (s : State) (v : Valid s) (r : Reply) (e : r ≡ readOf s (s .turn)) where
-  -- Read's answer is no F, and ends the turn
-  pub turn-else : (q : Tally) → NoFetch (r .answer) → q ≡ tally (ended 0 r) → q ≡ tally (turnOf s)
+module _ (s : State) (v : Valid s) (closed : (k : ℕ) → T (inFetch s k) → ⊥) (r : Reader) (er : r ≡ nowAt s) where
+  -- a Read that meets no F ends the turn: its reader has moved at most
+  pub turn-ends : (q : Step) (still : List ℕ) → stepped s (s .turn) q still ≡ readOf s (s .turn) → NoFetch (q .answer)
+      → record {
+        after = withFetching (withReaders (nextTurn s) (set (s .readers) (s .turn) (movedTo (q .reader .position) r))) still;
+        fetched = 0;
+        read = length (hitPage (q .answer));
+      } ≡ tally (turnOf s)
   unfolding readTurn
-  turn-else q k h =
-      let t : ended 0 r ≡ readTurn s = rw (← e) (not-fetch (r .answer) _ _ k) in
-      h ∙ ap tally (t ∙ turn-reads s (v .turn-high))
+  turn-ends q still e k =
+      let t : ended 0 (stepped s (s .turn) q still) ≡ readTurn s = rw (← e) (not-fetch (q .answer) _ _ k) in
+      let moved : movedTo (q .reader .position) r ≡ q .reader = rw er (sym (read-moves s v closed q still e k .0)) in
+      rw moved (ap tally (t ∙ turn-reads s (v .turn-high)))
 
-  -- it is F: Arrive of that page and Read again
-  pub turn-fetch : (file page : ℕ) (m again : Reply) (q : Tally) → r .answer ≡ Fetch file page → m ≡ arriveOf (r .state) file page
-      → again ≡ readOf (m .state) (s .turn)
-      → q ≡ tally (ended 1 again) → q ≡ tally (turnOf s)
-  unfolding readTurn
-  turn-fetch file page m again q k a b h =
-      let t : ended 1 again ≡ readTurn s = rw (b, a, ← e) (is-fetch (r .answer) file page _ _ _ k refl) in
-      h ∙ ap tally (t ∙ turn-reads s (v .turn-high))
+  -- one that meets F: the page is put in, and the second Read moves the reader on
+  module _ (g : T (goesNow s)) (o : T (not (cached s (keyNow s)))) (gone : Option ℕ) (eg : gone ≡ dropped (awaiting s (s .turn))) (q : Step) (still : List ℕ)
+      (e : stepped (withFetching (withCached s (stored s v closed g gone)) (emptied s v closed g)) (s .turn) q still
+      ≡ readOf (withFetching (withCached s (stored s v closed g gone)) (emptied s v closed g)) (s .turn)) where
+    again : stepped (withFetching (withCached s (stored s v closed g gone)) (emptied s v closed g)) (s .turn) q still
+        ≡ reply (withReader (withFetching (withCached s (stored s v closed g gone)) (emptied s v closed g)) (s .turn) (onward (nowAt s)))
+        (Hit (nowAt s .file) (nowAt s .position + 1))
+    again = e ∙ read-stored s v closed g o gone
 
--- ---- the states of a turn are valid
+    fetch-still : still ≡ emptied s v closed g
+    fetch-still = ap (λ r. r .state .fetching) again
 
--- after Read
-pub read-valid : (s : State) → Valid s → (slot : ℕ) (r : Reply) → r ≡ readOf s slot → Valid (r .state)
-read-valid s v slot r e = rw e (read-kept s slot v)
+    goes-on : q .reader ≡ onward (nowAt s)
+    goes-on =
+        sym (getD-set-same (s .readers) (s .turn) (q .reader) noReader (omega (arith, v .sixteen, v .turn-high)))
+        ∙ ap (λ r. readerAt (r .state) (s .turn)) again
+        ∙ getD-set-same (s .readers) (s .turn) (onward (nowAt s)) noReader (omega (arith, v .sixteen, v .turn-high))
 
--- after Arrive
-pub arrive-valid : (s : State) → Valid s → (file page : ℕ) (r : Reply) → r ≡ arriveOf s file page → Valid (r .state)
-arrive-valid s v file page r e = rw e (arrive-kept s file page v)
+    turn-fetches : record {
+      after =
+          withFetching (withCached (withReaders (nextTurn s) (set (s .readers) (s .turn) (movedTo (q .reader .position) r))) (stored s v closed g gone))
+          still;
+      fetched = 1;
+      read = length (hitPage (q .answer));
+    } ≡ tally (turnOf s)
+    turn-fetches =
+        let moved : movedTo (q .reader .position) r ≡ onward (nowAt s) = rw (er, goes-on) refl in
+        rw (moved, fetch-still, ap (λ r. r .answer) again, eg) (ap tally (sym (fetch-turn s v closed g o)))
 
--- after the turn
-pub turn-valid : (s : State) → Valid s → (t : Tally) → t ≡ tally (turnOf s) → Valid (t .after)
-turn-valid s v t e = rw e (turn-kept s v)
+  -- the same by what the code is told: the page's key, the page that gave up its frame, and the maps on the way
+  module _ (g : T (goesNow s)) (o : T (not (cached s (keyNow s)))) (key : ℕ) (ek : key ≡ keyNow s) (gone : Option ℕ)
+      (eg : gone ≡ dropped (awaiting s (s .turn))) (map opened still′ : List ℕ) (em : map ≡ putBit (eased (s .cached) gone) key 1)
+      (eo : opened ≡ putBit (s .fetching) (keyNow s) 1) (es : still′ ≡ without opened key) (q : Step) (still : List ℕ)
+      (e : stepped (withFetching (withCached s map) still′) (s .turn) q still ≡ readOf (withFetching (withCached s map) still′) (s .turn)) where
+    map-is : map ≡ stored s v closed g gone
+    map-is = em ∙ ap (λ k. putBit (eased (s .cached) gone) k 1) ek
 
--- a turn meets F once at most, and ends in one H at most
-abbrev OneOfEach : Tally → Type 0
-OneOfEach t = (t .fetched ≤ 1) × (t .read ≤ 1)
+    still-is : still′ ≡ emptied s v closed g
+    still-is = es ∙ ap₂ without eo ek
 
-turn-single : (s : State) → OneOfEach (tally (turnOf s))
-unfolding turnOf readTurn
-turn-single s =
-    cond-all One (attached (readerAt s (s .turn))) _ _
-    (λ _. fetch-all One (readOf s (s .turn) .answer) _ _
-    (λ file page _. (omega arith, one-hit (readOf (arriveOf (readOf s (s .turn) .state) file page .state) (s .turn) .answer)))
-    (omega arith, one-hit (readOf s (s .turn) .answer)))
-    (λ _. (omega arith, omega arith))
-  where
-    One : Turn → Type 0
-    One t = OneOfEach (tally t)
+    abbrev told : stepped (withFetching (withCached s (stored s v closed g gone)) (emptied s v closed g)) (s .turn) q still
+        ≡ readOf (withFetching (withCached s (stored s v closed g gone)) (emptied s v closed g)) (s .turn)
+    told = rw (map-is, still-is) at e
 
--- what holds of a turn that is the rule's
-pub and-single : (s : State) (r : Turned) (cached fetching : List ℕ) → turned r cached fetching ≡ tally (turnOf s)
-    → (turned r cached fetching ≡ tally (turnOf s)) × Single r
-and-single s r cached fetching e = (e, subst OneOfEach (sym e) (turn-single s))
+    pub fetch-made : record {
+      after = withFetching (withCached (withReaders (nextTurn s) (set (s .readers) (s .turn) (movedTo (q .reader .position) r))) map) still;
+      fetched = 1;
+      read = length (hitPage (q .answer));
+    } ≡ tally (turnOf s)
+    fetch-made = rw map-is (turn-fetches g o gone eg q still told)
+
+    pub fetch-quiet : (k : ℕ) → T (on still k) → ⊥
+    fetch-quiet k h = closed k (subst (λ (f : ℕ → Bool). T (f k)) (ap on (fetch-still g o gone eg q still told) ∙ emptied-same s v closed g o) h)
 
 -- ---- the turns so far
-
--- the state after them, the fetches and the reads
-abbrev pub soFar : State → ℕ → ℕ → Turns
-soFar t fetches reads = record { after = t; fetches = fetches; reads = reads }
 
 -- some turns and one more at their end
 abbrev andOne : Turns → Turn → Turns
@@ -132,11 +205,20 @@ pub turns-more : (s t : State) (fetches reads i : ℕ) (r : Tally) → soFar t f
     → soFar (r .after) (fetches + r .fetched) (reads + r .read) ≡ turnsOf (i + 1) s
 turns-more s t fetches reads i r e h = rw (add-one i, turns-last i s, ← e, h)
 
+-- after some turns there are sixteen records
+pub sixteen-after : (s t : State) (fetches reads n : ℕ) → soFar t fetches reads ≡ turnsOf n s → Valid (turnsOf n s .after) → length (t .readers) ≡ 16
+sixteen-after s t fetches reads n e v = rw (ap (λ ts. ts .after) e) (v .sixteen)
+
+-- a turn leaves a valid state
+pub turn-valid : (s : State) → Valid s → (t : Tally) → t ≡ tally (turnOf s) → Valid (t .after)
+turn-valid s v t e = rw e (turn-kept s v)
+
 -- ---- Run
 
--- what holds of a reply that is Run's: the third statement too
-pub with-third : (s : State) (n : ℕ) (r : Reply) → r ≡ runOf s n → (r ≡ runOf s n) × ThirdStatement n s (r .answer)
-with-third s n r e = (e, third-of s n r e)
+-- what holds of a reply that is Run's: the third statement too; and of the counts
+pub with-third : (s : State) (n : ℕ) (r : Reply) (map held : List ℕ) → Held map held → r ≡ runOf s n
+    → (r ≡ runOf s n) × (ThirdStatement n s (r .answer) × Held map held)
+with-third s n r map held h e = (e, (third-of s n r e, h))
 
 -- 11
 pub run-many : (s : State) (n : ℕ) (r : Reply) → 16384 < n → r ≡ refused s 11 → r ≡ runOf s n
@@ -149,6 +231,11 @@ module _ (s : State) (v : Valid s) (n : ℕ) (few : n ≤ 16384) (q : ℕ) (e : 
   unfolding fetchingPages
   in-fetch = pages-ones s v (s .fetching) (v .fetching-in) ∙ sym e
 
+  -- none is
+  pub none-open : q ≡ 0 → (k : ℕ) → T (inFetch s k) → ⊥
+  unfolding fetchOpen
+  none-open h = let o : eqb q 0 ≡ true = search outcomes in none-in-fetch s v (rw (in-fetch, o) refl)
+
   -- 10
   pub run-open : (r : Reply) → (q ≡ 0 → ⊥) → r ≡ refused s 10 → r ≡ runOf s n
   unfolding runOf fetchOpen
@@ -157,12 +244,10 @@ module _ (s : State) (v : Valid s) (n : ℕ) (few : n ≤ 16384) (q : ℕ) (e : 
       cond-no (λ x. r ≡ x) (ltb 16384 n) _ _ (search outcomes) (cond-yes (λ x. r ≡ x) (not (eqb (length (fetchingPages s)) 0)) _ _ (rw (in-fetch, o)) k)
 
   -- all turns are made
-  pub run-done : (t : State) (fetches reads i : ℕ) (r : Reply) → q ≡ 0 → soFar t fetches reads ≡ turnsOf i s → i ≤ n → n ≤ i
-      → r ≡ reply t (Ran fetches reads) → r ≡ runOf s n
+  pub run-done : (t : State) (fetches reads : ℕ) (r : Reply) → q ≡ 0 → soFar t fetches reads ≡ turnsOf n s → r ≡ reply t (Ran fetches reads) → r ≡ runOf s n
   unfolding runOf fetchOpen
-  run-done t fetches reads i r h a l m k =
+  run-done t fetches reads r h a k =
       let o : eqb q 0 ≡ true = search outcomes in
-      let b : soFar t fetches reads ≡ turnsOf n s = a ∙ ap (λ j. turnsOf j s) (omega arith) in
       cond-no (λ x. r ≡ x) (ltb 16384 n) _ _ (search outcomes)
       (cond-no (λ x. r ≡ x) (not (eqb (length (fetchingPages s)) 0)) _ _ (rw (in-fetch, o))
-      (k ∙ ap (λ ts. reply (ts .after) (Ran (ts .fetches) (ts .reads))) b))
+      (k ∙ ap (λ ts. reply (ts .after) (Ran (ts .fetches) (ts .reads))) a))

@@ -1,11 +1,17 @@
 -- A turn as the code tells it. Assumes nothing: these are definitions.
-use Prim.Native.Nat.{ℕ, _≤_}
+use Prim.Native.Nat.{ℕ, _+_, _%_, _≤_}
+use mathlib.Core.Path.{_≡_}
 use mathlib.Core.List.{List}
-use lib.ListN.{length}
+use lib.ListN.{length, set}
 use Rattle.rules.specs.Views.{stateOf}
-use Rattle.rules.specs.Run.{Turn}
+use Rattle.rules.specs.Run.{Turn, turnOf, Turns}
 use Rattle.rules.specs.declared.State.{State}
+use Rattle.rules.specs.declared.Reader.{Reader}
+use Rattle.rules.specs.declared.View.{View}
+use Rattle.order.specs.declared.Terms.{Terms}
+use Rattle.order.specs.Searches.{under, stateUnder}
 use Rattle.run.specs.declared.Turned.{Turned}
+use Rattle.run.specs.Places.{movedTo, reseated, Quiet}
 
 -- the state after a turn, 1 if it met F, and 1 if it ended in H
 pub record Tally : Type 0 where
@@ -17,10 +23,21 @@ pub record Tally : Type 0 where
 abbrev pub tally : Turn → Tally
 tally t = record { after = t .after; fetched = t .fetched; read = length (t .hit) }
 
--- as the code has it, with the maps as the turn leaves them
-abbrev pub turned : Turned → List ℕ → List ℕ → Tally
-turned t cached fetching = record { after = stateOf (t .view) cached fetching; fetched = t .fetched; read = t .read }
+-- as the code has it, where the turn leaves this view and these maps
+abbrev pub turned : Turned → View → List ℕ → List ℕ → Tally
+turned t w cached fetching = record { after = stateOf w cached fetching; fetched = t .fetched; read = t .read }
 
 -- a turn meets F once at most, and ends in one H at most
 abbrev pub Single : Turned → Type 0
 Single t = (t .fetched ≤ 1) × (t .read ≤ 1)
+
+-- a turn of the view w made on an array and on maps: the turn's reader, r, is at position p now, there as in the view, and the rest is the rule's
+pub record Made (t : Terms) (w : View) (r : Reader) (seats cached fetching : List ℕ) (q : Turned) (seats′ cached′ fetching′ : List ℕ) (p : ℕ) : Type 0 where
+  pub placed : seats′ ≡ set seats (t .turn) p
+  pub told : turned q (reseated (under t w) ((t .turn + 1) % 16) (set (w .readers) (t .turn) (movedTo p r))) cached′ fetching′
+      ≡ tally (turnOf (stateUnder t w cached fetching))
+  pub still : Quiet fetching′
+
+-- the state after some turns, the fetches and the reads
+abbrev pub soFar : State → ℕ → ℕ → Turns
+soFar s fetches reads = record { after = s; fetches = fetches; reads = reads }

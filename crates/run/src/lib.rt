@@ -1,24 +1,39 @@
-// Run: the turns of the slots in their order, each with Read and, where that meets F, Arrive and Read again.
+// Run: the turns of the slots in their order, each with Read and, where that meets F, Arrive and Read again. A turn changes one position, the cached map and
+// the files' counts. So the view stays as it is until the end: the positions are in the readers' array of the searches, which is lent from turn to turn.
 
+use order::Choice;
+use order::Terms;
 use rules::Answer;
 use rules::Outcome;
+use rules::Reader;
 use rules::View;
 ghost use mathlib.Core.Path.{_≡_};
 ghost use mathlib.Core.List.{List};
-ghost use Prim.Native.Nat.{ℕ, _<_};
+ghost use Prim.Native.Nat.{ℕ, _≤_};
 ghost use lib.ListN.{length};
 ghost use Rattle.rules.specs.Views.{stateOf, replyOf};
 ghost use Rattle.rules.specs.Valid.{Valid};
-ghost use Rattle.rules.specs.Calls.{reply};
-ghost use Rattle.rules.specs.Run.{hitPage, ended, turnOf, runOf};
+ghost use Rattle.rules.specs.Calls.{dropped};
+ghost use Rattle.rules.specs.Run.{hitPage, turnsOf, runOf};
 ghost use Rattle.rules.specs.Third.{ThirdStatement};
-ghost use Rattle.run.specs.Tallies.{tally, turned, Single};
+ghost use Rattle.parts.specs.Held.{Held};
+ghost use Rattle.order.specs.Choices.{chosen};
+ghost use Rattle.order.specs.Searches.{stateUnder};
+ghost use Rattle.order.specs.Seats.{Seated};
+ghost use Rattle.run.specs.Places.{movedTo, reseated, Posed, Quiet, Choosing, Turning};
+ghost use Rattle.run.specs.Tallies.{Single, Made, soFar};
 
-// A turn: the view after it, 1 if it met F, and 1 if it ended in H.
+// What a turn did: 1 if it met F, and 1 if it ended in H.
 pub struct Turned {
-    pub view: View,
     pub fetched: u16,
     pub read: u16,
+}
+
+// What some turns did: the slot whose turn it is then, the fetches and the reads.
+struct Went {
+    slot: u8,
+    fetches: u16,
+    reads: u16,
 }
 
 // 1 if the answer is H.
@@ -31,42 +46,149 @@ fn hits(answer: Answer) -> u16
     }
 }
 
-// The end of a turn: the turn grows by 1 modulo 16.
-fn end_turn(mut v: View, answer: Answer, fetched: u16) -> Turned
-    requires { ⌜ v .turn < 16 ⌝ }
-    ensures { λ r. ⌜ ((c f : List ℕ) → turned r c f ≡ tally (ended fetched (reply (stateOf v c f) answer))) ⌝ }
+// A turn that ended in this answer.
+fn ended(answer: Answer, fetched: u16) -> Turned
+    ensures { λ r. ⌜ r ≡ record { fetched = fetched; read = length (hitPage answer) } ⌝ }
 {
-    v.turn = (v.turn + 1) % 16;
-    Turned {
-        view: v,
-        fetched,
-        read: hits(answer),
+    let read = hits(answer);
+    Turned { fetched, read }
+}
+
+// The record at another position.
+fn at_position(r: Reader, position: u16) -> Reader
+    ensures { λ t. ⌜ t ≡ movedTo position r ⌝ }
+{
+    let mut next = r;
+    next.position = position;
+    next
+}
+
+// The page that gives up its frame for one that arrives: where all frames are taken, the head of the steal order.
+fn give_up<'a>(
+    t: Terms,
+    sizes: &'a [u16; 8],
+    weights: &'a [u64; 9],
+    seats: &'a [u16; 72],
+    cached: &'a [u64; 128],
+    fetching: &'a [u64; 128],
+    held: &'a [u16; 8],
+) -> Choice
+    requires { ⌜ ((w : View) × Choosing t (now sizes) (now weights) (now seats) (now cached) (now fetching) w) ⌝ }
+    requires { ⌜ Held (now cached) (now held) ⌝ }
+    ensures { λ r. ⌜ ((w : View) → Choosing t (now (sizes .entry)) (now (weights .entry)) (now (seats .entry)) (now (cached .entry)) (now (fetching .entry)) w
+        → chosen r ≡ dropped (stateUnder t w (now (cached .entry)) (now (fetching .entry)))) ⌝ }
+{
+    if parts::taken(held) < t.frames as u32 {
+        return Choice::Nothing;
+    }
+    let files = order::files_open(t.frames, weights, held);
+    order::victim_among(t, sizes, seats, cached, fetching, files)
+}
+
+// One turn, of the slot whose record is `r`. Read refuses an empty slot and changes nothing, so the slot is not looked at before.
+fn turn<'a>(
+    t: Terms,
+    sizes: &'a [u16; 8],
+    weights: &'a [u64; 9],
+    seats: &mut [u16; 72],
+    cached: &mut [u64; 128],
+    fetching: &mut [u64; 128],
+    held: &mut [u16; 8],
+    r: Reader,
+) -> Turned
+    requires { ⌜ ((w : View) × Turning t (now sizes) (now weights) (now seats) (now cached) (now fetching) r w) ⌝ }
+    requires { ⌜ Held (now cached) (now held) ⌝ }
+    ensures { λ q. ⌜ ((w : View) → Turning t (now (sizes .entry)) (now (weights .entry)) (now (seats .entry)) (now (cached .entry)) (now (fetching .entry)) r w
+        → (p : ℕ) × Made t w r (now (seats .entry)) (now (cached .entry)) (now (fetching .entry)) q
+        (now (seats .exit)) (now (cached .exit)) (now (fetching .exit)) p) ⌝ }
+    ensures single { λ q. ⌜ Single q ⌝ }
+    ensures counted { λ _. ⌜ Held (now (cached .exit)) (now (held .exit)) ⌝ }
+{
+    let slot = t.turn as usize;
+    let first = calls::read_slot(cached, fetching, r);
+    let answer = first.answer;
+    let Answer::Fetch { file: _, page: _ } = answer else {
+        let moved = first.reader;
+        seats[slot] = moved.position;
+        return ended(answer, 0);
+    };
+    let gone = give_up(t, sizes, weights, seats, cached, fetching, held);
+    calls::put_in(cached, fetching, held, parts::next_key(r), gone);
+    let second = calls::read_slot(cached, fetching, r);
+    let again = second.answer;
+    let moved = second.reader;
+    seats[slot] = moved.position;
+    ended(again, 1)
+}
+
+// The readers where the array has them.
+fn readers_at(readers: [Reader; 16], seats: &[u16; 72]) -> [Reader; 16]
+    ensures { λ r. ⌜ ((now : List Reader) → length now ≡ 16 → Posed readers (seats .entry .now) now → r ≡ now) ⌝ }
+{
+    let mut next = readers;
+    let mut j: usize = 0;
+    while j < 16 {
+        next[j] = at_position(next[j], seats[j]);
+        j += 1;
+    }
+    next
+}
+
+// Some turns, of a view whose readers are in the array. The counts fit: each turn adds at most 1 to either, and there are at most 16,384. Between two turns
+// no page is in fetch.
+fn go_on(
+    v: View,
+    seats: &mut [u16; 72],
+    cached: &mut [u64; 128],
+    fetching: &mut [u64; 128],
+    held: &mut [u16; 8],
+    turns: u64,
+) -> Went
+    requires { ⌜ Valid (stateOf v (now cached) (now fetching)) × Quiet (now fetching) × Seated (v .readers) 16 (now seats) × (turns ≤ 16384) ⌝ }
+    requires { ⌜ Held (now cached) (now held) ⌝ }
+    ensures { λ r. ⌜ ((after : List Reader) × (Posed (v .readers) (now (seats .exit)) after
+        × (soFar (stateOf (reseated v (r .slot) after) (now (cached .exit)) (now (fetching .exit))) (r .fetches) (r .reads)
+        ≡ turnsOf turns (stateOf v (now (cached .entry)) (now (fetching .entry)))))) ⌝ }
+    ensures counted { λ _. ⌜ Held (now (cached .exit)) (now (held .exit)) ⌝ }
+{
+    let weights = order::weights_of(v);
+    let mut slot = v.turn;
+    let mut fetches: u16 = 0;
+    let mut reads: u16 = 0;
+    let mut i: u64 = 0;
+    while i < turns {
+        let t = Terms {
+            look_ahead: v.look_ahead,
+            fetch_time: v.fetch_time,
+            frames: v.frames,
+            turn: slot,
+        };
+        let r = at_position(v.readers[slot as usize], seats[slot as usize]);
+        let q = turn(t, &v.sizes, &weights, seats, cached, fetching, held, r);
+        fetches += q.fetched;
+        reads += q.read;
+        slot = (slot + 1) % 16;
+        i += 1;
+    }
+    Went {
+        slot,
+        fetches,
+        reads,
     }
 }
 
-// One turn. Read refuses an empty slot and changes nothing, so the slot is not looked at before.
-fn turn(v: View, cached: &mut [u64; 128], fetching: &mut [u64; 128]) -> Turned
+pub fn run(
+    v: View,
+    cached: &mut [u64; 128],
+    fetching: &mut [u64; 128],
+    held: &mut [u16; 8],
+    turns: u64,
+) -> Outcome
     requires { ⌜ Valid (stateOf v (now cached) (now fetching)) ⌝ }
-    ensures { λ r. ⌜ turned r (now (cached .exit)) (now (fetching .exit)) ≡ tally (turnOf (stateOf v (now (cached .entry)) (now (fetching .entry)))) ⌝ }
-    ensures single { λ r. ⌜ Single r ⌝ }
-{
-    let slot = v.turn as u64;
-    let first = calls::read(v, cached, fetching, slot);
-    let answer = first.answer;
-    let Answer::Fetch { file, page } = answer else {
-        return end_turn(first.view, answer, 0);
-    };
-    let arrived = calls::arrive(first.view, cached, fetching, file as u64, page as u64);
-    let second = calls::read(arrived.view, cached, fetching, slot);
-    let again = second.answer;
-    end_turn(second.view, again, 1)
-}
-
-// The counts fit: each turn adds at most 1 to either, and there are at most 16,384. Between two turns no page is in fetch.
-pub fn run(v: View, cached: &mut [u64; 128], fetching: &mut [u64; 128], turns: u64) -> Outcome
-    requires { ⌜ Valid (stateOf v (now cached) (now fetching)) ⌝ }
+    requires { ⌜ Held (now cached) (now held) ⌝ }
     ensures { λ r. ⌜ replyOf r (now (cached .exit)) (now (fetching .exit)) ≡ runOf (stateOf v (now (cached .entry)) (now (fetching .entry))) turns ⌝ }
     ensures third { λ r. ⌜ ThirdStatement turns (stateOf v (now (cached .entry)) (now (fetching .entry))) (r .answer) ⌝ }
+    ensures counted { λ _. ⌜ Held (now (cached .exit)) (now (held .exit)) ⌝ }
 {
     if 16384 < turns {
         return calls::refuse(v, 11);
@@ -74,19 +196,18 @@ pub fn run(v: View, cached: &mut [u64; 128], fetching: &mut [u64; 128], turns: u
     if bits::count(fetching, 0, 8192) != 0 {
         return calls::refuse(v, 10);
     }
-    let mut w = v;
-    let mut fetches: u16 = 0;
-    let mut reads: u16 = 0;
-    let mut i: u64 = 0;
-    while i < turns {
-        let r = turn(w, cached, fetching);
-        w = r.view;
-        fetches += r.fetched;
-        reads += r.read;
-        i += 1;
-    }
+    let readers = v.readers;
+    let mut seats = order::seats_of(readers);
+    let went = go_on(v, &mut seats, cached, fetching, held, turns);
+    let mut after = v;
+    after.turn = went.slot;
+    let moved = readers_at(readers, &seats);
+    after.readers = moved;
     Outcome {
-        view: w,
-        answer: Answer::Ran { fetches, reads },
+        view: after,
+        answer: Answer::Ran {
+            fetches: went.fetches,
+            reads: went.reads,
+        },
     }
 }

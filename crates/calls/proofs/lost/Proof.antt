@@ -11,8 +11,11 @@ open-fetch-requires c κs = search needs
 enum-known-fetched : tie.Need-enum-known-fetched
 enum-known-fetched c = search needs
 
-close-fetch-requires : tie.Need-close-fetch-requires
-close-fetch-requires c κs = search (found-low, needs)
+clear-bit-requires : tie.Need-clear-bit-requires
+clear-bit-requires c κs = search (found-low, needs)
+
+wake-requires : tie.Need-wake-requires
+wake-requires c κs = search needs
 
 outcome-requires : tie.Need-outcome-requires
 outcome-requires c κs = search needs
@@ -24,7 +27,14 @@ refuse-requires : tie.Need-refuse-requires
 refuse-requires c κs = search needs
 
 returns : tie.Need-returns
-returns c = λ m. rw (c .outcome .ensures) (search (lost-found, c .before .close-fetch .ensures m, needs))
+returns c =
+    let after-wake = c .before in
+    let after-clear-bit = after-wake .before in
+    let after-fetched = after-clear-bit .before .before .before .before in
+    let after-open-fetch = after-fetched .before .before in
+    λ m. rw (c .outcome .ensures)
+    (lost-found _ _ _ _ _ _ _ (after-open-fetch .open-fetch .ensures) (after-fetched .fetched .given .1) (after-wake .wake .ensures)
+    (after-clear-bit .clear-bit .ensures))
 
 returns-2 : tie.Need-returns-2
 unfolding lostOf
@@ -36,7 +46,8 @@ lost-spec =
     (tie.spec
     open-fetch-requires
     enum-known-fetched
-    close-fetch-requires
+    clear-bit-requires
+    wake-requires
     outcome-requires
     enum-known-fetched-2
     refuse-requires

@@ -1,15 +1,21 @@
--- By the rule: the set of all files, or that of the file chosen.
+-- No weights: the set of all files. Else that of the file chosen.
+use native.Mathlib.Omega.{arith}
 use borrow.Author.Needs.{needs}
 use Rattle.order.proofs.Searching.{victim-of-all}
-use Rattle.order.proofs.Leading.{victim-of-one}
+use Rattle.order.proofs.Leading.{no-rule, victim-of-one}
 use Rattle.order.proofs.files_open.Statement.{statement}
 use Rattle.order.proofs.files_open.Tie as tie
 
+element-copy-out-if1 : tie.Need-element-copy-out-if1
+element-copy-out-if1 c = search needs
+
 returns : tie.Need-returns
-returns c fetching w = victim-of-all _ w (c .if1 .taken)
+returns c = λ v cached fetching w e ws h. victim-of-all _ w (no-rule v _ ws (c .if1 .taken))
 
 chosen-file-requires : tie.Need-chosen-file-requires
-chosen-file-requires c κs = search needs
+chosen-file-requires c κs =
+    let at-start = c .before .before in
+    (at-start .pre, omega (arith, c .if1 .left))
 
 set-of-requires : tie.Need-set-of-requires
 set-of-requires c κs = c .chosen-file .ensures .low
@@ -17,7 +23,13 @@ set-of-requires c κs = c .chosen-file .ensures .low
 returns-2 : tie.Need-returns-2
 returns-2 c =
     let chosen = c .before in
-    victim-of-one _ _ _ _ (chosen .before .if1 .left) (chosen .chosen-file .ensures) (c .set-of .ensures)
+    let else-1 = chosen .before in
+    let at-start = else-1 .before .before in
+    λ v cached fetching w e ws h.
+    victim-of-one v (at-start .args .weights .now) (at-start .args .held .now) _ _ ws (omega (arith, else-1 .if1 .left))
+    (rw e at (chosen .chosen-file .ensures)) (c .set-of .ensures) cached fetching w h
 
 pub files-open-spec : {M : Type 1} → statement M
-files-open-spec = tie.close (tie.spec returns chosen-file-requires set-of-requires returns-2)
+files-open-spec =
+    tie.close
+    (tie.spec element-copy-out-if1 returns chosen-file-requires set-of-requires returns-2)

@@ -16,7 +16,7 @@ use Rattle.rules.proofs.orders.Candidates.{absent-least}
 use Rattle.rules.specs.declared.State.{State}
 use Rattle.rules.specs.declared.Reader.{Reader}
 use Rattle.rules.specs.Views.{stateOf}
-use Rattle.order.proofs.Ranges.{valid-ranged}
+use Rattle.order.specs.Searches.{lower}
 use Rattle.order.proofs.Slots.{lower-least}
 use Rattle.order.proofs.Searching.{none-absent, first-absent, soonest-keep, soonest-take}
 use Rattle.order.proofs.sooner.Statement.{statement}
@@ -143,41 +143,57 @@ returns-2 c =
     (found after-next-absent) (c .if2 .taken) k
     (subst (λ q. FirstAbsent (at s) q k) (sym (slot-reader after-last)) a)))
 
+terms-of-requires : tie.Need-terms-of-requires
+terms-of-requires c κs = search needs
+
 lowered-requires : tie.Need-lowered-requires
 lowered-requires c κs =
-    let after-next-absent = c .before in
-    let after-last = after-next-absent .before in
+    let else-2 = c .before in
+    let after-last = else-2 .before .before in
     let s = start after-last in (
-      valid-ranged (at s) (s .pre .0),
-      (
-        (s .pre .1 .0, small c),
-        (
-          (ap (λ q. q .position) (slot-reader after-last), ap (λ q. q .pace) (slot-reader after-last)),
-          rw (sym (slot-reader after-last)) (ahead c),
-        ),
-      ),
+      rw (ap (λ t. t .turn) (c .terms-of .ensures)) (s .pre .0 .turn-high),
+      s .pre .1 .0,
+      small else-2,
+      omega (arith, ahead else-2),
     )
 
-cast-t18 : tie.Need-cast-t18
-cast-t18 c =
-    let else-2 = c .before .before in
+-- the slot's use key is weighed against the least so far
+told : (c : tie.After-lowered) →
+    let after-next-absent = c .before .before .before in
+    let s = start (after-next-absent .before) in
+    c .lowered .result ≡ lower (at s) (after-next-absent .next-absent .result) (s .args .slot) (s .args .best .value)
+told c =
+    let after-terms-of = c .before in
+    let else-2 = after-terms-of .before in
+    let after-last = else-2 .before .before in
+    let s = start after-last in
+    (rw (after-terms-of .terms-of .ensures) at (c .lowered .ensures)) (s .args .v) (s .pre .0)
+    record {
+      ahead = rw (sym (slot-reader after-last)) (ahead else-2);
+      position-is = ap (λ q. q .position) (slot-reader after-last);
+      pace-is = ap (λ q. q .pace) (slot-reader after-last);
+    }
+
+cast-key : tie.Need-cast-key
+cast-key c =
+    let else-2 = c .before .before .before in
     omega (arith, small else-2)
 
 returns-3 : tie.Need-returns-3
 returns-3 c =
     let after-lowered = c .before in
-    let else-2 = after-lowered .before in
+    let else-2 = after-lowered .before .before in
     let after-next-absent = else-2 .before in
     let after-last = after-next-absent .before in
     let s = start after-last in
     soonest-take (at s) (s .args .slot) (s .args .best) (s .pre .1 .1 .0) (after-next-absent .next-absent .result)
     (after-lowered .lowered .result) (s .pre .1 .0) (rw (sym (slot-reader after-last)) (lacks else-2))
-    (after-lowered .lowered .ensures) (c .if3 .taken)
+    (told after-lowered) (c .if3 .taken)
 
 returns-4 : tie.Need-returns-4
 returns-4 c =
     let after-lowered = c .before in
-    let else-2 = after-lowered .before in
+    let else-2 = after-lowered .before .before in
     let after-next-absent = else-2 .before in
     let after-last = after-next-absent .before in
     let s = start after-last in
@@ -187,7 +203,7 @@ returns-4 c =
     absent-least (at s) (s .args .best .value) (s .args .slot) k (rw (sym (slot-reader after-last)) (lacks else-2))
     (omega (
       arith,
-      after-lowered .lowered .ensures,
+      told after-lowered,
       lower-least (at s) k (s .args .slot) (s .args .best .value) (s .pre .1 .1 .0 .low),
     )))
 
@@ -207,7 +223,8 @@ sooner-spec =
     mul-if2
     add-if2
     returns-2
+    terms-of-requires
     lowered-requires
-    cast-t18
+    cast-key
     returns-3
     returns-4)

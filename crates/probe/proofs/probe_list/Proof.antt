@@ -8,13 +8,13 @@ use Rattle.probe.proofs.probe_list.Statement.{statement}
 use Rattle.probe.proofs.probe_list.Tie as tie
 
 abbrev start : tie.After-restore → tie.Start
-start c = c .before .before .before .before .before
+start c = c .before .before .before .before .before .before
 
 -- what is restored is valid
 valid : (c : tie.After-restore) → Valid (replyOf (c .restore .result) (c .restore .last .1 .0) (c .restore .last .1 .1 .0) .state)
 valid c =
-    let after-shared-slice-known = c .before .before .before .before in
-    probed-valid _ (after-shared-slice-known .shared-slice-known .given) _ (c .restore .ensures)
+    let after-shared-slice-known = c .before .before .before .before .before in
+    probed-valid _ (after-shared-slice-known .shared-slice-known .given) _ (c .restore .ensures .0)
 
 restore-requires : tie.Need-restore-requires
 restore-requires c κs = search needs
@@ -31,7 +31,7 @@ returns c =
     let after-carried-out = then-1 .before in
     let after-restore = after-carried-out .before in
     let a = start after-restore .args in
-    list-refused (a .stealing) (a .image .now) (a .list .now) _ (after-restore .restore .ensures) _ (after-carried-out .carried-out .ensures) _
+    list-refused (a .stealing) (a .image .now) (a .list .now) _ (after-restore .restore .ensures .0) _ (after-carried-out .carried-out .ensures) _
     (then-1 .if1 .taken) (c .number .ensures)
 
 steal-list-requires : tie.Need-steal-list-requires
@@ -53,7 +53,7 @@ returns-2 c =
     let after-carried-out = else-1 .before in
     let after-restore = after-carried-out .before in
     let a = start after-restore .args in
-    list-made (a .stealing) (a .image .now) (a .list .now) _ (after-restore .restore .ensures) _ (after-carried-out .carried-out .ensures) _ _ _ true
+    list-made (a .stealing) (a .image .now) (a .list .now) _ (after-restore .restore .ensures .0) _ (after-carried-out .carried-out .ensures) _ _ _ true
     (else-1 .if1 .left) (then-2 .if2 .taken) (after-steal-list .steal-list .ensures) (c .order-number .ensures)
 
 fetch-list-requires : tie.Need-fetch-list-requires
@@ -75,7 +75,7 @@ returns-3 c =
     let after-carried-out = else-1 .before in
     let after-restore = after-carried-out .before in
     let a = start after-restore .args in
-    list-made (a .stealing) (a .image .now) (a .list .now) _ (after-restore .restore .ensures) _ (after-carried-out .carried-out .ensures) _ _ _ false
+    list-made (a .stealing) (a .image .now) (a .list .now) _ (after-restore .restore .ensures .0) _ (after-carried-out .carried-out .ensures) _ _ _ false
     (else-1 .if1 .left) (else-2 .if2 .left) (after-fetch-list .fetch-list .ensures) (c .order-number2 .ensures)
 
 pub probe-list-spec : {M : Type 1} → statement M

@@ -11,8 +11,8 @@ restore-requires c κs = search needs
 save-requires : tie.Need-save-requires
 save-requires c κs =
     let after-restore = c .before .before .before in
-    let after-shared-slice-known = after-restore .before .before .before .before in
-    probed-valid _ (after-shared-slice-known .shared-slice-known .given) _ (after-restore .restore .ensures)
+    let after-shared-slice-known = after-restore .before .before .before .before .before in
+    probed-valid _ (after-shared-slice-known .shared-slice-known .given) _ (after-restore .restore .ensures .0)
 
 number-requires : tie.Need-number-requires
 number-requires c κs = search needs
@@ -25,8 +25,10 @@ low : (c : tie.After-number2) → (c .before .number .result < 4294967296) × (c
 low c =
     let after-number = c .before in
     let after-save = after-number .before .before .before in
-    let after-restore = after-save .before .before .before .before in
-    (restore-low _ _ _ (after-restore .restore .ensures) (after-number .number .ensures), save-low _ _ _ _ _ (after-save .save .ensures) (c .number2 .ensures))
+    let after-restore = after-save .before .before .before .before in (
+      restore-low _ _ _ (after-restore .restore .ensures .0) (after-number .number .ensures),
+      save-low _ _ _ _ _ (after-save .save .ensures) (c .number2 .ensures),
+    )
 
 two-numbers-requires : tie.Need-two-numbers-requires
 two-numbers-requires c κs = low c
@@ -40,7 +42,7 @@ returns c =
     let after-number = after-number-2 .before in
     let after-save = after-number .before .before .before in
     let after-restore = after-save .before .before .before .before in
-    probed _ _ _ _ _ _ _ _ (after-restore .restore .ensures)
+    probed _ _ _ _ _ _ _ _ (after-restore .restore .ensures .0)
     (after-save .save .ensures) (after-number .number .ensures) (after-number-2 .number2 .ensures) (c .two-numbers .ensures)
 
 pub probe-restore-spec : {M : Type 1} → statement M

@@ -11,7 +11,7 @@ use Rattle.probe.proofs.probe_when_read.Statement.{statement}
 use Rattle.probe.proofs.probe_when_read.Tie as tie
 
 abbrev start : tie.After-restore → tie.Start
-start c = c .before .before .before .before .before .before
+start c = c .before .before .before .before .before .before .before
 
 -- what is restored
 abbrev given : tie.After-restore → Reply
@@ -32,7 +32,7 @@ returns c =
     let after-carried-out = then-1 .before in
     let after-restore = after-carried-out .before in
     let a = start after-restore .args in
-    when-refused (a .image .now) (a .questions .now) (a .answers .now) _ (after-restore .restore .ensures) _ (after-carried-out .carried-out .ensures) _
+    when-refused (a .image .now) (a .questions .now) (a .answers .now) _ (after-restore .restore .ensures .0) _ (after-carried-out .carried-out .ensures) _
     (then-1 .if1 .taken) (c .number .ensures)
 
 rows-handed-requires : tie.Need-rows-handed-requires
@@ -48,8 +48,8 @@ in-arrays-requires : tie.Need-in-arrays-requires
 in-arrays-requires c κs =
     let after-handed-2 = c .before .before .before in
     let after-restore = after-handed-2 .before .before .before .before in
-    let after-known = after-restore .before .before .before .before .before in (
-      probed-valid _ (after-known .shared-slice-known .given) _ (after-restore .restore .ensures),
+    let after-known = after-restore .before .before .before .before .before .before in (
+      probed-valid _ (after-known .shared-slice-known .given) _ (after-restore .restore .ensures .0),
       omega (arith, after-handed-2 .before .rows-handed .ensures),
       omega (arith, after-handed-2 .rows-handed2 .ensures),
     )
@@ -75,7 +75,7 @@ returns-2 c =
     let after-restore = after-carried-out .before in
     let a = start after-restore .args in
     let few : after-handed-2 .rows-handed2 .result ≤ 1025 = omega (arith, after-handed-2 .rows-handed2 .ensures) in
-    when-made (a .image .now) (a .questions .now) (a .answers .now) (given after-restore) (after-restore .restore .ensures) _
+    when-made (a .image .now) (a .questions .now) (a .answers .now) (given after-restore) (after-restore .restore .ensures .0) _
     (after-carried-out .carried-out .ensures) _ _ _ _ (after-handed .rows-handed .ensures) (after-handed-2 .rows-handed2 .ensures)
     (after-made .questions-of .ensures) (take-alike (after-handed-2 .rows-handed2 .result) 1025 unanswered few) _ _ _ _ (else-1 .if1 .left)
     (after-call .in-arrays .ensures .0) (after-call .in-arrays .ensures .1) (after-put .put-numbers .ensures) (c .listing-number .ensures)

@@ -145,7 +145,7 @@ whole : (n : ℕ) (s : State) → Valid s → (w : ℕ) → Premises s w → Who
 unfolding hitPages hitSets turnsOf laidDown requests readsIn Serves fetchesIn
 whole zero s v w p = record { reads-laid = refl; serves = tt; cost = refl; requested = refl; furthest = over }
 whole (suc n) s v w p =
-    let d : TurnCase s (turnOf s) = turn-is s v (p .no-time) (none-in-fetch s v (p .none-open)) in
+    let d : TurnCase s (turnOf s) = turn-is s v (none-in-fetch s v (p .none-open)) (p .no-time) in
     let v′ : Valid (turnOf s .after) = turn-kept s v in
     step n s v w p (turnOf s) d v′ _ _ _ (whole n (turnOf s .after) v′ w (premises-kept s v w p (turnOf s) d))
 

@@ -1,5 +1,5 @@
--- What a turn of a run does under the premises of the third statement, by cases. Assumes nothing.
-use mathlib.Core.Path.{_≡_, refl, sym, ap, ap₂, _∙_, subst, fun-ext}
+-- What a turn of a run does where no page is in fetch, by cases; and under the premises of the third statement. Assumes nothing.
+use mathlib.Core.Path.{_≡_, refl, sym, ap, _∙_, subst, fun-ext}
 use mathlib.Core.Bool.{Bool, true, false, not, cond, _&&_, _||_}
 use mathlib.Core.List.{List, [], _∷_, map}
 use mathlib.Core.Option.{Option, none, some}
@@ -18,6 +18,7 @@ use Rattle.rules.specs.Valid.{Valid, Placed, ReaderIn, PageMap}
 use Rattle.rules.specs.Orders.{victim}
 use Rattle.rules.specs.Calls.{
   reply,
+  refused,
   without,
   withReaders,
   withCached,
@@ -104,23 +105,27 @@ woken-still Waiting r q h = let e = h tt in cc
 -- ---- Read, by cases
 
 -- the reader is at its last page
-abbrev atEnd : Reader → Bool
+abbrev pub atEnd : Reader → Bool
 atEnd r = eqb (r .position) (r .last)
 
 low-slot : (u : ℕ) → u < 16 → ltb 15 u ≡ false
 low-slot u h = less 15 u (λ b. b ≡ false) (λ l. absurd (omega arith)) (λ _. refl)
 
+read-none : (s : State) (u : ℕ) → u < 16 → readerAt s u .condition ≡ Empty → readOf s u ≡ refused s 6
+unfolding readOf
+read-none s u l e = rw (low-slot u l, e)
+
 read-end : (s : State) (u : ℕ) → u < 16 → readerAt s u .condition ≡ Running → atEnd (readerAt s u) ≡ true → readOf s u ≡ reply s End
 unfolding readOf readRunning
 read-end s u l e q = rw (low-slot u l, e, q)
 
-read-hit : (s : State) (u : ℕ) → u < 16 → readerAt s u .condition ≡ Running → atEnd (readerAt s u) ≡ false → cached s (nextKey (readerAt s u)) ≡ true
+pub read-hit : (s : State) (u : ℕ) → u < 16 → readerAt s u .condition ≡ Running → atEnd (readerAt s u) ≡ false → cached s (nextKey (readerAt s u)) ≡ true
     → readOf s u ≡ reply (withReader s u (onward (readerAt s u))) (Hit (readerAt s u .file) (readerAt s u .position + 1))
 unfolding readOf readRunning
 read-hit s u l e q c = rw (low-slot u l, e, q, c)
 
 -- the state while the page is in fetch
-abbrev awaiting : State → ℕ → State
+abbrev pub awaiting : State → ℕ → State
 awaiting s u = withFetch (withReader s u (inCondition Waiting (readerAt s u))) (nextKey (readerAt s u))
 
 read-fetch : (s : State) (u : ℕ) → u < 16 → readerAt s u .condition ≡ Running → atEnd (readerAt s u) ≡ false
@@ -138,7 +143,7 @@ turn-by s q a e = ap (λ b. cond b (readTurn s) (record { after = nextTurn s; fe
 
 -- ---- whether the turn's reader goes on
 
-goes-here : (r : Reader) → T (goes r) → T (attached r)
+pub goes-here : (r : Reader) → T (goes r) → T (attached r)
 unfolding goes
 goes-here r h = and-first (attached r) _ h
 
@@ -155,18 +160,18 @@ goes-not r a h = go (attached r) (atEnd r) a h
     go true false a h = absurd h
     go false b a h = absurd a
 
--- ---- a turn where no page is in fetch and fetches take no time
+-- ---- a turn where no page is in fetch
 
 -- a turn that leaves these readers and maps
-abbrev turned : State → List Reader → List ℕ → List ℕ → ℕ → List ℕ → Turn
+abbrev pub turned : State → List Reader → List ℕ → List ℕ → ℕ → List ℕ → Turn
 turned s readers held fs fetched hits = record { after = withFetching (withCached (withReaders (nextTurn s) readers) held) fs; fetched = fetched; hit = hits }
 
-module _ (s : State) (v : Valid s) (free : s .«fetch_time» ≡ 0) (closed : (k : ℕ) → T (inFetch s k) → ⊥) where
-  awake : (j : ℕ) → T (attached (readerAt s j)) → readerAt s j .condition ≡ Running
+module _ (s : State) (v : Valid s) (closed : (k : ℕ) → T (inFetch s k) → ⊥) where
+  pub awake : (j : ℕ) → T (attached (readerAt s j)) → readerAt s j .condition ≡ Running
   awake j = awake-in (readerAt s j .condition) s (readerAt s j) (v .readers-in j) closed
 
   -- no reader, or Z
-  idle-turn : T (not (goesNow s)) → turnOf s ≡ turned s (s .readers) (s .cached) (s .fetching) 0 []
+  pub idle-turn : T (not (goesNow s)) → turnOf s ≡ turned s (s .readers) (s .cached) (s .fetching) 0 []
   unfolding turnOf
   idle-turn off = by (side (attached (nowAt s)))
     where
@@ -192,15 +197,17 @@ module _ (s : State) (v : Valid s) (free : s .«fetch_time» ≡ 0) (closed : (k
     inside : nowAt s .position < nowAt s .last
     inside = let ne = eqb-false (nowAt s .position) (nowAt s .last) short in omega (arith, placed .position-in)
 
-    low : keyNow s < 8192
+    pub low : keyNow s < 8192
     low = next-page s v (nowAt s) placed inside .low
 
     -- H
+    pub hit-turn : T (cached s (keyNow s)) → turnOf s ≡ turned s (set (s .readers) (s .turn) (onward (nowAt s))) (s .cached) (s .fetching) 0 (keyNow s ∷ [])
+    hit-turn c =
+        turn-by s (reply (withReader s (s .turn) (onward (nowAt s))) (Hit (nowAt s .file) (nowAt s .position + 1))) here
+        (read-hit s (s .turn) (v .turn-high) (awake (s .turn) here) short (is-true (cached s (keyNow s)) c))
+
     hit-case : T (cached s (keyNow s)) → TurnCase s (turnOf s)
-    hit-case c = subst (TurnCase s)
-        (sym (turn-by s (reply (withReader s (s .turn) (onward (nowAt s))) (Hit (nowAt s .file) (nowAt s .position + 1))) here
-        (read-hit s (s .turn) (v .turn-high) (awake (s .turn) here) short (is-true (cached s (keyNow s)) c)) ∙ rw (is-true (goesNow s) on-goes)))
-        (turn-case refl (finds on-goes c refl))
+    hit-case c = subst (TurnCase s) (sym (hit-turn c ∙ rw (is-true (goesNow s) on-goes))) (turn-case refl (finds on-goes c refl))
 
     -- the readers after Arrive are those before the turn
     woken-all : (k : ℕ) → map (woken k) (s .readers) ≡ s .readers
@@ -216,36 +223,29 @@ module _ (s : State) (v : Valid s) (free : s .«fetch_time» ≡ 0) (closed : (k
         ∙ woken-all (keyNow s)
 
     -- the cached map after Arrive, by what is dropped
-    abbrev stored : Option ℕ → List ℕ
+    abbrev pub stored : Option ℕ → List ℕ
     stored o = putBit (onOption o (without (s .cached)) (s .cached)) (keyNow s) 1
 
     -- the fetch map after Arrive
-    abbrev emptied : List ℕ
+    abbrev pub emptied : List ℕ
     emptied = without (putBit (s .fetching) (keyNow s) 1) (keyNow s)
 
-    eased-map : PageMap (onOption (dropped s) (without (s .cached)) (s .cached))
-    eased-map =
-        option-all PageMap (dropped s) (without (s .cached)) (s .cached) (λ k _. map-put (s .cached) k 0 (omega arith) (v .cached-map))
+    eased-map : (o : Option ℕ) → PageMap (onOption o (without (s .cached)) (s .cached))
+    eased-map o =
+        option-all PageMap o (without (s .cached)) (s .cached) (λ k _. map-put (s .cached) k 0 (omega arith) (v .cached-map))
         (λ _. v .cached-map)
 
     -- a turn that meets F
     module _ (out : T (not (cached s (keyNow s)))) where
       -- the first Read puts the page in fetch
-      asked : readOf s (s .turn) ≡ reply (awaiting s (s .turn)) (Fetch (nowAt s .file) (nowAt s .position + 1))
+      pub asked : readOf s (s .turn) ≡ reply (awaiting s (s .turn)) (Fetch (nowAt s .file) (nowAt s .position + 1))
       asked =
           read-fetch s (s .turn) (v .turn-high) (awake (s .turn) here) short (is-false (cached s (keyNow s)) out)
           (is-false (inFetch s (keyNow s)) (not-T (inFetch s (keyNow s)) (closed (keyNow s))))
 
-      -- Arrive drops what would have been dropped before the turn
-      dropped-same : dropped (awaiting s (s .turn)) ≡ dropped s
-      unfolding dropped full victim cachedPages pages
-      dropped-same =
-          ap (λ l. cond (full s) (head l) none)
-          (steal-same s v (s .turn) (v .turn-high) here free (putBit (s .fetching) (keyNow s) 1) (rw asked at (read-kept s (s .turn) v)))
-
-      landed-at : landed (awaiting s (s .turn)) (keyNow s) ≡ withFetching (withCached s (stored (dropped s))) emptied
+      landed-at : landed (awaiting s (s .turn)) (keyNow s) ≡ withFetching (withCached s (stored (dropped (awaiting s (s .turn))))) emptied
       unfolding landed
-      landed-at = ap₂ (λ rs o. withFetching (withCached (withReaders s rs) (stored o)) emptied) woken-paused dropped-same
+      landed-at = ap (λ rs. withFetching (withCached (withReaders s rs) (stored (dropped (awaiting s (s .turn))))) emptied) woken-paused
 
       arrived : arriveOf (awaiting s (s .turn)) (nowAt s .file) (nowAt s .position + 1) .state ≡ landed (awaiting s (s .turn)) (keyNow s)
       unfolding arriveOf forFetch
@@ -258,17 +258,34 @@ module _ (s : State) (v : Valid s) (free : s .«fetch_time» ≡ 0) (closed : (k
           leq (nowAt s .position + 1) (size s (nowAt s .file)) (λ b. b ≡ true) (λ _. refl) (λ l. absurd (omega (arith, inside, placed .last-high))) in
           rw (a, b, c, d, is-true (on (putBit (s .fetching) (keyNow s) 1) (keyNow s)) (put-on (s .fetching) (v .fetching-map) (keyNow s) low))
 
+      -- the page is in the map that Arrive leaves
+      pub stored-there : (gone : Option ℕ) → T (on (stored gone) (keyNow s))
+      stored-there gone = put-on (onOption gone (without (s .cached)) (s .cached)) (eased-map gone) (keyNow s) low
+
+      -- so Read of the turn's slot, on these maps, is H
+      pub read-stored : (gone : Option ℕ) → readOf (withFetching (withCached s (stored gone)) emptied) (s .turn)
+          ≡ reply (withReader (withFetching (withCached s (stored gone)) emptied) (s .turn) (onward (nowAt s))) (Hit (nowAt s .file) (nowAt s .position + 1))
+      read-stored gone =
+          read-hit (withFetching (withCached s (stored gone)) emptied) (s .turn) (v .turn-high) (awake (s .turn) here) short
+          (is-true (on (stored gone) (keyNow s)) (stored-there gone))
+
       -- the second Read finds the page
-      fetch-turn : turnOf s ≡ turned s (set (s .readers) (s .turn) (onward (nowAt s))) (stored (dropped s)) emptied 1 (keyNow s ∷ [])
+      pub fetch-turn : turnOf s
+          ≡ turned s (set (s .readers) (s .turn) (onward (nowAt s))) (stored (dropped (awaiting s (s .turn)))) emptied 1 (keyNow s ∷ [])
       fetch-turn =
-          let there : cached (withFetching (withCached s (stored (dropped s))) emptied) (keyNow s) ≡ true =
-          is-true (on (stored (dropped s)) (keyNow s)) (put-on (onOption (dropped s) (without (s .cached)) (s .cached)) eased-map (keyNow s) low) in
           turn-by s _ here asked
           ∙ ap (λ t. ended 1 (readOf t (s .turn))) (arrived ∙ landed-at)
-          ∙ ap (ended 1) (read-hit (withFetching (withCached s (stored (dropped s))) emptied) (s .turn) (v .turn-high) (awake (s .turn) here) short there)
+          ∙ ap (ended 1) (read-stored (dropped (awaiting s (s .turn))))
+
+      -- where fetches take no time, Arrive drops what would have been dropped before the turn
+      dropped-same : s .«fetch_time» ≡ 0 → dropped (awaiting s (s .turn)) ≡ dropped s
+      unfolding dropped full victim cachedPages pages
+      dropped-same free =
+          ap (λ l. cond (full s) (head l) none)
+          (steal-same s v (s .turn) (v .turn-high) here free (putBit (s .fetching) (keyNow s) 1) (rw asked at (read-kept s (s .turn) v)))
 
       -- the pages in fetch are as before
-      emptied-same : on emptied ≡ inFetch s
+      pub emptied-same : on emptied ≡ inFetch s
       emptied-same =
           fun-ext (λ j. off-put (putBit (s .fetching) (keyNow s) 1) (map-put (s .fetching) (keyNow s) 1 (omega arith) (v .fetching-map)) (keyNow s) low j
           ∙ ap (λ b. not (eqb (keyNow s) j) && b) (on-put (s .fetching) (v .fetching-map) (keyNow s) low j)
@@ -294,17 +311,47 @@ module _ (s : State) (v : Valid s) (free : s .«fetch_time» ≡ 0) (closed : (k
       fetch-step none e = fill-step (omega (arith, dropped-none s v e, cached-count s (v .sizes-high) (v .cached-in)))
       fetch-step (some k) e = evict-step k e
 
-      fetch-case : TurnCase s (turnOf s)
-      fetch-case = subst (TurnCase s) (sym (fetch-turn ∙ rw (is-true (goesNow s) on-goes))) (turn-case emptied-same (fetch-step (dropped s) refl))
+      fetch-case : s .«fetch_time» ≡ 0 → TurnCase s (turnOf s)
+      fetch-case free =
+          subst (TurnCase s)
+          (sym (fetch-turn
+          ∙ ap (λ o. turned s (set (s .readers) (s .turn) (onward (nowAt s))) (stored o) emptied 1 (keyNow s ∷ [])) (dropped-same free)
+          ∙ rw (is-true (goesNow s) on-goes)))
+          (turn-case emptied-same (fetch-step (dropped s) refl))
 
-  by-goes : T (goesNow s) ⊎ T (not (goesNow s)) → TurnCase s (turnOf s)
-  by-goes (inl g) = by (side (cached s (keyNow s)))
+  -- Read of the turn's slot is refused, Z, H or F
+  pub read-by : (P : Reply → Type 0) → P (refused s 6) → P (reply s End)
+      → (T (goesNow s) → T (cached s (keyNow s)) → P (reply (withReader s (s .turn) (onward (nowAt s))) (Hit (nowAt s .file) (nowAt s .position + 1))))
+      → (T (goesNow s) → T (not (cached s (keyNow s))) → P (reply (awaiting s (s .turn)) (Fetch (nowAt s .file) (nowAt s .position + 1))))
+      → P (readOf s (s .turn))
+  read-by P empty end hit fetch = by-goes (side (goesNow s))
     where
-      by : T (cached s (keyNow s)) ⊎ T (not (cached s (keyNow s))) → TurnCase s (turnOf s)
-      by (inl c) = hit-case g c
-      by (inr c) = fetch-case g c
-  by-goes (inr g) = idle-case g
+      by-cached : (g : T (goesNow s)) → T (cached s (keyNow s)) ⊎ T (not (cached s (keyNow s))) → P (readOf s (s .turn))
+      by-cached g (inl c) =
+          subst P (sym (read-hit s (s .turn) (v .turn-high) (awake (s .turn) (here g)) (short g) (is-true (cached s (keyNow s)) c))) (hit g c)
+      by-cached g (inr c) = subst P (sym (asked g c)) (fetch g c)
 
-  -- every turn is one of these
-  pub turn-is : TurnCase s (turnOf s)
-  turn-is = by-goes (side (goesNow s))
+      by-condition : (c : Condition) → nowAt s .condition ≡ c → T (not (goesNow s)) → P (readOf s (s .turn))
+      by-condition Empty e off = subst P (sym (read-none s (s .turn) (v .turn-high) e)) empty
+      by-condition Running e off =
+          let a : T (attached (nowAt s)) = subst (λ c. T (byCondition c false true true)) (sym e) tt in
+          subst P (sym (read-end s (s .turn) (v .turn-high) e (goes-not (nowAt s) a off))) end
+      by-condition Waiting e off =
+          let a : T (attached (nowAt s)) = subst (λ c. T (byCondition c false true true)) (sym e) tt in
+          subst P (sym (read-end s (s .turn) (v .turn-high) (awake (s .turn) a) (goes-not (nowAt s) a off))) end
+
+      by-goes : T (goesNow s) ⊎ T (not (goesNow s)) → P (readOf s (s .turn))
+      by-goes (inl g) = by-cached g (side (cached s (keyNow s)))
+      by-goes (inr g) = by-condition (nowAt s .condition) refl g
+
+  -- where fetches take no time, every turn is one of these
+  pub turn-is : s .«fetch_time» ≡ 0 → TurnCase s (turnOf s)
+  turn-is free = by-goes (side (goesNow s))
+    where
+      by-cached : (g : T (goesNow s)) → T (cached s (keyNow s)) ⊎ T (not (cached s (keyNow s))) → TurnCase s (turnOf s)
+      by-cached g (inl c) = hit-case g c
+      by-cached g (inr c) = fetch-case g c free
+
+      by-goes : T (goesNow s) ⊎ T (not (goesNow s)) → TurnCase s (turnOf s)
+      by-goes (inl g) = by-cached g (side (cached s (keyNow s)))
+      by-goes (inr g) = idle-case g

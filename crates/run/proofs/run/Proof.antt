@@ -1,86 +1,87 @@
--- Invariant: state, fetches and reads are those of the first i turns. Measure: the turns that are left.
-use Prim.Native.Nat.{_-_, _≤_}
-use mathlib.Core.Path.{_≡_}
+-- 11 and 10 are refused; else the turns are made, and the readers put where the array has them.
+use mathlib.Core.Path.{_≡_, refl}
+use native.Mathlib.Omega.{arith}
 use borrow.Author.Needs.{needs}
-use Rattle.rules.specs.Views.{stateOf}
-use Rattle.rules.specs.Valid.{Valid}
-use Rattle.rules.specs.Run.{turnsOf}
-use Rattle.run.proofs.Rounds.{turn-valid, soFar, turns-none, turns-more, with-third, run-many, run-open, run-done}
+use Rattle.rules.proofs.calls.Valids.{placed-at}
+use Rattle.rules.proofs.calls.Kept.{turns-kept}
+use Rattle.run.proofs.Rounds.{with-third, run-many, run-open, run-done, none-open, sixteen-after}
 use Rattle.run.proofs.run.Statement.{statement}
 use Rattle.run.proofs.run.Tie as tie
 
-abbrev Inv-loop : tie.InvT-loop
-Inv-loop cached₀ fetching₀ turns w₀ fetches₀ reads₀ i₀ cached fetching w fetches reads i =
-    (i ≤ turns) × (fetches ≤ i) × (reads ≤ i) × Valid (stateOf w cached fetching)
-    × (soFar (stateOf w cached fetching) fetches reads ≡ turnsOf i (stateOf w₀ cached₀ fetching₀))
+-- no page is in fetch
+closed : (c : tie.Else2) → c .before .count .result ≡ 0
+closed c = omega (arith, c .if2 .left)
 
-abbrev μ-loop : tie.MeasureT-loop
-μ-loop cached₀ fetching₀ turns w₀ fetches₀ reads₀ i₀ cached fetching w fetches reads i = turns - i
-
-refuse-requires : tie.Need-refuse-requires Inv-loop μ-loop
+refuse-requires : tie.Need-refuse-requires
 refuse-requires c κs = search needs
 
-returns : tie.Need-returns Inv-loop μ-loop
-returns c = with-third _ _ _ (rw (c .refuse .ensures) (search (run-many, needs)))
+returns : tie.Need-returns
+returns c =
+    let at-start = c .before .before in
+    with-third _ _ _ _ _ (at-start .pre .1) (rw (c .refuse .ensures) (run-many _ _ _ (c .before .if1 .taken) refl))
 
-count-requires : tie.Need-count-requires Inv-loop μ-loop
+count-requires : tie.Need-count-requires
 count-requires c κs = search needs
 
-refuse-requires-2 : tie.Need-refuse-requires-2 Inv-loop μ-loop
+refuse-requires-2 : tie.Need-refuse-requires-2
 refuse-requires-2 c κs = search needs
 
-returns-2 : tie.Need-returns-2 Inv-loop μ-loop
-returns-2 c = with-third _ _ _ (rw (c .refuse2 .ensures) (search (run-open, needs)))
+returns-2 : tie.Need-returns-2
+returns-2 c =
+    let then-2 = c .before in
+    let after-count = then-2 .before in
+    let else-1 = after-count .before .before in
+    let at-start = else-1 .before in
+    with-third _ _ _ _ _ (at-start .pre .1)
+    (rw (c .refuse2 .ensures) (run-open _ (at-start .pre .0) _ (else-1 .if1 .left) _ (after-count .count .ensures) _ (then-2 .if2 .taken) refl))
 
-loop-holds : tie.Need-loop-holds Inv-loop μ-loop
-loop-holds c = search (turns-none, needs)
+seats-of-requires : tie.Need-seats-of-requires
+seats-of-requires c κs =
+    let else-2 = c .before in
+    let at-start = else-2 .before .before .before .before in
+    λ j h. placed-at _ (at-start .pre .0) j h .file-high
 
-turn-requires : tie.Need-turn-requires Inv-loop μ-loop
-turn-requires c κs = search needs
-
-add-fetches : tie.Need-add-fetches Inv-loop μ-loop
-add-fetches c = search needs
-
-add-reads : tie.Need-add-reads Inv-loop μ-loop
-add-reads c = search needs
-
-add-i : tie.Need-add-i Inv-loop μ-loop
-add-i c = search needs
-
-loop-less : tie.Need-loop-less Inv-loop μ-loop
-loop-less c = search needs
-
-loop-again : tie.Need-loop-again Inv-loop μ-loop
-loop-again c =
-    let after-turn = c .before .before .before in
-    let at-loop = after-turn .before .before .before .before in
-    let l = at-loop .loop in (
-      search needs,
-      search needs,
-      search needs,
-      turn-valid _ (l .inv .3) _ (after-turn .turn .ensures .0),
-      turns-more _ _ _ _ _ _ (l .inv .4) (after-turn .turn .ensures .0),
+go-on-requires : tie.Need-go-on-requires
+go-on-requires c κs =
+    let after-seats-of = c .before .before .before .before in
+    let else-2 = after-seats-of .before .before in
+    let after-count = else-2 .before in
+    let else-1 = after-count .before .before in
+    let at-start = else-1 .before in
+    let v = at-start .pre .0 in (
+      (v, none-open _ v _ (else-1 .if1 .left) _ (after-count .count .ensures) (closed else-2), after-seats-of .seats-of .ensures, else-1 .if1 .left),
+      at-start .pre .1,
     )
 
-returns-3 : tie.Need-returns-3 Inv-loop μ-loop
-returns-3 c = with-third _ _ _ (search (run-done, needs))
+readers-at-requires : tie.Need-readers-at-requires
+readers-at-requires c κs = search needs
+
+returns-3 : tie.Need-returns-3
+returns-3 c =
+    let after-go-on = c .before .before in
+    let after-seats-of = after-go-on .before .before .before .before .before in
+    let else-2 = after-seats-of .before .before in
+    let after-count = else-2 .before in
+    let else-1 = after-count .before .before in
+    let at-start = else-1 .before in
+    let v = at-start .pre .0 in
+    let went = after-go-on .go-on .ensures in
+    let after = went .0 .1 in
+    let kept = turns-kept (at-start .args .turns) _ v in
+    let e = c .readers-at .ensures _ (sixteen-after _ _ _ _ _ (after .1) kept) (after .0) in
+    with-third _ _ _ _ _ (went .1)
+    (run-done _ v _ (else-1 .if1 .left) _ (after-count .count .ensures) _ _ _ _ (closed else-2) (after .1) (rw e refl))
 
 pub run-spec : {M : Type 1} → statement M
 run-spec =
     tie.close
     (tie.spec
-    Inv-loop
-    μ-loop
     refuse-requires
     returns
     count-requires
     refuse-requires-2
     returns-2
-    loop-holds
-    turn-requires
-    add-fetches
-    add-reads
-    add-i
-    loop-less
-    loop-again
+    seats-of-requires
+    go-on-requires
+    readers-at-requires
     returns-3)

@@ -96,18 +96,14 @@ get-u16-requires c κs = search needs
 cast-if6 : tie.Need-cast-if6
 cast-if6 c = search needs
 
-count-requires : tie.Need-count-requires
-count-requires c κs = search needs
-
 returns-6 : tie.Need-returns-6
 returns-6 c =
-    let after-count = c .before in
-    let after-get-u16 = after-count .before in
+    let after-get-u16 = c .before in
     let else-3 = after-get-u16 .before .before .before .before .before .before in
     let after-eight-in = else-3 .before .before .before .before .before .before .before .before .before in
     let at-start = after-eight-in .before .before in
     verdict-is (at-start .args .image .now) _ _ _ (after-eight-in .eight-in .ensures) (at-start .pre .1) (at-start .pre .2) _
-    (search (and-later, and-stop, room-stop, after-count .count .ensures, after-get-u16 .get-u16 .ensures, c .if6 .taken) depth 9)
+    (search (and-later, and-stop, room-stop, at-start .pre .3, after-get-u16 .get-u16 .ensures, c .if6 .taken) depth 9)
 
 gaps-hold-requires : tie.Need-gaps-hold-requires
 gaps-hold-requires c κs = search needs
@@ -115,15 +111,14 @@ gaps-hold-requires c κs = search needs
 -- what the tests before the last two have shown
 passed-so : (c : tie.After-gaps-hold) →
     let else-6 = c .before in
-    let else-3 = else-6 .before .before .before .before .before .before .before .before in
+    let else-3 = else-6 .before .before .before .before .before .before .before in
     let after-eight-in = else-3 .before .before .before .before .before .before .before .before .before in
     let at-start = after-eight-in .before .before in
     (m t : Bool) → t ≡ (gapsHold (imageNumbers (at-start .args .image .now)) && m)
     → m ≡ every (markHolds (stateIn (at-start .args .image .now))) (range 0 16) → t ≡ accepts (imageNumbers (at-start .args .image .now))
 passed-so c m t e f =
     let else-6 = c .before in
-    let after-count = else-6 .before in
-    let after-get-u16 = after-count .before in
+    let after-get-u16 = else-6 .before in
     let else-5 = after-get-u16 .before in
     let after-files-hold = else-5 .before in
     let else-4 = after-files-hold .before .before in
@@ -143,7 +138,7 @@ passed-so c m t e f =
     (call-pass _ _ _ _ (after-slots-hold .slots-hold .ensures) (else-3 .if3 .left)
     (call-pass _ _ _ _ (after-is-apart .is-apart .ensures) (else-4 .if4 .left)
     (call-pass _ _ _ _ (after-files-hold .files-hold .ensures) (else-5 .if5 .left)
-    (and-pass _ _ _ (room-pass _ _ _ _ (after-count .count .ensures) (after-get-u16 .get-u16 .ensures) (else-6 .if6 .left)) (rw f at e)))))))
+    (and-pass _ _ _ (room-pass _ _ _ _ (at-start .pre .3) (after-get-u16 .get-u16 .ensures) (else-6 .if6 .left)) (rw f at e)))))))
 
 returns-7 : tie.Need-returns-7
 returns-7 c =
@@ -178,7 +173,6 @@ accepted-spec =
     returns-5
     get-u16-requires
     cast-if6
-    count-requires
     returns-6
     gaps-hold-requires
     returns-7

@@ -1,5 +1,6 @@
--- The idle state comes back, its maps cleared.
+-- The idle state comes back, its maps cleared, and the counts of its cached pages.
 use borrow.Author.Needs.{needs}
+use Rattle.image.proofs.Restores.{held-none}
 use Rattle.image.proofs.restoring.refuse.Statement.{statement}
 use Rattle.image.proofs.restoring.refuse.Tie as tie
 
@@ -14,9 +15,10 @@ idle-requires c κs = search needs
 
 returns : tie.Need-returns
 returns c =
-    let after-clear-all-2 = c .before in
+    let after-clear-all-2 = c .before .before in
     let after-clear-all = after-clear-all-2 .before .before in
-    rw (after-clear-all-2 .clear-all2 .ensures, after-clear-all .clear-all .ensures, c .idle .ensures)
+    let cleared = after-clear-all .clear-all .ensures in
+    (rw (after-clear-all-2 .clear-all2 .ensures, cleared, c .idle .ensures), rw cleared held-none)
 
 pub refuse-spec : {M : Type 1} → statement M
 refuse-spec = tie.close (tie.spec clear-all-requires clear-all-requires-2 idle-requires returns)

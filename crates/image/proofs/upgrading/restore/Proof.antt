@@ -7,7 +7,7 @@ use Rattle.image.proofs.upgrading.restore.Tie as tie
 
 restore-older-requires : tie.Need-restore-older-requires
 restore-older-requires c κs =
-    let then-1 = c .before .before in
+    let then-1 = c .before .before .before in
     inl (then-1 .if1 .taken)
 
 returns : tie.Need-returns
@@ -15,7 +15,7 @@ returns c = search needs
 
 restore-older-requires-2 : tie.Need-restore-older-requires-2
 restore-older-requires-2 c κs =
-    let then-2 = c .before .before in
+    let then-2 = c .before .before .before in
     inr (then-2 .if2 .taken)
 
 returns-2 : tie.Need-returns-2
@@ -25,7 +25,7 @@ restore-whole-requires : tie.Need-restore-whole-requires
 restore-whole-requires c κs = search needs
 
 returns-3 : tie.Need-returns-3
-returns-3 c = search (restore-other, needs)
+returns-3 c = (search (restore-other, needs), search needs)
 
 pub restore-spec : {M : Type 1} → statement M
 restore-spec =

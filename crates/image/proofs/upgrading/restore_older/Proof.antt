@@ -17,7 +17,7 @@ restore-whole-requires : tie.Need-restore-whole-requires
 restore-whole-requires c κs = search needs
 
 returns : tie.Need-returns
-returns c = search (restore-older, needs)
+returns c = (search (restore-older, needs), search needs)
 
 pub restore-older-spec : {M : Type 1} → statement M
 restore-older-spec =

@@ -26,7 +26,10 @@ array-read-obey-two-2 : tie.Need-array-read-obey-two-2
 array-read-obey-two-2 c = search needs
 
 obey-two-requires : tie.Need-obey-two-requires
-obey-two-requires c κs = search needs
+obey-two-requires c κs =
+    let at-match-keys-3 = c .before .before in
+    let at-start = at-match-keys-3 .before .before .before in
+    (at-start .pre .0 .0 .0 .sizes-high _, rw (at-match-keys-3 .match .keys3) at (at-start .pre .1 .1), at-start .pre .0 .1)
 
 array-read-obey-five : tie.Need-array-read-obey-five
 array-read-obey-five c = search needs
@@ -58,8 +61,9 @@ same-length c = search needs
 returns : tie.Need-returns
 returns c =
     let after-obey-alone = c .before .before in
-    let at-match-keys-1 = after-obey-alone .before .before .before .before in
-    rw (at-match-keys-1 .match .keys1) (after-obey-alone .obey-alone .ensures)
+    let at-match-keys-1 = after-obey-alone .before .before .before .before .before in
+    let said = after-obey-alone .obey-alone .ensures in
+    (rw (at-match-keys-1 .match .keys1) (said .0), said .1)
 
 same-length-2 : tie.Need-same-length-2
 same-length-2 c = search needs
@@ -67,10 +71,10 @@ same-length-2 c = search needs
 returns-2 : tie.Need-returns-2
 returns-2 c =
     let after-obey-one = c .before .before in
-    let at-match-keys-2 = after-obey-one .before .before .before .before in
+    let at-match-keys-2 = after-obey-one .before .before .before .before .before in
     let at-start = at-match-keys-2 .before .before .before in
-    let x = at-start .args .c .fields in
-    rw (at-match-keys-2 .match .keys2, ← field-first x (eleven at-start)) (after-obey-one .obey-one .ensures)
+    let said = after-obey-one .obey-one .ensures in
+    (rw (at-match-keys-2 .match .keys2, ← field-first (at-start .args .c .fields) (eleven at-start)) (said .0), said .1)
 
 same-length-3 : tie.Need-same-length-3
 same-length-3 c = search needs
@@ -78,10 +82,11 @@ same-length-3 c = search needs
 returns-3 : tie.Need-returns-3
 returns-3 c =
     let after-obey-two = c .before .before in
-    let at-match-keys-3 = after-obey-two .before .before .before .before in
-    let at-start = at-match-keys-3 .before .before .before in
-    let x = at-start .args .c .fields in
-    rw (at-match-keys-3 .match .keys3, ← fields-two x (eleven at-start)) (after-obey-two .obey-two .ensures)
+    let at-match-keys-3 = after-obey-two .before .before .before in
+    let at-start = at-match-keys-3 .before .before .before in (
+      rw (at-match-keys-3 .match .keys3, ← fields-two (at-start .args .c .fields) (eleven at-start)) (after-obey-two .obey-two .ensures _),
+      at-start .pre .0 .0 .1,
+    )
 
 same-length-4 : tie.Need-same-length-4
 same-length-4 c = search needs
@@ -90,9 +95,10 @@ returns-4 : tie.Need-returns-4
 returns-4 c =
     let after-obey-five = c .before .before in
     let at-match-keys-4 = after-obey-five .before .before in
-    let at-start = at-match-keys-4 .before .before .before in
-    let x = at-start .args .c .fields in
-    rw (at-match-keys-4 .match .keys4, ← fields-five x (eleven at-start)) (after-obey-five .obey-five .ensures _ _)
+    let at-start = at-match-keys-4 .before .before .before in (
+      rw (at-match-keys-4 .match .keys4, ← fields-five (at-start .args .c .fields) (eleven at-start)) (after-obey-five .obey-five .ensures _ _),
+      at-start .pre .0 .0 .1,
+    )
 
 same-length-5 : tie.Need-same-length-5
 same-length-5 c = search needs
@@ -100,10 +106,10 @@ same-length-5 c = search needs
 returns-5 : tie.Need-returns-5
 returns-5 c =
     let after-obey-eleven = c .before .before in
-    let at-match-keys-5 = after-obey-eleven .before .before .before .before in
+    let at-match-keys-5 = after-obey-eleven .before .before .before .before .before in
     let at-start = at-match-keys-5 .before .before .before in
-    let x = at-start .args .c .fields in
-    rw (at-match-keys-5 .match .keys5, ← fields-all x (eleven at-start)) (after-obey-eleven .obey-eleven .ensures)
+    let said = after-obey-eleven .obey-eleven .ensures in
+    (rw (at-match-keys-5 .match .keys5, ← fields-all (at-start .args .c .fields) (eleven at-start)) (said .0), said .1)
 
 same-length-6 : tie.Need-same-length-6
 same-length-6 c = search needs
@@ -113,10 +119,12 @@ returns-6 c =
     let after-refuse = c .before .before in
     let at-match-rest = after-refuse .before .before in
     let at-start = at-match-rest .before .before .before in
-    let other = at-match-rest .match .rest in
-    rw (other-count _ _ (at-start .args .c .fields) (at-start .args .c .count) (eleven at-start) (at-start .pre .1 .0)
-    (other .0 .0 .0 .0 .1) (other .0 .0 .0 .1) (other .0 .0 .1) (other .0 .1) (other .1))
-    (after-refuse .refuse .ensures _ _)
+    let other = at-match-rest .match .rest in (
+      rw (other-count _ _ (at-start .args .c .fields) (at-start .args .c .count) (eleven at-start) (at-start .pre .1 .0)
+          (other .0 .0 .0 .0 .1) (other .0 .0 .0 .1) (other .0 .0 .1) (other .0 .1) (other .1))
+          (after-refuse .refuse .ensures _ _),
+      at-start .pre .0 .0 .1,
+    )
 
 pub obey-spec : {M : Type 1} → statement M
 obey-spec =

@@ -36,7 +36,10 @@ returns c =
     let after-answer = c .before .before in
     let after-prefetch = after-answer .before .before in
     let at-match-keys-1 = after-prefetch .before .before .before in
-    rw (at-match-keys-1 .match .keys1) (gives-told _ _ _ _ _ (after-prefetch .prefetch .ensures) (after-answer .answer .ensures _ _))
+    let at-start = at-match-keys-1 .before .before in (
+      rw (at-match-keys-1 .match .keys1) (gives-told _ _ _ _ _ (after-prefetch .prefetch .ensures) (after-answer .answer .ensures _ _)),
+      at-start .pre .0 .1,
+    )
 
 same-length-2 : tie.Need-same-length-2
 same-length-2 c = search needs
@@ -46,8 +49,10 @@ unfolding obeyed
 returns-2 c =
     let after-answer-2 = c .before .before in
     let after-steal = after-answer-2 .before .before in
-    let at-match-keys-2 = after-steal .before .before .before in
-    rw (at-match-keys-2 .match .keys2) (gives-told _ _ _ _ _ (after-steal .steal .ensures) (after-answer-2 .answer2 .ensures _ _))
+    let at-match-keys-2 = after-steal .before .before .before .before in (
+      rw (at-match-keys-2 .match .keys2) (gives-told _ _ _ _ _ (after-steal .steal .ensures .0) (after-answer-2 .answer2 .ensures _ _)),
+      after-steal .steal .ensures .1,
+    )
 
 same-length-3 : tie.Need-same-length-3
 same-length-3 c = search needs
@@ -57,8 +62,9 @@ unfolding obeyed
 returns-3 c =
     let after-show-order = c .before .before in
     let at-match-keys-3 = after-show-order .before .before .before .before in
+    let at-start = at-match-keys-3 .before .before in
     let e = at-match-keys-3 .match .keys3 in
-    rw e (rw e at (after-show-order .show-order .ensures))
+    (rw e (rw e at (after-show-order .show-order .ensures)), at-start .pre .0 .1)
 
 same-length-4 : tie.Need-same-length-4
 same-length-4 c = search needs
@@ -68,8 +74,9 @@ unfolding obeyed
 returns-4 c =
     let after-show-order-2 = c .before .before in
     let at-match-keys-4 = after-show-order-2 .before .before .before .before in
+    let at-start = at-match-keys-4 .before .before in
     let e = at-match-keys-4 .match .keys4 in
-    rw e (rw e at (after-show-order-2 .show-order2 .ensures))
+    (rw e (rw e at (after-show-order-2 .show-order2 .ensures)), at-start .pre .0 .1)
 
 same-length-5 : tie.Need-same-length-5
 same-length-5 c = search needs
@@ -78,8 +85,11 @@ returns-5 : tie.Need-returns-5
 returns-5 c =
     let after-refuse = c .before .before in
     let at-match-rest = after-refuse .before .before in
-    let other = at-match-rest .match .rest in
-    rw (other-alone _ _ (other .0 .0 .0 .1) (other .0 .0 .1) (other .0 .1) (other .1)) (after-refuse .refuse .ensures _ _)
+    let at-start = at-match-rest .before .before in
+    let other = at-match-rest .match .rest in (
+      rw (other-alone _ _ (other .0 .0 .0 .1) (other .0 .0 .1) (other .0 .1) (other .1)) (after-refuse .refuse .ensures _ _),
+      at-start .pre .0 .1,
+    )
 
 pub obey-alone-spec : {M : Type 1} → statement M
 obey-alone-spec =

@@ -8,7 +8,7 @@ use Rattle.lines.proofs.dispatch.obey_eleven.Statement.{statement}
 use Rattle.lines.proofs.dispatch.obey_eleven.Tie as tie
 
 -- the fields are eleven
-eleven : (s : tie.Start) → length (s .args .t5) ≡ 11
+eleven : (s : tie.Start) → length (s .args .t6) ≡ 11
 eleven s = search needs
 
 refuse-requires : tie.Need-refuse-requires
@@ -21,26 +21,28 @@ returns : tie.Need-returns
 returns c =
     let after-refuse = c .before .before in
     let then-1 = after-refuse .before .before in
-    let at-start = then-1 .before .before in
-    rw (other-eleven _ _ (at-start .args .t5) (eleven at-start) (then-1 .if1 .taken)) (after-refuse .refuse .ensures _ _)
+    let at-start = then-1 .before .before in (
+      rw (other-eleven _ _ (at-start .args .t6) (eleven at-start) (then-1 .if1 .taken)) (after-refuse .refuse .ensures _ _),
+      at-start .pre .0,
+    )
 
 array-read-setup : tie.Need-array-read-setup
 array-read-setup c = search needs
 
-array-read-t18 : tie.Need-array-read-t18
-array-read-t18 c = search needs
+array-read-t19 : tie.Need-array-read-t19
+array-read-t19 c = search needs
 
-array-read-t21 : tie.Need-array-read-t21
-array-read-t21 c = search needs
+array-read-t22 : tie.Need-array-read-t22
+array-read-t22 c = search needs
 
-array-read-t24 : tie.Need-array-read-t24
-array-read-t24 c = search needs
+array-read-t25 : tie.Need-array-read-t25
+array-read-t25 c = search needs
 
-array-read-t27 : tie.Need-array-read-t27
-array-read-t27 c = search needs
+array-read-t28 : tie.Need-array-read-t28
+array-read-t28 c = search needs
 
-array-read-t30 : tie.Need-array-read-t30
-array-read-t30 c = search needs
+array-read-t31 : tie.Need-array-read-t31
+array-read-t31 c = search needs
 
 array-read-setup-2 : tie.Need-array-read-setup-2
 array-read-setup-2 c = search needs
@@ -69,11 +71,15 @@ same-length-2 c = search needs
 returns-2 : tie.Need-returns-2
 returns-2 c =
     let after-say-setup = c .before .before in
-    let after-setup = after-say-setup .before .before .before .before in
+    let after-setup = after-say-setup .before .before .before .before .before in
     let else-1 = after-setup .before in
     let at-start = else-1 .before .before in
-    rw (else-1 .if1 .left, letter-setup _ (at-start .args .t5) (eleven at-start), ← fields-sizes (at-start .args .t5) (eleven at-start))
-    (gives-setup _ _ _ _ _ _ (after-setup .setup .ensures) (after-say-setup .say-setup .ensures))
+    let said = after-say-setup .say-setup .ensures in
+    let x = at-start .args .t6 in (
+      rw (else-1 .if1 .left, letter-setup _ x (eleven at-start), ← fields-sizes x (eleven at-start))
+          (gives-setup _ _ _ _ _ _ (after-setup .setup .ensures) (said .0)),
+      said .1,
+    )
 
 pub obey-eleven-spec : {M : Type 1} → statement M
 obey-eleven-spec =
@@ -83,11 +89,11 @@ obey-eleven-spec =
     same-length
     returns
     array-read-setup
-    array-read-t18
-    array-read-t21
-    array-read-t24
-    array-read-t27
-    array-read-t30
+    array-read-t19
+    array-read-t22
+    array-read-t25
+    array-read-t28
+    array-read-t31
     array-read-setup-2
     array-read-setup-3
     array-read-setup-4

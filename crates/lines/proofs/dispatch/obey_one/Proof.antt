@@ -39,7 +39,10 @@ returns c =
     let after-say = c .before .before in
     let after-detach = after-say .before .before in
     let at-match-keys-1 = after-detach .before in
-    rw (at-match-keys-1 .match .keys1) (gives-told _ _ _ _ _ (after-detach .detach .ensures .0 _ _) (after-say .say .ensures _ _))
+    let at-start = at-match-keys-1 .before .before in (
+      rw (at-match-keys-1 .match .keys1) (gives-told _ _ _ _ _ (after-detach .detach .ensures .0 _ _) (after-say .say .ensures _ _)),
+      at-start .pre .0 .1,
+    )
 
 same-length-2 : tie.Need-same-length-2
 same-length-2 c = search needs
@@ -50,7 +53,10 @@ returns-2 c =
     let after-say-2 = c .before .before in
     let after-read = after-say-2 .before .before in
     let at-match-keys-2 = after-read .before .before .before in
-    rw (at-match-keys-2 .match .keys2) (gives-told _ _ _ _ _ (after-read .read .ensures .0) (after-say-2 .say2 .ensures _ _))
+    let at-start = at-match-keys-2 .before .before in (
+      rw (at-match-keys-2 .match .keys2) (gives-told _ _ _ _ _ (after-read .read .ensures .0) (after-say-2 .say2 .ensures _ _)),
+      at-start .pre .0 .1,
+    )
 
 same-length-3 : tie.Need-same-length-3
 same-length-3 c = search needs
@@ -60,8 +66,10 @@ unfolding obeyed
 returns-3 c =
     let after-say-3 = c .before .before in
     let after-run = after-say-3 .before .before in
-    let at-match-keys-3 = after-run .before .before .before in
-    rw (at-match-keys-3 .match .keys3) (gives-told _ _ _ _ _ (after-run .run .ensures .0) (after-say-3 .say3 .ensures _ _))
+    let at-match-keys-3 = after-run .before .before .before .before in (
+      rw (at-match-keys-3 .match .keys3) (gives-told _ _ _ _ _ (after-run .run .ensures .0) (after-say-3 .say3 .ensures _ _)),
+      after-run .run .ensures .1 .1,
+    )
 
 same-length-4 : tie.Need-same-length-4
 same-length-4 c = search needs
@@ -71,7 +79,8 @@ unfolding obeyed
 returns-4 c =
     let after-show-clusters = c .before .before in
     let at-match-keys-4 = after-show-clusters .before .before .before .before in
-    rw (at-match-keys-4 .match .keys4) (after-show-clusters .show-clusters .ensures)
+    let at-start = at-match-keys-4 .before .before in
+    (rw (at-match-keys-4 .match .keys4) (after-show-clusters .show-clusters .ensures), at-start .pre .0 .1)
 
 same-length-5 : tie.Need-same-length-5
 same-length-5 c = search needs
@@ -80,8 +89,11 @@ returns-5 : tie.Need-returns-5
 returns-5 c =
     let after-refuse = c .before .before in
     let at-match-rest = after-refuse .before .before in
-    let other = at-match-rest .match .rest in
-    rw (other-one _ _ _ (other .0 .0 .0 .1) (other .0 .0 .1) (other .0 .1) (other .1)) (after-refuse .refuse .ensures _ _)
+    let at-start = at-match-rest .before .before in
+    let other = at-match-rest .match .rest in (
+      rw (other-one _ _ _ (other .0 .0 .0 .1) (other .0 .0 .1) (other .0 .1) (other .1)) (after-refuse .refuse .ensures _ _),
+      at-start .pre .0 .1,
+    )
 
 pub obey-one-spec : {M : Type 1} → statement M
 obey-one-spec =

@@ -1,0 +1,170 @@
+-- Invariant: the view at its slot, with the readers at the array's positions, is the state after the first i turns, and so are fetches and reads; no page is
+-- in fetch. Measure: the turns that are left.
+use Prim.Native.Nat.{_-_, _≤_, _<_}
+use mathlib.Core.Path.{_≡_, refl, sym, ap, _∙_}
+use mathlib.Core.List.{List}
+use native.Mathlib.Omega.{arith}
+use borrow.Author.Needs.{needs}
+use Rattle.rules.specs.Valid.{Valid}
+use Rattle.rules.specs.Views.{stateOf}
+use Rattle.rules.specs.Run.{turnsOf}
+use Rattle.rules.specs.declared.Reader.{Reader}
+use Rattle.parts.specs.Held.{Held}
+use Rattle.order.specs.Searches.{termsOf}
+use Rattle.run.specs.Places.{reseated, Posed, Quiet, Turning}
+use Rattle.run.specs.Tallies.{soFar}
+use Rattle.run.proofs.Seatings.{posed-first, posed-made}
+use Rattle.run.proofs.Rounds.{turns-none, turns-more, turn-valid}
+use Rattle.run.proofs.go_on.Statement.{statement}
+use Rattle.run.proofs.go_on.Tie as tie
+
+abbrev Inv-loop : tie.InvT-loop
+Inv-loop seats₀ cached₀ fetching₀ held₀ turns v weights slot₀ fetches₀ reads₀ i₀ seats cached fetching held slot fetches reads i =
+    (i ≤ turns) × (fetches ≤ i) × (reads ≤ i) × (slot < 16) × Held cached held × Quiet fetching
+    × ((after : List Reader) × (Posed (v .readers) seats after × (Valid (stateOf (reseated v slot after) cached fetching)
+    × (soFar (stateOf (reseated v slot after) cached fetching) fetches reads ≡ turnsOf i (stateOf v cached₀ fetching₀)))))
+
+abbrev μ-loop : tie.MeasureT-loop
+μ-loop seats₀ cached₀ fetching₀ held₀ turns v weights slot₀ fetches₀ reads₀ i₀ seats cached fetching held slot fetches reads i = turns - i
+
+-- a turn as its code reads the view
+turning : (c : tie.After-at-position Inv-loop μ-loop) →
+    let at-loop = c .before .before .before .before in
+    let after-weights-of = at-loop .before in
+    let v = after-weights-of .before .args .t1 in
+    let l = at-loop .loop in
+    Turning (termsOf v (l .slot)) (v .sizes)
+    (after-weights-of .weights-of .result) (l .seats) (l .cached) (l .fetching) (c .at-position .result) (reseated v (l .slot) (l .inv .6 .0))
+turning c =
+    let at-loop = c .before .before .before .before in
+    let after-weights-of = at-loop .before in
+    let l = at-loop .loop in
+    let i = l .inv .6 .1 in
+    let ws = after-weights-of .weights-of .ensures in
+    record {
+      choosing = record {
+        sighted = record { valid = i .1 .0; seated = i .0 .seated };
+        sizes-are = refl;
+        weights-are = record { none = ws .none; sum = ws .sum; each = ws .each };
+      };
+      quiet = l .inv .5;
+      reader-is = c .at-position .ensures ∙ sym (i .0 .moved (l .slot) (l .inv .3));
+    }
+
+weights-of-requires : tie.Need-weights-of-requires Inv-loop μ-loop
+weights-of-requires c κs = search needs
+
+loop-holds : tie.Need-loop-holds Inv-loop μ-loop
+loop-holds c =
+    let at-start = c .before in
+    let pre = at-start .pre .0 in (
+      omega arith,
+      omega arith,
+      omega arith,
+      pre .0 .turn-high,
+      at-start .pre .1,
+      pre .1,
+      (at-start .args .t1 .readers, (posed-first _ _ (pre .2), (pre .0, turns-none _))),
+    )
+
+cast-at-position : tie.Need-cast-at-position Inv-loop μ-loop
+cast-at-position c = search needs
+
+mul-at-position : tie.Need-mul-at-position Inv-loop μ-loop
+mul-at-position c = search needs
+
+element-copy-out-at-position : tie.Need-element-copy-out-at-position Inv-loop μ-loop
+element-copy-out-at-position c = search needs
+
+cast-at-position-2 : tie.Need-cast-at-position-2 Inv-loop μ-loop
+cast-at-position-2 c = search needs
+
+mul-at-position-2 : tie.Need-mul-at-position-2 Inv-loop μ-loop
+mul-at-position-2 c = search needs
+
+element-copy-out-at-position-2 : tie.Need-element-copy-out-at-position-2 Inv-loop μ-loop
+element-copy-out-at-position-2 c = search needs
+
+at-position-requires : tie.Need-at-position-requires Inv-loop μ-loop
+at-position-requires c κs = search needs
+
+turn-requires : tie.Need-turn-requires Inv-loop μ-loop
+turn-requires c κs =
+    let after-at-position = c .before .before .before .before .before .before .before in
+    let at-loop = after-at-position .before .before .before .before in
+    ((_, turning after-at-position), at-loop .loop .inv .4)
+
+add-fetches : tie.Need-add-fetches Inv-loop μ-loop
+add-fetches c = search needs
+
+add-reads : tie.Need-add-reads Inv-loop μ-loop
+add-reads c = search needs
+
+add-slot : tie.Need-add-slot Inv-loop μ-loop
+add-slot c = search needs
+
+add-i : tie.Need-add-i Inv-loop μ-loop
+add-i c = search needs
+
+loop-less : tie.Need-loop-less Inv-loop μ-loop
+loop-less c = search needs
+
+loop-again : tie.Need-loop-again Inv-loop μ-loop
+loop-again c =
+    let after-turn = c .before .before in
+    let after-at-position = after-turn .before .before .before .before .before .before .before .before in
+    let in-loop = after-at-position .before .before .before in
+    let at-loop = in-loop .before in
+    let l = at-loop .loop in
+    let i = l .inv .6 .1 in
+    let done = after-turn .turn .ensures in
+    let made = done .0 _ (turning after-at-position) in
+    let once = done .1 .0 in (
+      omega (arith, in-loop .loop-test .taken),
+      omega (arith, l .inv .1, once .0),
+      omega (arith, l .inv .2, once .1),
+      omega (arith, l .inv .3),
+      done .1 .1,
+      made .1 .still,
+      (
+        _,
+        (
+          posed-made _ _ _ _ (l .slot) _ _ (l .inv .3) (i .1 .0 .sixteen) (i .0) (turning after-at-position .reader-is) (made .1 .placed),
+          (turn-valid _ (i .1 .0) _ (made .1 .told), turns-more _ _ _ _ _ _ (i .1 .1) (made .1 .told)),
+        ),
+      ),
+    )
+
+returns : tie.Need-returns Inv-loop μ-loop
+returns c =
+    let at-loop = c .before in
+    let l = at-loop .loop in
+    let i = l .inv .6 .1 in
+    let at-start = at-loop .before .before in
+    let a = at-start .args in
+    let e : l .i ≡ a .turns = omega (arith, l .inv .0, c .loop-test .left) in
+    ((_, (i .0, i .1 .1 ∙ ap (λ n. turnsOf n (stateOf (a .t1) (a .cached .now) (a .fetching .now))) e)), l .inv .4)
+
+pub go-on-spec : {M : Type 1} → statement M
+go-on-spec =
+    tie.close
+    (tie.spec
+    Inv-loop
+    μ-loop
+    weights-of-requires
+    loop-holds
+    cast-at-position
+    mul-at-position
+    element-copy-out-at-position
+    cast-at-position-2
+    mul-at-position-2
+    element-copy-out-at-position-2
+    at-position-requires
+    turn-requires
+    add-fetches
+    add-reads
+    add-slot
+    add-i
+    loop-less
+    loop-again
+    returns)

@@ -1,0 +1,54 @@
+-- A Run as its loop holds it: the view that it began with, the turn, and the readers' positions in one array. Assumes nothing: these are definitions.
+use Prim.Native.Nat.{ℕ, _<_}
+use mathlib.Core.Path.{_≡_}
+use mathlib.Core.List.{List}
+use lib.Dec.{T}
+use lib.ListN.{getD}
+use Rattle.bits.specs.Map.{on}
+use Rattle.rules.specs.Readers.{readerIn}
+use Rattle.rules.specs.declared.Reader.{Reader}
+use Rattle.rules.specs.declared.View.{View}
+use Rattle.order.specs.declared.Terms.{Terms}
+use Rattle.order.specs.Seats.{Seated}
+use Rattle.order.specs.Leads.{Weights}
+use Rattle.order.specs.Searches.{under, Sighted}
+
+-- a record at another position
+abbrev pub movedTo : ℕ → Reader → Reader
+movedTo position r = record { condition = r .condition; file = r .file; pace = r .pace; position = position; last = r .last }
+
+-- the view at another turn, with other readers
+abbrev pub reseated : View → ℕ → List Reader → View
+reseated v turn readers = record {
+  marks = v .marks;
+  expected = v .expected;
+  attaches = v .attaches;
+  frames = v .frames;
+  turn = turn;
+  rule = v .rule;
+  «look_ahead» = v .«look_ahead»;
+  «fetch_time» = v .«fetch_time»;
+  sizes = v .sizes;
+  readers = readers;
+}
+
+-- the readers are these, each at the position that the array has for its slot
+pub record Posed (readers : List Reader) (seats : List ℕ) (now : List Reader) : Type 0 where
+  pub moved : (j : ℕ) → j < 16 → readerIn now j ≡ movedTo (getD seats j 0) (readerIn readers j)
+  pub seated : Seated now 16 seats
+
+-- no page is in fetch
+abbrev pub Quiet : List ℕ → Type 0
+Quiet fetching = (k : ℕ) → T (on fetching k) → ⊥
+
+-- what the choice of a page to drop reads of a view under these terms
+pub record Choosing (t : Terms) (sizes weights seats cached fetching : List ℕ) (w : View) : Type 0 where
+  pub sighted : Sighted t seats cached fetching w
+  pub sizes-are : sizes ≡ w .sizes
+  pub weights-are : Weights (under t w) weights
+
+-- what a turn reads of it: the turn's slot has this record, and no page is in fetch
+pub record Turning (t : Terms) (sizes weights seats cached fetching : List ℕ) (r : Reader) (w : View) : Type 0 where
+  pub choosing : Choosing t sizes weights seats cached fetching w
+  pub quiet : Quiet fetching
+  pub reader-is : r ≡ readerIn (w .readers) (t .turn)
