@@ -8,6 +8,7 @@
 //! * [`model`]: the paper's rules in sets of pages and sorted lists. Clarity
 //!   first; this is what everything else is held to.
 //! * [`quick`]: the same rules on flat arrays, the yardstick of the benchmarks.
+//! * [`swift`]: the C boundary once more, tuned, the second yardstick.
 //! * `ffi` (feature `box`): the box itself, through its C entries, its header, and
 //!   by themselves Setup, Restore, Save, the two lists and when pages will be read.
 //! * [`process`]: the program `quay` itself, as a process that gets a [`feed`].
@@ -35,4 +36,5 @@ pub mod process;
 pub mod quick;
 pub mod random;
 pub mod scene;
+pub mod swift;
 pub mod trial;

@@ -1,11 +1,11 @@
-//! The third statement by brute force, for the model's own Run and for quick's.
+//! The third statement by brute force, for the model's own Run, for quick's and for swift's.
 
 use checker::call::Call;
 use checker::model::{Answer, Page, Reader, Rule, State};
 use checker::random::Dice;
 use checker::trial::fewest::{by_any_schedule, fewest};
 use checker::trial::Report;
-use checker::{model, quick};
+use checker::{model, quick, swift};
 
 fn by_model(image: &mut [u8], call: Call) -> u64 {
     let (number, after) = model::entry(image, call);
@@ -15,7 +15,7 @@ fn by_model(image: &mut [u8], call: Call) -> u64 {
 
 #[test]
 fn no_schedule_has_fewer_fetches() {
-    for entry in [by_model, quick::entry] {
+    for entry in [by_model, quick::entry, swift::entry] {
         let mut report = Report::default();
         let with_evictions = fewest(&mut report, entry, &mut Dice::new(7), 500);
         println!("{with_evictions} of 500 instances had evictions");
@@ -42,7 +42,9 @@ fn under_1993_a_run_may_fetch_more() {
         state.rule = rule;
         let ran = Ok(Answer::Ran { fetches, reads: 2 });
         assert_eq!(state.clone().run(32), ran);
-        let number = quick::entry(&mut state.image(), Call::Run { turns: 32 });
-        assert_eq!(number, Answer::Ran { fetches, reads: 2 }.number());
+        for entry in [quick::entry, swift::entry] {
+            let number = entry(&mut state.image(), Call::Run { turns: 32 });
+            assert_eq!(number, Answer::Ran { fetches, reads: 2 }.number());
+        }
     }
 }

@@ -1,12 +1,12 @@
 //! First images and Setup: what the trials take for right, and all that they must meet.
 
-use checker::call::Settings;
+use checker::call::{Entry, Settings};
 use checker::limits::IMAGE_BYTES;
 use checker::model::{first_image, probe_setup, Rule, State};
-use checker::quick;
 use checker::random::Dice;
 use checker::trial::first::{first_images, first_images_by_rule, setups, FIRST_OUTCOMES};
 use checker::trial::{weights, Report};
+use checker::{quick, swift};
 
 fn by_model(buffer: &mut [u8], settings: &Settings) -> u64 {
     let (number, bytes) = first_image(buffer, settings);
@@ -23,8 +23,10 @@ fn setup_by_model(numbers: &[u64], buffer: &mut [u8]) -> u64 {
 #[test]
 fn the_trials_meet_every_case() {
     let (mut report, mut dice) = (Report::default(), Dice::new(11));
-    first_images(&mut report, by_model, quick::entry, &mut dice, 500);
-    first_images_by_rule(&mut report, by_model, quick::entry, &mut dice, 500);
+    for entry in [quick::entry as Entry, swift::entry] {
+        first_images(&mut report, by_model, entry, &mut dice, 500);
+        first_images_by_rule(&mut report, by_model, entry, &mut dice, 500);
+    }
     setups(&mut report, setup_by_model, &mut dice, 1_000);
     report.check_every_outcome_met(FIRST_OUTCOMES);
     println!("{}", report.outcomes(FIRST_OUTCOMES));
@@ -34,7 +36,9 @@ fn the_trials_meet_every_case() {
 #[test]
 fn examples_go_from_a_first_image_on() {
     let mut report = Report::default();
-    weights::examples(&mut report, by_model, quick::entry);
+    for entry in [quick::entry as Entry, swift::entry] {
+        weights::examples(&mut report, by_model, entry);
+    }
     assert_eq!(report.failed(), 0);
 }
 

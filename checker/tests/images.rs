@@ -1,12 +1,12 @@
 //! Save, Restore and the lent lists.
 
-use checker::call::Settings;
+use checker::call::{Entry, Settings};
 use checker::limits::IMAGE_BYTES;
 use checker::model::{Page, Refusal, State};
-use checker::quick;
 use checker::random::Dice;
 use checker::scene::any_state;
 use checker::trial::{rules, Report};
+use checker::{quick, swift};
 
 #[test]
 fn images_come_back_as_they_went() {
@@ -221,7 +221,9 @@ fn a_refused_image_says_why() {
 #[test]
 fn each_rule_of_restore_is_kept() {
     let mut report = Report::default();
-    rules::rules(&mut report, quick::entry);
+    for entry in [quick::entry as Entry, swift::entry] {
+        rules::rules(&mut report, entry);
+    }
     assert_eq!(report.failed(), 0);
 }
 

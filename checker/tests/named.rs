@@ -1,15 +1,18 @@
-//! The trials by name: the model passes them, and quick does.
+//! The trials by name: the model passes them, and quick and swift do.
 
+use checker::call::Entry;
 use checker::feed::Feed;
 use checker::model::run_program;
-use checker::quick;
 use checker::trial::{named, Report};
+use checker::{quick, swift};
 
 #[test]
 fn calls_have_the_answers_of_the_paper() {
     let mut report = Report::default();
     for trial in named::all() {
-        trial.by_entry(&mut report, quick::entry);
+        for entry in [quick::entry as Entry, swift::entry] {
+            trial.by_entry(&mut report, entry);
+        }
     }
     assert_eq!(report.failed(), 0);
 }

@@ -1,13 +1,13 @@
 //! Older images: what the trials take for right, and all that they must meet.
 
-use checker::call::Older;
+use checker::call::{Entry, Older};
 use checker::limits::{IMAGE_BYTES, MARKED_IMAGE_BYTES, OLDER_IMAGE_BYTES};
 use checker::model::{probe, upgrade_image, Reader, Rule, State};
-use checker::quick;
 use checker::random::Dice;
 use checker::scene::any_state;
 use checker::trial::older::{self, older_image, OLDER_OUTCOMES};
 use checker::trial::{rules, Report};
+use checker::{quick, swift};
 
 /// The number of O at the C boundary.
 const O: u64 = 79 * 65_536;
@@ -28,16 +28,12 @@ fn upgrade_by_model(buffer: &mut [u8], older: Older) -> u64 {
 fn the_trials_meet_every_case() {
     let (mut report, mut dice) = (Report::default(), Dice::new(20));
     rules::by_probe(&mut report, by_model);
-    rules::by_upgrade(&mut report, upgrade_by_model, quick::entry);
     older::every_byte(&mut report, by_model, &mut dice);
     older::probed(&mut report, by_model, &mut dice, 1_500);
-    older::upgraded(
-        &mut report,
-        upgrade_by_model,
-        quick::entry,
-        &mut dice,
-        1_500,
-    );
+    for entry in [quick::entry as Entry, swift::entry] {
+        rules::by_upgrade(&mut report, upgrade_by_model, entry);
+        older::upgraded(&mut report, upgrade_by_model, entry, &mut dice, 1_500);
+    }
     report.check_every_outcome_met(OLDER_OUTCOMES);
     println!("{}", report.outcomes(OLDER_OUTCOMES));
     assert_eq!(report.failed(), 0);

@@ -1,11 +1,13 @@
-//! Quick against the model: equal numbers, equal images, equal lists, equal answers.
+//! Quick and swift against the model: equal numbers and equal images; and quick's lists
+//! and answers, which swift has not.
 
-use checker::call::{Call, Order};
+use checker::call::{Call, Entry, Order};
 use checker::cases::{CASES, LINK_CASES, MEASURE_CASES, WEIGHT_CASES};
 use checker::model::{self, Page, State};
 use checker::quick::{entry, list, question, when_read};
 use checker::random::Dice;
 use checker::scene::{any_questions, any_state};
+use checker::swift;
 use checker::trial::fields::{self, FIELD_OUTCOMES};
 use checker::trial::lists::{self, LIST_OUTCOMES};
 use checker::trial::questions::{self, QUESTION_OUTCOMES};
@@ -15,6 +17,15 @@ use checker::trial::{calls, damage, named, rules, soundings, Report, CALL_OUTCOM
 
 #[test]
 fn random_calls_at_bounds_and_beyond() {
+    every_call(entry);
+}
+
+#[test]
+fn swift_calls_at_bounds_and_beyond() {
+    every_call(swift::entry);
+}
+
+fn every_call(entry: Entry) {
     let (mut report, mut dice) = (Report::default(), Dice::new(6));
     calls::random_calls(&mut report, entry, &mut dice, 600);
     calls::on_the_link(&mut report, entry, &mut dice, 400);
@@ -51,6 +62,7 @@ fn lists_and_what_they_report() {
 fn lists_beside_steals() {
     let (mut report, mut dice) = (Report::default(), Dice::new(63));
     weights::by_steals(&mut report, list, entry, &mut dice, 2_000);
+    weights::by_steals(&mut report, list, swift::entry, &mut dice, 2_000);
     weights::by_steals(&mut report, list_by_model, by_model, &mut dice, 2_000);
     report.check_every_outcome_met(STEAL_OUTCOMES);
     println!("{}", report.outcomes(STEAL_OUTCOMES));

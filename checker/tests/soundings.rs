@@ -1,11 +1,12 @@
 //! The model against the paper's twelve soundings and its listing, and a
 //! look-ahead written once more, word for word.
 
+use checker::call::Entry;
 use checker::model::{run_program, Page, Reader, State};
-use checker::quick;
 use checker::random::Dice;
 use checker::scene::any_state;
 use checker::trial::{soundings, Report};
+use checker::{quick, swift};
 
 #[test]
 fn model_meets_the_soundings() {
@@ -15,9 +16,11 @@ fn model_meets_the_soundings() {
 }
 
 #[test]
-fn quick_meets_the_heads_of_the_soundings() {
+fn quick_and_swift_meet_the_heads_of_the_soundings() {
     let mut report = Report::default();
-    soundings::by_entry(&mut report, quick::entry);
+    for entry in [quick::entry as Entry, swift::entry] {
+        soundings::by_entry(&mut report, entry);
+    }
     assert_eq!(report.failed(), 0);
 }
 
