@@ -1,6 +1,6 @@
 //! Steal list and Fetch list on an image: the box's beside quick's.
 
-use super::{busy, in_turns, opened, print_head, print_row, seated, Quay, FULL};
+use super::{busy, in_turns, opened, print_plain_head, print_plain_row, seated, Quay, FULL};
 use checker::call::{Lister, Order};
 use checker::model::{Page, State};
 use checker::{ffi, quick};
@@ -20,9 +20,9 @@ pub fn table() {
     println!("Steal list and Fetch list, by the two functions of `libprobe.a`: each restores");
     println!("the image, makes the order and writes its keys into a list of {ROOM} numbers;");
     println!("nothing is saved. With L 2000000 a look-ahead reaches its file's end.\n");
-    print_head();
+    print_plain_head();
     for case in cases() {
-        print_row(&case.name, measure(&case.name, case.order, &case.image));
+        print_plain_row(&case.name, measure(&case.name, case.order, &case.image));
     }
 }
 
@@ -83,7 +83,7 @@ fn open_case(state: State) -> Case {
 }
 
 /// Nanoseconds a list, by quick and by the box.
-pub fn measure(name: &str, order: Order, image: &[u8]) -> (f64, f64) {
+pub fn measure(name: &str, order: Order, image: &[u8]) -> [f64; 2] {
     let listers = [quick::list as Lister, ffi::list];
     let [by_quick, by_box] = listers.map(|lister| {
         let mut list = [0; ROOM];

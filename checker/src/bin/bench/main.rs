@@ -1,17 +1,18 @@
-//! What the box's C entries cost beside quick's entry, its lists and its answers to
-//! questions beside quick's, and the program `quay` beside the checker's `lines`: one
-//! run, the same images and streams.
+//! What the box's C entries cost beside quick's entry and swift's, its lists and its
+//! answers to questions beside quick's, and the program `quay` beside the checker's
+//! `lines`: one run, the same images and streams.
 //!
 //!     cargo build --release --bin lines
 //!     QUAY_LIB=folder QUAY_PROBE=folder QUAY_PROGRAM=path \
 //!         cargo run --release --features box --bin bench
 //!
-//! Both entries restore, call and save an image each time; a list and a question
+//! All entries restore, call and save an image each time; a list and a question
 //! restore one and save nothing. Every number is the median of several samples, taken
 //! in turns, in nanoseconds a call; that of an entry includes one copy of the image
 //! into the buffer. Prints markdown tables. Without `QUAY_PROGRAM` the programs are
 //! left out.
 
+mod growth;
 mod lines;
 mod lists;
 mod questions;
@@ -20,13 +21,15 @@ mod rules;
 use checker::call::{Call, Entry};
 use checker::limits::{FILES, FILE_PAGES, MOST_TURNS};
 use checker::model::{Page, Reader, State};
-use checker::{ffi, quick};
+use checker::{ffi, quick, swift};
 use std::hint::black_box;
 use std::time::{Duration, Instant};
 
-/// How long one sample should take at least, and how many there are.
-const SAMPLE: Duration = Duration::from_millis(4);
+/// How long one sample should take at least, and how many there are; fewer of a call that
+/// takes much longer than that.
+const SAMPLE: Duration = Duration::from_millis(3);
 const SAMPLES: usize = 11;
+const SLOW_SAMPLES: usize = 3;
 
 struct Case {
     name: String,
@@ -42,14 +45,17 @@ fn main() {
     );
     println!("the nanoseconds are this machine's, and change with what else it does.\n");
     println!("`quick` is the checker's plain version, built for release: it walks every look-ahead once into an array of");
-    println!("numbers, without sets and without an allocation. The box is its C entries. Both restore the image, carry the call");
-    println!("out and save it, on the same images. Readers have pace 10 and files 1,024 pages, so that L 10240 reaches a file's end.\n");
+    println!("numbers, without sets and without an allocation. `swift` is its tuned version, as fast as plain Rust without proofs");
+    println!("got: it tests the image where it lies, writes only what changes, and in a Run keeps what it knows of a file. So box /");
+    println!("swift is what being proved costs, and quick / box what the box gains on plain code. The box is its C entries. All");
+    println!("three restore the image, carry the call out and save it, on the same images. Readers have pace 10 and files 1,024");
+    println!("pages unless said, so that L 10240 reaches a file's end.\n");
     println!("## Calls, with a look-ahead that reaches the files' ends\n");
     table(&calls());
     println!("\n## The same, with a look-ahead that ends early\n");
     println!("Quick's cost is its walk: with less to walk it comes nearer. For these calls the box walks no look-ahead, and costs what it did.\n");
     table(&short_calls());
-    arrive_tables();
+    growth::tables();
     println!("\n## The two rules\n");
     rules::table();
     println!("\n## Lists\n");
@@ -59,38 +65,6 @@ fn main() {
     println!("\n## Lines through pipes\n");
     println!("The program `quay` beside the checker's own, built on quick, from start to end through the same pipes.\n");
     lines::table();
-}
-
-/// An arrival that steals, by one setting each.
-fn arrive_tables() {
-    println!("\n## Arrive that steals, by frames (16 readers, 8 files, L 10240, T 0)\n");
-    let by_frames = [64, 128, 256, 512, 1_024].map(|frames| {
-        let name = format!("frames: {frames}");
-        arrive(name, busy(Quay { frames, ..FULL }))
-    });
-    table(&by_frames);
-    println!("\n## Arrive that steals, by pages of a file (16 readers, 8 files, 64 frames, L 10240, T 0)\n");
-    let by_pages = [128, 256, 512, 1_024].map(|pages| {
-        let name = format!("pages: {pages}");
-        let quay = Quay {
-            pages,
-            frames: 64,
-            ..FULL
-        };
-        arrive(name, busy(quay))
-    });
-    table(&by_pages);
-    println!("\n## Arrive that steals, by readers (8 files, 512 frames, L 10240, T 0)\n");
-    let by_readers = [1, 2, 4, 8, 12, 16].map(|readers| {
-        let name = format!("readers: {readers}");
-        let quay = Quay {
-            readers,
-            frames: 512,
-            ..FULL
-        };
-        arrive(name, busy(quay))
-    });
-    table(&by_readers);
 }
 
 /// The processor and how many there are, as the system names them.
@@ -113,6 +87,7 @@ fn calls() -> Vec<Case> {
         interval: 1_000,
         blocked: 400,
     };
+    cases.push(arrive_behind());
     for (name, call) in [
         ("Steal", Call::Steal),
         ("Prefetch", Call::Prefetch),
@@ -123,10 +98,25 @@ fn calls() -> Vec<Case> {
         let (name, image) = (name.to_string(), image.clone());
         cases.push(Case { name, image, call });
     }
+    cases.push(Case {
+        name: "Read, a buffer one byte short (refused with 13)".to_string(),
+        image: image[1..].to_vec(),
+        call: Call::Read { slot: 1 },
+    });
     cases.extend(on_the_link());
     cases.extend(runs(10_240, 0));
     cases.extend(runs(2_000_000, 100));
+    cases.extend([run_of_hits(), run_of_paces(0), run_of_paces(50)]);
     cases
+}
+
+/// An arrival for which a page goes that no reader still has before it: the reader in slot
+/// 1 has read some of its pages, and the other reader of its file is ahead of it.
+fn arrive_behind() -> Case {
+    let mut state = busy(FULL);
+    state.readers.get_mut(&1).unwrap().position = 20;
+    let name = "Arrive that finds a page behind all readers, 16 readers on 8 files, L 10240, T 0";
+    arrive(name.to_string(), state)
 }
 
 /// Both heads with many pages in fetch, which count as cached: the second map is read.
@@ -205,6 +195,37 @@ fn run_of(quay: Quay, change: impl FnOnce(State) -> State) -> Case {
         image: change(seated(quay)).image(),
         call: Call::Run { turns: MOST_TURNS },
     }
+}
+
+/// A run of which every turn is a hit: sixteen readers of one file that is all cached.
+fn run_of_hits() -> Case {
+    let one_file = Quay { files: 1, ..FULL };
+    let mut case = run_of(one_file, |mut state| {
+        state.cached = (0..FILE_PAGES).map(Page::of_key).collect();
+        for reader in state.readers.values_mut() {
+            reader.position = 0;
+        }
+        state
+    });
+    case.name = format!("Run of {MOST_TURNS} turns, 16 readers on one file, all cached, all hits");
+    case
+}
+
+/// A run of readers whose paces all differ, with few frames.
+fn run_of_paces(fetch_time: u64) -> Case {
+    let quay = Quay {
+        frames: 64,
+        fetch_time,
+        ..FULL
+    };
+    let mut case = run_of(quay, |mut state| {
+        for (&slot, reader) in &mut state.readers {
+            reader.pace = 5 + slot * 7 % 16;
+        }
+        state
+    });
+    case.name += ", paces 5 to 20";
+    case
 }
 
 /// What a state is made of.
@@ -294,26 +315,38 @@ fn table(cases: &[Case]) {
     }
 }
 
+/// The head of a table of entries.
 fn print_head() {
+    println!("| call | quick ns | swift ns | box ns | quick / box | box / swift |");
+    println!("|:-----|---------:|---------:|-------:|------------:|------------:|");
+}
+
+fn print_row(name: &str, [quick, swift, the_box]: [f64; 3]) {
+    let (gain, price) = (quick / the_box, the_box / swift);
+    println!("| {name} | {quick:.0} | {swift:.0} | {the_box:.0} | {gain:.2} | {price:.2} |");
+}
+
+/// The head of a table of what swift has not.
+fn print_plain_head() {
     println!("| call | quick ns | box ns | quick / box |");
     println!("|:-----|---------:|-------:|------------:|");
 }
 
-fn print_row(name: &str, (quick, the_box): (f64, f64)) {
+fn print_plain_row(name: &str, [quick, the_box]: [f64; 2]) {
     let ratio = quick / the_box;
     println!("| {name} | {quick:.0} | {the_box:.0} | {ratio:.2} |");
 }
 
-/// Nanoseconds a call, by quick and by the box.
-fn measure(case: &Case) -> (f64, f64) {
-    let entries = [quick::entry as Entry, ffi::entry];
-    let [by_quick, by_box] = entries.map(|entry| {
+/// Nanoseconds a call, by quick, by swift and by the box.
+fn measure(case: &Case) -> [f64; 3] {
+    let entries = [quick::entry as Entry, swift::entry, ffi::entry];
+    let [by_quick, by_swift, by_box] = entries.map(|entry| {
         let mut image = case.image.clone();
         (entry(&mut image, case.call), image)
     });
     assert!(
-        by_quick == by_box,
-        "quick and the box differ: {}",
+        by_quick == by_box && by_swift == by_box,
+        "quick, swift and the box differ: {}",
         case.name
     );
     in_turns(entries.map(|entry| {
@@ -325,16 +358,25 @@ fn measure(case: &Case) -> (f64, f64) {
     }))
 }
 
-/// Nanoseconds a call of quick's and of the box's, sampled in turns.
-fn in_turns([mut quick, mut the_box]: [impl FnMut() -> u64; 2]) -> (f64, f64) {
-    let once = sample(&mut quick, 1).max(sample(&mut the_box, 1));
-    let calls = (SAMPLE.as_nanos() as f64 / once).ceil() as u32;
-    let (mut quick_samples, mut box_samples) = (Vec::new(), Vec::new());
-    for _ in 0..SAMPLES {
-        quick_samples.push(sample(&mut quick, calls));
-        box_samples.push(sample(&mut the_box, calls));
+/// Nanoseconds a call of each, sampled in turns.
+fn in_turns<const CALLERS: usize>(mut callers: [impl FnMut() -> u64; CALLERS]) -> [f64; CALLERS] {
+    let plans = callers.each_mut().map(|call| {
+        let calls = SAMPLE.as_nanos() as f64 / sample(call, 1);
+        match calls < 0.2 {
+            true => (1, SLOW_SAMPLES),
+            false => (calls.ceil() as u32, SAMPLES),
+        }
+    });
+    let mut samples = [const { Vec::new() }; CALLERS];
+    for nth in 0..SAMPLES {
+        for (at, call) in callers.iter_mut().enumerate() {
+            let (calls, wanted) = plans[at];
+            if nth < wanted {
+                samples[at].push(sample(call, calls));
+            }
+        }
     }
-    (median(quick_samples), median(box_samples))
+    samples.map(median)
 }
 
 /// Nanoseconds a call over so many calls.

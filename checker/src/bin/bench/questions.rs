@@ -1,7 +1,7 @@
 //! "When will these be read?" on an image: the box's one call beside quick's single
 //! questions.
 
-use super::{busy, in_turns, print_head, print_row, Quay, FULL};
+use super::{busy, in_turns, print_plain_head, print_plain_row, Quay, FULL};
 use checker::call::WhenRead;
 use checker::limits::MOST_QUESTIONS;
 use checker::model::{Page, State};
@@ -32,7 +32,7 @@ pub fn table() {
         "the file. As calls of their own they restore the image each time; restored once, quick"
     );
     println!("counts the words too. Nothing is saved.\n");
-    print_head();
+    print_plain_head();
     let ways: [(&str, WhenRead); 2] = [
         ("calls of their own", one_by_one),
         ("restored once", quick::when_read),
@@ -40,7 +40,7 @@ pub fn table() {
     for (way, by_quick) in ways {
         for case in cases() {
             let name = format!("{}; quick: {way}", case.name);
-            print_row(&name, measure(&case, by_quick));
+            print_plain_row(&name, measure(&case, by_quick));
         }
     }
 }
@@ -94,7 +94,7 @@ fn nth_page(nth: u64) -> Page {
 }
 
 /// Nanoseconds for all questions, by quick and by the box.
-fn measure(case: &Case, by_quick: WhenRead) -> (f64, f64) {
+fn measure(case: &Case, by_quick: WhenRead) -> [f64; 2] {
     let callers = [by_quick, ffi::when_read];
     let answers = callers.map(|when_read| {
         let mut answers = [0; MOST_QUESTIONS];

@@ -12,7 +12,7 @@ pub fn table() {
     println!("What decides under either rule, on the same readers and pages. Of file 0 to file 7 from 100");
     println!("to 800 readers are expected, and 2 have docked at each. By the 1993 rule one file is chosen");
     println!("first, and quick walks and scans that file alone; its list sorts each file's pages and takes");
-    println!("them by turns.\n");
+    println!("them by turns. Swift has no lists.\n");
     print_head();
     for (look_ahead, fetch_time) in [(10_240, 0), (2_000_000, 100)] {
         let quay = Quay {
@@ -43,7 +43,9 @@ fn rows(quay: Quay) {
     for (rule, year) in RULES {
         let state = weighed(lists::spread(quay), rule);
         let name = format!("Steal list, {} keys, {ticks}, {year}", state.cached.len());
-        print_row(&name, lists::measure(&name, Order::Steal, &state.image()));
+        let [quick, the_box] = lists::measure(&name, Order::Steal, &state.image());
+        let gain = quick / the_box;
+        println!("| {name} | {quick:.0} | | {the_box:.0} | {gain:.2} | |");
     }
     for frames in [64, 1_024] {
         for (rule, year) in RULES {
