@@ -197,6 +197,9 @@ fn behind_all(seats: &[u16; 72], cached: &[u64; 128], file: usize, size: u16) ->
     ensures low { λ r. ⌜ r ≤ 1024 ⌝ }
 {
     let mut page = back_from(seats, cached, file, size as usize);
+    if page == 0 {
+        return page;
+    }
     let mut next = back_from(seats, cached, file, page);
     while next < page {
         page = next;

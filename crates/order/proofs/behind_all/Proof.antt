@@ -1,4 +1,5 @@
--- Invariant: every cached page after the one reached is ahead of a reader, and the next one is that to which its own step leads. Measure: the page reached.
+-- The file has none, or the loop finds it. Invariant: every cached page after the one reached is ahead of a reader, and the next one is that to
+-- which its own step leads. Measure: the page reached.
 use Prim.Native.Nat.{_≤_}
 use mathlib.Core.Path.{_≡_}
 use mathlib.Core.List.{List}
@@ -24,12 +25,18 @@ abbrev μ-loop : tie.MeasureT-loop
 back-from-requires : tie.Need-back-from-requires Inv-loop μ-loop
 back-from-requires c κs = search needs
 
+returns : tie.Need-returns Inv-loop μ-loop
+returns c =
+    let after-back-from = c .before in
+    let b = after-back-from .back-from .ensures in
+    (λ readers g. (b .0 readers g .0, λ h. absurd (omega (arith, h, c .if1 .taken))), omega (arith, c .if1 .taken))
+
 back-from-requires-2 : tie.Need-back-from-requires-2 Inv-loop μ-loop
 back-from-requires-2 c κs = search needs
 
 loop-holds : tie.Need-loop-holds Inv-loop μ-loop
 loop-holds c =
-    let after-back-from = c .before in
+    let after-back-from = c .before .before in
     let at-start = after-back-from .before in (
       omega (arith, after-back-from .back-from .ensures .1, at-start .pre .1),
       c .back-from2 .ensures .1,
@@ -53,8 +60,8 @@ loop-again c =
           (back-more readers _ _ _ _ _ (i .0) (i .1 .0), c .back-from3 .ensures .0 readers g),
     )
 
-returns : tie.Need-returns Inv-loop μ-loop
-returns c =
+returns-2 : tie.Need-returns-2 Inv-loop μ-loop
+returns-2 c =
     let l = c .before .loop in
     let e : l .next ≡ l .page = omega (arith, l .inv .1, c .loop-test .left) in (
       λ readers g. let i = l .inv .2 readers g in (i .0, rw e at (i .1 .1 e)),
@@ -68,9 +75,10 @@ behind-all-spec =
     Inv-loop
     μ-loop
     back-from-requires
+    returns
     back-from-requires-2
     loop-holds
     back-from-requires-3
     loop-less
     loop-again
-    returns)
+    returns-2)
