@@ -7,4 +7,5 @@ pub mod Sweeps
 pub mod Lacks
 pub mod Rearing
 pub mod Searching
+pub mod Firsts
 pub mod Leading

@@ -24,7 +24,7 @@ ghost use Rattle.parts.specs.Held.{Held};
 ghost use Rattle.order.specs.Choices.{chosen, inSet};
 ghost use Rattle.order.specs.Leads.{leading, Weights, Weighed, Foremost};
 ghost use Rattle.order.specs.Seats.{Seated};
-ghost use Rattle.order.specs.Searches.{termsOf, stateUnder, Sits, Sighted, Sight, SeatsOf, lower, Over, Ranked, Raised, Topped, Highest, Soonest};
+ghost use Rattle.order.specs.Searches.{termsOf, stateUnder, Sits, Sighted, Sight, SeatsOf, lower, Over, Ranked, Raised, Topped, Highest, First, Soonest};
 ghost use Rattle.order.specs.Rears.{Least, Back, Free, Rear};
 
 // The key of the page chosen, if any.
@@ -33,12 +33,13 @@ pub enum Choice {
     Nothing,
 }
 
-// What the searches read of a view beside its readers.
+// What a choice reads of a view beside its readers, and how many turns of a Run were made before it.
 pub struct Terms {
     pub look_ahead: u32,
     pub fetch_time: u32,
     pub frames: u16,
     pub turn: u8,
+    pub done: u64,
 }
 
 // The best page of a search so far, by its key, and the number by which it is best; 0 where there is none yet.
@@ -58,15 +59,22 @@ const ALL_FILES: u64 = 255;
 
 // ---- the readers and their use keys
 
-fn terms_of(v: View) -> Terms
-    ensures { λ r. ⌜ r ≡ termsOf v (v .turn) ⌝ }
+pub fn terms_at(look_ahead: u32, fetch_time: u32, frames: u16, turn: u8, done: u64) -> Terms
+    ensures { λ r. ⌜ r ≡ record { «look_ahead» = «look_ahead»; «fetch_time» = «fetch_time»; frames = frames; turn = turn; done = done } ⌝ }
 {
     Terms {
-        look_ahead: v.look_ahead,
-        fetch_time: v.fetch_time,
-        frames: v.frames,
-        turn: v.turn,
+        look_ahead,
+        fetch_time,
+        frames,
+        turn,
+        done,
     }
+}
+
+fn terms_of(v: View) -> Terms
+    ensures { λ r. ⌜ r ≡ termsOf v (v .turn) 0 ⌝ }
+{
+    terms_at(v.look_ahead, v.fetch_time, v.frames, v.turn, 0)
 }
 
 // How many of the pages from + 1 to from + n of the file are not present.
@@ -370,11 +378,32 @@ fn highest<'a>(
     best
 }
 
+// The page of a file that goes first, with its rank; 0 where the file has no cached page.
+pub fn head_of<'a>(
+    t: Terms,
+    size: u16,
+    seats: &[u16; 72],
+    cached: &'a [u64; 128],
+    fetching: &'a [u64; 128],
+    file: usize,
+) -> Pick
+    requires { ⌜ (file < 8) × (size ≤ 1024) × Sight t (now seats) (now cached) (now fetching) ⌝ }
+    ensures { λ r. ⌜ ((v : View) → Sighted t (now (seats .entry)) (now (cached .entry)) (now (fetching .entry)) v → size ≡ getD (v .sizes) file 0
+        → First (stateUnder t v (now (cached .entry)) (now (fetching .entry))) file r) ⌝ }
+{
+    let none = Pick { key: 0, value: 0 };
+    let behind = further_behind(seats, cached, file, size, none);
+    if 0 < behind.value {
+        return behind;
+    }
+    highest_of(t, seats, cached, fetching, file, none)
+}
+
 // ---- the page to give up
 
 // The page to give up among the files of a set, which is a word with a digit for each file. A page ahead of no reader goes before any other, and is found
 // without ranks.
-pub fn victim_among<'a>(
+fn victim_among<'a>(
     t: Terms,
     sizes: &[u16; 8],
     seats: &[u16; 72],

@@ -6,6 +6,7 @@ pub mod Distinct
 pub mod Weighings
 pub mod Victims
 pub mod Local
+pub mod Passing
 pub mod Links
 pub mod Candidates
 pub mod Stretches

@@ -3,3 +3,4 @@ pub mod Answers
 pub mod Seatings
 pub mod Rounds
 pub mod Turnings
+pub mod Keepings

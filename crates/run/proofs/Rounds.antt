@@ -175,8 +175,12 @@ module _ (s : State) (v : Valid s) (closed : (k : ℕ) → T (inFetch s k) → �
     } ≡ tally (turnOf s)
     fetch-made = rw map-is (turn-fetches g o gone eg q still told)
 
+    -- in fetch is what was before the turn: nothing
+    pub fetch-left : on still ≡ inFetch s
+    fetch-left = ap on (fetch-still g o gone eg q still told) ∙ emptied-same s v closed g o
+
     pub fetch-quiet : (k : ℕ) → T (on still k) → ⊥
-    fetch-quiet k h = closed k (subst (λ (f : ℕ → Bool). T (f k)) (ap on (fetch-still g o gone eg q still told) ∙ emptied-same s v closed g o) h)
+    fetch-quiet k h = closed k (subst (λ (f : ℕ → Bool). T (f k)) fetch-left h)
 
 -- ---- the turns so far
 

@@ -20,6 +20,7 @@ use Rattle.rules.specs.declared.View.{View}
 use Rattle.rules.specs.declared.Condition.the-variants.{Waiting}
 use Rattle.rules.proofs.laws.Tests.{is-true}
 use Rattle.rules.proofs.laws.Cases.{passed}
+use Rattle.rules.proofs.calls.Valids.{placed-at}
 use Rattle.rules.proofs.calls.Kept.{read-kept}
 use Rattle.rules.proofs.third.Moves.{nowAt, goesNow, keyNow}
 use Rattle.rules.proofs.third.Turns.{awaiting, goes-here, low, asked}
@@ -32,8 +33,8 @@ use Rattle.calls.specs.Inner.{Readable}
 use Rattle.calls.proofs.Slots.{readable}
 use Rattle.run.specs.Places.{reseated, Choosing, Turning}
 
-module _ (t : Terms) (sizes weights seats map fetching : List ℕ) (r : Reader) (w : View)
-    (g : Turning t sizes weights seats map fetching r w) where
+module _ (t : Terms) (sizes weights seats map fetching heads : List ℕ) (r : Reader) (w : View)
+    (g : Turning t sizes weights seats map fetching heads r w) where
   abbrev s : State
   s = stateUnder t w map fetching
 
@@ -43,6 +44,12 @@ module _ (t : Terms) (sizes weights seats map fetching : List ℕ) (r : Reader) 
   -- the record can be looked at
   pub turn-readable : Readable r
   turn-readable = rw (g .reader-is) (readable s valid (t .turn))
+
+  -- its file is one
+  pub turn-file : T (attached r) → r .file < 8
+  turn-file h =
+      let e = g .reader-is in
+      rw e (placed-at s valid (t .turn) (rw e at h) .file-high)
 
   -- ---- the page is in fetch
 

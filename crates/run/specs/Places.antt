@@ -1,9 +1,9 @@
 -- A Run as its loop holds it: the view that it began with, the turn, and the readers' positions in one array. Assumes nothing: these are definitions.
-use Prim.Native.Nat.{ℕ, _<_}
+use Prim.Native.Nat.{ℕ, _+_, _%_, _<_}
 use mathlib.Core.Path.{_≡_}
 use mathlib.Core.List.{List}
 use lib.Dec.{T}
-use lib.ListN.{getD}
+use lib.ListN.{getD, set}
 use Rattle.bits.specs.Map.{on}
 use Rattle.rules.specs.Readers.{readerIn}
 use Rattle.rules.specs.declared.Reader.{Reader}
@@ -11,7 +11,8 @@ use Rattle.rules.specs.declared.View.{View}
 use Rattle.order.specs.declared.Terms.{Terms}
 use Rattle.order.specs.Seats.{Seated}
 use Rattle.order.specs.Leads.{Weights}
-use Rattle.order.specs.Searches.{under, Sighted}
+use Rattle.order.specs.Searches.{under, stateUnder, Sighted}
+use Rattle.heads.specs.Heads.{Kept}
 
 -- a record at another position
 abbrev pub movedTo : ℕ → Reader → Reader
@@ -32,6 +33,10 @@ reseated v turn readers = record {
   readers = readers;
 }
 
+-- the view after a turn whose reader, r, is then at position p
+abbrev pub goneOn : Terms → View → Reader → ℕ → View
+goneOn t w r p = reseated (under t w) ((t .turn + 1) % 16) (set (w .readers) (t .turn) (movedTo p r))
+
 -- the readers are these, each at the position that the array has for its slot
 pub record Posed (readers : List Reader) (seats : List ℕ) (now : List Reader) : Type 0 where
   pub moved : (j : ℕ) → j < 16 → readerIn now j ≡ movedTo (getD seats j 0) (readerIn readers j)
@@ -47,8 +52,9 @@ pub record Choosing (t : Terms) (sizes weights seats cached fetching : List ℕ)
   pub sizes-are : sizes ≡ w .sizes
   pub weights-are : Weights (under t w) weights
 
--- what a turn reads of it: the turn's slot has this record, and no page is in fetch
-pub record Turning (t : Terms) (sizes weights seats cached fetching : List ℕ) (r : Reader) (w : View) : Type 0 where
+-- what a turn reads of it: the turn's slot has this record, no page is in fetch, and these heads are kept
+pub record Turning (t : Terms) (sizes weights seats cached fetching heads : List ℕ) (r : Reader) (w : View) : Type 0 where
   pub choosing : Choosing t sizes weights seats cached fetching w
   pub quiet : Quiet fetching
   pub reader-is : r ≡ readerIn (w .readers) (t .turn)
+  pub kept : Kept (stateUnder t w cached fetching) (t .done) heads

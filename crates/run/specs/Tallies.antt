@@ -1,5 +1,5 @@
 -- A turn as the code tells it. Assumes nothing: these are definitions.
-use Prim.Native.Nat.{ℕ, _+_, _%_, _≤_}
+use Prim.Native.Nat.{ℕ, _+_, _≤_}
 use mathlib.Core.Path.{_≡_}
 use mathlib.Core.List.{List}
 use lib.ListN.{length, set}
@@ -9,9 +9,10 @@ use Rattle.rules.specs.declared.State.{State}
 use Rattle.rules.specs.declared.Reader.{Reader}
 use Rattle.rules.specs.declared.View.{View}
 use Rattle.order.specs.declared.Terms.{Terms}
-use Rattle.order.specs.Searches.{under, stateUnder}
+use Rattle.order.specs.Searches.{stateUnder}
+use Rattle.heads.specs.Heads.{Kept}
 use Rattle.run.specs.declared.Turned.{Turned}
-use Rattle.run.specs.Places.{movedTo, reseated, Quiet}
+use Rattle.run.specs.Places.{goneOn, Quiet}
 
 -- the state after a turn, 1 if it met F, and 1 if it ended in H
 pub record Tally : Type 0 where
@@ -31,12 +32,15 @@ turned t w cached fetching = record { after = stateOf w cached fetching; fetched
 abbrev pub Single : Turned → Type 0
 Single t = (t .fetched ≤ 1) × (t .read ≤ 1)
 
--- a turn of the view w made on an array and on maps: the turn's reader, r, is at position p now, there as in the view, and the rest is the rule's
-pub record Made (t : Terms) (w : View) (r : Reader) (seats cached fetching : List ℕ) (q : Turned) (seats′ cached′ fetching′ : List ℕ) (p : ℕ) : Type 0 where
+-- a turn of the view w made on an array and on maps: the turn's reader, r, is at position p now, there as in the view, and the rest is the rule's; and the
+-- heads kept then
+pub record Made (t : Terms) (w : View) (r : Reader) (seats cached fetching : List ℕ) (q : Turned)
+    (seats′ cached′ fetching′ heads′ : List ℕ) (p : ℕ) : Type 0 where
   pub placed : seats′ ≡ set seats (t .turn) p
-  pub told : turned q (reseated (under t w) ((t .turn + 1) % 16) (set (w .readers) (t .turn) (movedTo p r))) cached′ fetching′
+  pub told : turned q (goneOn t w r p) cached′ fetching′
       ≡ tally (turnOf (stateUnder t w cached fetching))
   pub still : Quiet fetching′
+  pub kept : Kept (stateOf (goneOn t w r p) cached′ fetching′) (t .done + 1) heads′
 
 -- the state after some turns, the fetches and the reads
 abbrev pub soFar : State → ℕ → ℕ → Turns

@@ -1,5 +1,6 @@
 // Run: the turns of the slots in their order, each with Read and, where that meets F, Arrive and Read again. A turn changes one position, the cached map and
-// the files' counts. So the view stays as it is until the end: the positions are in the readers' array of the searches, which is lent from turn to turn.
+// the files' counts. So the view stays as it is until the end: the positions are in the readers' array of the searches, which is lent from turn to turn, and
+// what is known of the files' heads goes along.
 
 use order::Choice;
 use order::Terms;
@@ -20,6 +21,7 @@ ghost use Rattle.parts.specs.Held.{Held};
 ghost use Rattle.order.specs.Choices.{chosen};
 ghost use Rattle.order.specs.Searches.{stateUnder};
 ghost use Rattle.order.specs.Seats.{Seated};
+ghost use Rattle.heads.specs.Heads.{Kept};
 ghost use Rattle.run.specs.Places.{movedTo, reseated, Posed, Quiet, Choosing, Turning};
 ghost use Rattle.run.specs.Tallies.{Single, Made, soFar};
 
@@ -72,17 +74,20 @@ fn give_up<'a>(
     cached: &'a [u64; 128],
     fetching: &'a [u64; 128],
     held: &'a [u16; 8],
+    heads: &mut [u64; 8],
 ) -> Choice
     requires { ⌜ ((w : View) × Choosing t (now sizes) (now weights) (now seats) (now cached) (now fetching) w) ⌝ }
-    requires { ⌜ Held (now cached) (now held) ⌝ }
+    requires { ⌜ (t .done ≤ 16384) × Held (now cached) (now held) ⌝ }
     ensures { λ r. ⌜ ((w : View) → Choosing t (now (sizes .entry)) (now (weights .entry)) (now (seats .entry)) (now (cached .entry)) (now (fetching .entry)) w
-        → chosen r ≡ dropped (stateUnder t w (now (cached .entry)) (now (fetching .entry)))) ⌝ }
+        → Kept (stateUnder t w (now (cached .entry)) (now (fetching .entry))) (t .done) (now (heads .entry))
+        → (chosen r ≡ dropped (stateUnder t w (now (cached .entry)) (now (fetching .entry))))
+        × Kept (stateUnder t w (now (cached .entry)) (now (fetching .entry))) (t .done) (now (heads .exit))) ⌝ }
 {
     if parts::taken(held) < t.frames as u32 {
         return Choice::Nothing;
     }
     let files = order::files_open(t.frames, weights, held);
-    order::victim_among(t, sizes, seats, cached, fetching, files)
+    heads::victim_among(t, sizes, seats, cached, fetching, heads, files)
 }
 
 // One turn, of the slot whose record is `r`. Read refuses an empty slot and changes nothing, so the slot is not looked at before.
@@ -94,13 +99,14 @@ fn turn<'a>(
     cached: &mut [u64; 128],
     fetching: &mut [u64; 128],
     held: &mut [u16; 8],
+    heads: &mut [u64; 8],
     r: Reader,
 ) -> Turned
-    requires { ⌜ ((w : View) × Turning t (now sizes) (now weights) (now seats) (now cached) (now fetching) r w) ⌝ }
-    requires { ⌜ Held (now cached) (now held) ⌝ }
-    ensures { λ q. ⌜ ((w : View) → Turning t (now (sizes .entry)) (now (weights .entry)) (now (seats .entry)) (now (cached .entry)) (now (fetching .entry)) r w
-        → (p : ℕ) × Made t w r (now (seats .entry)) (now (cached .entry)) (now (fetching .entry)) q
-        (now (seats .exit)) (now (cached .exit)) (now (fetching .exit)) p) ⌝ }
+    requires { ⌜ ((w : View) × Turning t (now sizes) (now weights) (now seats) (now cached) (now fetching) (now heads) r w) ⌝ }
+    requires { ⌜ (t .done ≤ 16384) × Held (now cached) (now held) ⌝ }
+    ensures { λ q. ⌜ ((w : View) → Turning t (now (sizes .entry)) (now (weights .entry)) (now (seats .entry)) (now (cached .entry)) (now (fetching .entry))
+        (now (heads .entry)) r w → (p : ℕ) × Made t w r (now (seats .entry)) (now (cached .entry)) (now (fetching .entry)) q
+        (now (seats .exit)) (now (cached .exit)) (now (fetching .exit)) (now (heads .exit)) p) ⌝ }
     ensures single { λ q. ⌜ Single q ⌝ }
     ensures counted { λ _. ⌜ Held (now (cached .exit)) (now (held .exit)) ⌝ }
 {
@@ -110,10 +116,14 @@ fn turn<'a>(
     let Answer::Fetch { file: _, page: _ } = answer else {
         let moved = first.reader;
         seats[slot] = moved.position;
+        heads::forget_read(heads, r);
         return ended(answer, 0);
     };
-    let gone = give_up(t, sizes, weights, seats, cached, fetching, held);
-    calls::put_in(cached, fetching, held, parts::next_key(r), gone);
+    heads::forget_fetched(heads, t.fetch_time, r);
+    let gone = give_up(t, sizes, weights, seats, cached, fetching, held, heads);
+    let key = parts::next_key(r);
+    calls::put_in(cached, fetching, held, key, gone);
+    heads::forget_arrived(heads, key, gone);
     let second = calls::read_slot(cached, fetching, r);
     let again = second.answer;
     let moved = second.reader;
@@ -142,29 +152,26 @@ fn go_on(
     cached: &mut [u64; 128],
     fetching: &mut [u64; 128],
     held: &mut [u16; 8],
+    heads: &mut [u64; 8],
     turns: u64,
 ) -> Went
     requires { ⌜ Valid (stateOf v (now cached) (now fetching)) × Quiet (now fetching) × Seated (v .readers) 16 (now seats) × (turns ≤ 16384) ⌝ }
-    requires { ⌜ Held (now cached) (now held) ⌝ }
+    requires { ⌜ Held (now cached) (now held) × Kept (stateOf v (now cached) (now fetching)) 0 (now heads) ⌝ }
     ensures { λ r. ⌜ ((after : List Reader) × (Posed (v .readers) (now (seats .exit)) after
         × (soFar (stateOf (reseated v (r .slot) after) (now (cached .exit)) (now (fetching .exit))) (r .fetches) (r .reads)
         ≡ turnsOf turns (stateOf v (now (cached .entry)) (now (fetching .entry)))))) ⌝ }
     ensures counted { λ _. ⌜ Held (now (cached .exit)) (now (held .exit)) ⌝ }
 {
+    let sizes = v.sizes;
     let weights = order::weights_of(v);
     let mut slot = v.turn;
     let mut fetches: u16 = 0;
     let mut reads: u16 = 0;
     let mut i: u64 = 0;
     while i < turns {
-        let t = Terms {
-            look_ahead: v.look_ahead,
-            fetch_time: v.fetch_time,
-            frames: v.frames,
-            turn: slot,
-        };
+        let t = order::terms_at(v.look_ahead, v.fetch_time, v.frames, slot, i);
         let r = at_position(v.readers[slot as usize], seats[slot as usize]);
-        let q = turn(t, &v.sizes, &weights, seats, cached, fetching, held, r);
+        let q = turn(t, &sizes, &weights, seats, cached, fetching, held, heads, r);
         fetches += q.fetched;
         reads += q.read;
         slot = (slot + 1) % 16;
@@ -198,7 +205,8 @@ pub fn run(
     }
     let readers = v.readers;
     let mut seats = order::seats_of(readers);
-    let went = go_on(v, &mut seats, cached, fetching, held, turns);
+    let mut heads: [u64; 8] = [0; 8];
+    let went = go_on(v, &mut seats, cached, fetching, held, &mut heads, turns);
     let mut after = v;
     after.turn = went.slot;
     let moved = readers_at(readers, &seats);

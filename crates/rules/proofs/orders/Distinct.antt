@@ -18,7 +18,7 @@ use Rattle.rules.proofs.laws.Members.{only-only}
 use Rattle.rules.proofs.laws.Sorts.{by-falling, only-sorted}
 use Rattle.rules.proofs.calls.Valids.{placed-at}
 use Rattle.rules.specs.Ranks.{rank, cachedAmong, victimAmong, pack}
-use Rattle.rules.proofs.orders.Ranks.{seen-small, rank-behind, rank-unseen, rank-seen, steal-ranked}
+use Rattle.rules.proofs.orders.Ranks.{seen-high, seen-small, rank-behind, rank-unseen, rank-seen, steal-ranked}
 use Rattle.rules.proofs.orders.LookAheads.{before-is, sees-before, time-rises, use-for, seen-page, met-by, use-positive}
 use Rattle.rules.proofs.laws.Numbered.{larger-first, smaller-first, first-in, first-of, first-is, none-in, none-of, by-sort}
 use Rattle.rules.specs.declared.State.{State}
@@ -81,14 +81,23 @@ module _ (s : State) (w : Valid s) where
       go (inl a) (inr h) = unseen a h (rank-unseen s k a h)
       go (inr a) (inr h) = behind a (rank-behind s k a)
 
-  -- a rank is above 0
-  pub rank-positive : (k : ℕ) → 0 < rank s k
+  -- a rank is at least 16
+  pub rank-positive : (k : ℕ) → 16 ≤ rank s k
   rank-positive k = go (stretch k)
     where
-      go : Stretch s k → 0 < rank s k
+      go : Stretch s k → 16 ≤ rank s k
       go (behind a x) = omega arith
       go (unseen a n x) = omega arith
       go (in-use a x l) = omega (arith, use-positive s w k a)
+
+  -- a rank below `never` is a use key, and far below it
+  pub rank-far : (k : ℕ) → rank s k < never → rank s k ≤ 64000015
+  rank-far k l = go (stretch k)
+    where
+      go : Stretch s k → rank s k ≤ 64000015
+      go (behind a x) = absurd (omega arith)
+      go (unseen a n x) = absurd (omega arith)
+      go (in-use a x m) = omega (arith, x, seen-high s k (w .look-high) a)
 
   -- no two pages have one rank
   pub rank-one : (k i : ℕ) → Page s k → Page s i → rank s k ≡ rank s i → k ≡ i

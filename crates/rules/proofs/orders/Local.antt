@@ -1,20 +1,20 @@
 -- A page's rank hangs on its own file alone, and on turn, look-ahead and fetch time; two states alike in every file have one steal order by the 1989
 -- rule. Where fetches take no time, it does not hang on what is present either: q is there and counts for nothing. Assumes nothing.
 use mathlib.Core.Path.{_≡_, refl, sym, ap, ap₂, _∙_, fun-ext}
-use mathlib.Core.Bool.{false, cond, _&&_, and-assoc}
+use mathlib.Core.Bool.{true, false, not, cond, _&&_, and-assoc}
 use mathlib.Core.Logic.{_⊎_, inl, inr}
 use Prim.Native.Nat.{ℕ, zero, suc, _+_, _-_, _*_, _≤_, _<_}
 use native.Mathlib.Decide.{decLt}
 use native.Mathlib.Nat.{mul-zero}
 use native.Mathlib.Omega.{arith}
-use lib.Dec.{eqb, eqb→eq}
+use lib.Dec.{T, T-not, eqb, eqb→eq}
 use Rattle.rules.specs.Lists.{range, each, only, falling, least, some-of}
 use Rattle.rules.specs.Pages.{size, fileOf, keyOf, cached, pages, cachedPages}
 use Rattle.rules.specs.Readers.{readerAt, attached, readsFile}
 use Rattle.rules.specs.Valid.{Valid}
 use Rattle.rules.specs.UseTimes.{before, steps, present, missing, between, pruned, sees, timeFor, never, useFor, useKey, ahead, seen}
 use Rattle.rules.specs.Orders.{order1989}
-use Rattle.rules.proofs.laws.Tests.{both, is-false, and-second}
+use Rattle.rules.proofs.laws.Tests.{both, side, is-true, is-false, and-second}
 use Rattle.rules.specs.Ranks.{rank, Presents}
 use Rattle.rules.proofs.orders.Ranks.{steal-ranked}
 use Rattle.rules.specs.declared.State.{State}
@@ -36,9 +36,8 @@ pub record AlikeReader (r q : Reader) : Type 0 where
 pub alike-same : {r q : Reader} → r ≡ q → AlikeReader r q
 alike-same e = rw e (record { attached-same = refl; file-same = refl; pace-same = refl; position-same = refl; last-same = refl })
 
--- two states alike in what the ranks of file f read
-pub record SameFile (f : ℕ) (s t : State) : Type 0 where
-  pub turn-same : s .turn ≡ t .turn
+-- two states alike in what the ranks of file f read but for the turn
+pub record LikeFile (f : ℕ) (s t : State) : Type 0 where
   pub look-same : s .«look_ahead» ≡ t .«look_ahead»
   pub time-same : s .«fetch_time» ≡ t .«fetch_time»
   pub size-same : size s f ≡ size t f
@@ -47,19 +46,25 @@ pub record SameFile (f : ℕ) (s t : State) : Type 0 where
   -- q is asked for only where fetches take time
   pub present-same : 0 < s .«fetch_time» → (k : ℕ) → fileOf k ≡ f → present s k ≡ present t k
 
+-- and in the turn
+pub record SameFile (f : ℕ) (s t : State) : Type 0 where
+  pub like : LikeFile f s t
+  pub turn-same : s .turn ≡ t .turn
+
 not-before : (r : Reader) (k : ℕ) → NotOf (fileOf k) r → before r k ≡ false
 unfolding before
 not-before r k h = rw (← and-assoc (attached r) (eqb (r .file) (fileOf k)), h)
 
-not-sees : (s : State) (r : Reader) (k : ℕ) → NotOf (fileOf k) r → sees s r k ≡ false
+-- a reader of no such file sees none of its pages
+pub not-sees : (s : State) (r : Reader) (k : ℕ) → NotOf (fileOf k) r → sees s r k ≡ false
 unfolding sees
 not-sees s r k h = rw (not-before r k h)
 
 -- what a slot says of page k in two states
-record SameSlot (s t : State) (k j : ℕ) : Type 0 where
-  before-alike : before (readerAt s j) k ≡ before (readerAt t j) k
-  sees-alike : sees s (readerAt s j) k ≡ sees t (readerAt t j) k
-  use-alike : useFor s k j ≡ useFor t k j
+pub record SameSlot (s t : State) (k j : ℕ) : Type 0 where
+  pub before-alike : before (readerAt s j) k ≡ before (readerAt t j) k
+  pub sees-alike : sees s (readerAt s j) k ≡ sees t (readerAt t j) k
+  pub times-alike : T (sees s (readerAt s j) k) → timeFor s (readerAt s j) k ≡ timeFor t (readerAt t j) k
 
 -- what q costs two readers on the way to page k: it prunes, and it takes time
 record SameDelay (s : State) (r : Reader) (t : State) (q : Reader) (k : ℕ) : Type 0 where
@@ -84,7 +89,7 @@ pub maps-present : (s : State) → Presents s (s .cached) (s .fetching)
 unfolding present
 maps-present s k = refl
 
-module _ (s t : State) (k : ℕ) (a : SameFile (fileOf k) s t) where
+module _ (s t : State) (k : ℕ) (a : LikeFile (fileOf k) s t) where
   missing-same : 0 < s .«fetch_time» → (c n : ℕ) → n ≤ 1023 - c → missing s (fileOf k) c n ≡ missing t (fileOf k) c n
   unfolding missing
   missing-same h c zero l = refl
@@ -124,22 +129,21 @@ module _ (s t : State) (k : ℕ) (a : SameFile (fileOf k) s t) where
     unfolding timeFor
     time-alike = rw (delay-same .waits, e .position-same, e .pace-same)
 
-  slot-same : (j : ℕ) → SameSlot s t k j
-  unfolding useFor
+  pub slot-same : (j : ℕ) → SameSlot s t k j
   slot-same j = go (a .readers-same j)
     where
       neither : NotOf (fileOf k) (readerAt s j) → NotOf (fileOf k) (readerAt t j) → SameSlot s t k j
       neither m n = record {
         before-alike = rw (not-before (readerAt s j) k m, not-before (readerAt t j) k n);
         sees-alike = rw (not-sees s (readerAt s j) k m, not-sees t (readerAt t j) k n);
-        use-alike = rw (not-sees s (readerAt s j) k m, not-sees t (readerAt t j) k n);
+        times-alike = λ h. absurd (T-not (sees s (readerAt s j) k) (rw (not-sees s (readerAt s j) k m) tt) h);
       }
 
       alike : AlikeReader (readerAt s j) (readerAt t j) → readerAt t j .file ≡ fileOf k → SameSlot s t k j
       alike e f = record {
         before-alike = before-same (readerAt s j) (readerAt t j) e f;
         sees-alike = sees-same (readerAt s j) (readerAt t j) e f;
-        use-alike = rw (sees-same (readerAt s j) (readerAt t j) e f, time-alike (readerAt s j) (readerAt t j) e f, a .turn-same);
+        times-alike = λ _. time-alike (readerAt s j) (readerAt t j) e f;
       }
 
       go : AlikeReader (readerAt s j) (readerAt t j) ⊎ (NotOf (fileOf k) (readerAt s j) × NotOf (fileOf k) (readerAt t j)) → SameSlot s t k j
@@ -148,20 +152,45 @@ module _ (s t : State) (k : ℕ) (a : SameFile (fileOf k) s t) where
           (λ h. let n = is-false _ h in neither (rw (e .attached-same, e .file-same) n) n)
       go (inr n) = neither (n .0) (n .1)
 
+  -- some reader has the page before it in both, or in neither, and sees it in both, or in neither
+  pub ahead-local : ahead s k ≡ ahead t k
+  unfolding ahead
+  ahead-local = ap (some-of 16) (fun-ext (λ j. slot-same j .before-alike))
+
+  pub seen-local : seen s k ≡ seen t k
+  unfolding seen
+  seen-local = ap (some-of 16) (fun-ext (λ j. slot-same j .sees-alike))
+
+module _ (s t : State) (k : ℕ) (a : SameFile (fileOf k) s t) where
+  use-same : (j : ℕ) → useFor s k j ≡ useFor t k j
+  unfolding useFor
+  use-same j = go (side (sees s (readerAt s j) k))
+    where
+      slot : SameSlot s t k j
+      slot = slot-same s t k (a .like) j
+
+      go : T (sees s (readerAt s j) k) ⊎ T (not (sees s (readerAt s j) k)) → useFor s k j ≡ useFor t k j
+      go (inl h) =
+          let x : sees s (readerAt s j) k ≡ true = is-true (sees s (readerAt s j) k) h in
+          let y : sees t (readerAt t j) k ≡ true = sym (slot .sees-alike) ∙ x in
+          rw (x, y, slot .times-alike h, a .turn-same)
+      go (inr h) =
+          let x : sees s (readerAt s j) k ≡ false = is-false (sees s (readerAt s j) k) h in
+          let y : sees t (readerAt t j) k ≡ false = sym (slot .sees-alike) ∙ x in
+          rw (x, y)
+
   -- the rank of a page is the same in two states alike in its file
   pub rank-local : rank s k ≡ rank t k
-  unfolding rank ahead seen useKey
+  unfolding rank useKey
   rank-local =
-      let x : ahead s k ≡ ahead t k = ap (some-of 16) (fun-ext (λ j. slot-same j .before-alike)) in
-      let y : seen s k ≡ seen t k = ap (some-of 16) (fun-ext (λ j. slot-same j .sees-alike)) in
-      let z : useKey s k ≡ useKey t k = ap (λ g. least 16 g never) (fun-ext (λ j. slot-same j .use-alike)) in
-      rw (x, y, z)
+      let z : useKey s k ≡ useKey t k = ap (λ g. least 16 g never) (fun-ext use-same) in
+      rw (ahead-local s t k (a .like), seen-local s t k (a .like), z)
 
 -- two states alike in every file have one steal order by the 1989 rule
 pub steal-local : (s t : State) → Valid s → Valid t → ((f : ℕ) → SameFile f s t) → order1989 s ≡ order1989 t
 unfolding cachedPages pages
 steal-local s t v w a =
     let r : rank s ≡ rank t = fun-ext (λ k. rank-local s t k (a (fileOf k))) in
-    let c : cached s ≡ cached t = fun-ext (λ k. a (fileOf k) .cached-same k refl) in
-    let p : pages s ≡ pages t = ap (λ g. each (λ f. range (f * 1024) (g f)) (range 0 8)) (fun-ext (λ f. a f .size-same)) in
+    let c : cached s ≡ cached t = fun-ext (λ k. a (fileOf k) .like .cached-same k refl) in
+    let p : pages s ≡ pages t = ap (λ g. each (λ f. range (f * 1024) (g f)) (range 0 8)) (fun-ext (λ f. a f .like .size-same)) in
     steal-ranked s v ∙ ap₂ falling r (ap₂ only c p) ∙ sym (steal-ranked t w)

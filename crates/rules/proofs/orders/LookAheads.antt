@@ -170,8 +170,8 @@ module _ (s : State) (w : Valid s) where
       let p = placed-at s w j (f .here) in
       omega (arith, use-for s i j h, use-for s k j (sees-earlier s r k i b (omega arith) h), time-rises s r k i (p .pace-low) (f .past) l)
 
-  -- a use key is above 0
-  pub use-positive : (k : ℕ) → T (seen s k) → 0 < useKey s k
+  -- a use key is at least 16: its time is above 0
+  pub use-positive : (k : ℕ) → T (seen s k) → 16 ≤ useKey s k
   use-positive k h =
       let m = met-by k h in
       let r : Reader = readerAt s (m .0) in

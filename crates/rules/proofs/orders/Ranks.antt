@@ -41,15 +41,19 @@ time-small s r k l h =
         (λ _ h. let m : q ≤ n / t = omega (arith, nleb→lt (n / t) q h) in le-trans (mul-le-mul-right t m) (div-mul-le-self n t))
         (λ z _. let e : t ≡ 0 = omega arith in rw e (omega arith))
 
-use-small : (s : State) (k j : ℕ) → s .«look_ahead» ≤ 2000000 → T (sees s (readerAt s j) k) → useFor s k j < never
+use-small : (s : State) (k j : ℕ) → s .«look_ahead» ≤ 2000000 → T (sees s (readerAt s j) k) → useFor s k j ≤ 64000015
 unfolding useFor
 use-small s k j l h = rw (is-true (sees s (readerAt s j) k) h) (omega (arith, time-small s (readerAt s j) k l h))
 
-pub seen-small : (s : State) (k : ℕ) → s .«look_ahead» ≤ 2000000 → T (seen s k) → useKey s k < never
+-- a use key is at most 4,000,000 × 16 + 15
+pub seen-high : (s : State) (k : ℕ) → s .«look_ahead» ≤ 2000000 → T (seen s k) → useKey s k ≤ 64000015
 unfolding seen useKey
-seen-small s k l h =
+seen-high s k l h =
     let a = some-at 16 (λ j. sees s (readerAt s j) k) h in
     omega (arith, least-le 16 (useFor s k) never (a .0) (a .1), use-small s k (a .0) l (a .2))
+
+pub seen-small : (s : State) (k : ℕ) → s .«look_ahead» ≤ 2000000 → T (seen s k) → useKey s k < never
+seen-small s k l h = omega (arith, seen-high s k l h)
 
 pub pages-in : (s : State) → Valid s → All (Page s) (pages s)
 unfolding pages

@@ -207,13 +207,15 @@ module _ (s : State) (w : Valid s) (k : ℕ) (c : T (cached s k)) where
     rank-there : (x : ℕ) → fileOf x ≢ fileOf k → rank t x ≡ rank s x
     rank-there x ne =
         rank-local t s x (record {
+          like = record {
+            look-same = refl;
+            time-same = refl;
+            size-same = refl;
+            readers-same = λ j. inl (alike-same refl);
+            cached-same = λ j e. cached-other j (λ q. ne (sym e ∙ ap fileOf (sym q)));
+            present-same = λ _ j e. present-other j (λ q. ne (sym e ∙ ap fileOf (sym q)));
+          };
           turn-same = refl;
-          look-same = refl;
-          time-same = refl;
-          size-same = refl;
-          readers-same = λ j. inl (alike-same refl);
-          cached-same = λ j e. cached-other j (λ q. ne (sym e ∙ ap fileOf (sym q)));
-          present-same = λ _ j e. present-other j (λ q. ne (sym e ∙ ap fileOf (sym q)));
         })
 
     -- a page that stays keeps its rank

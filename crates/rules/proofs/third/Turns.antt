@@ -12,7 +12,7 @@ use lib.Seq.{map-set-same, ext-getD}
 use lib.Dec.{T, leb, ltb, eqb, eqb→eq, eqb-refl, not-T}
 use Rattle.bits.specs.Map.{putBit, on}
 use Rattle.rules.specs.Lists.{only, head, onOption}
-use Rattle.rules.specs.Pages.{size, cached, inFetch, Page, pages, cachedPages, fetchingPages}
+use Rattle.rules.specs.Pages.{size, fileOf, cached, inFetch, Page, pages, cachedPages, fetchingPages}
 use Rattle.rules.specs.Readers.{noReader, readerAt, attached, byCondition, nextKey, awaits, inCondition, onward}
 use Rattle.rules.specs.Valid.{Valid, Placed, ReaderIn, PageMap}
 use Rattle.rules.specs.Orders.{victim}
@@ -199,6 +199,10 @@ module _ (s : State) (v : Valid s) (closed : (k : ℕ) → T (inFetch s k) → �
 
     pub low : keyNow s < 8192
     low = next-page s v (nowAt s) placed inside .low
+
+    -- its page is of its own file
+    pub own-file : fileOf (keyNow s) ≡ nowAt s .file
+    own-file = omega (arith, inside, placed .last-high, v .sizes-high (nowAt s .file))
 
     -- H
     pub hit-turn : T (cached s (keyNow s)) → turnOf s ≡ turned s (set (s .readers) (s .turn) (onward (nowAt s))) (s .cached) (s .fetching) 0 (keyNow s ∷ [])

@@ -23,7 +23,8 @@ abbrev pub paused : State → ℕ → List Reader
 paused s u = set (s .readers) u (inCondition Waiting (readerAt s u))
 
 module _ (s : State) (v : Valid s) (u : ℕ) (l : u < 16) (here : T (attached (readerAt s u))) where
-  paused-alike : (j : ℕ) → AlikeReader (getD (paused s u) j noReader) (readerAt s j)
+  -- they are alike in what the orders read
+  pub paused-alike : (j : ℕ) → AlikeReader (getD (paused s u) j noReader) (readerAt s j)
   paused-alike j = key u j (λ _. AlikeReader (getD (paused s u) j noReader) (readerAt s j))
       (λ e.
       rw (← e, getD-set-same (s .readers) u _ noReader (omega arith))
@@ -40,11 +41,13 @@ module _ (s : State) (v : Valid s) (u : ℕ) (l : u < 16) (here : T (attached (r
       (steal-local (withFetching (withReaders s (paused s u)) fetching) s w v
       (λ f.
       record {
+        like = record {
+          look-same = refl;
+          time-same = refl;
+          size-same = refl;
+          readers-same = λ j. inl (paused-alike j);
+          cached-same = λ k _. refl;
+          present-same = λ h. absurd (omega (arith, free));
+        };
         turn-same = refl;
-        look-same = refl;
-        time-same = refl;
-        size-same = refl;
-        readers-same = λ j. inl (paused-alike j);
-        cached-same = λ k _. refl;
-        present-same = λ h. absurd (omega (arith, free));
       }))

@@ -2,8 +2,10 @@
 use mathlib.Core.Path.{_≡_, refl}
 use native.Mathlib.Omega.{arith}
 use borrow.Author.Needs.{needs}
+use lib.ListN.{getD-replicate}
 use Rattle.rules.proofs.calls.Valids.{placed-at}
 use Rattle.rules.proofs.calls.Kept.{turns-kept}
+use Rattle.heads.proofs.Keeping.{kept-none}
 use Rattle.run.proofs.Rounds.{with-third, run-many, run-open, run-done, none-open, sixteen-after}
 use Rattle.run.proofs.run.Statement.{statement}
 use Rattle.run.proofs.run.Tie as tie
@@ -43,14 +45,14 @@ seats-of-requires c κs =
 
 go-on-requires : tie.Need-go-on-requires
 go-on-requires c κs =
-    let after-seats-of = c .before .before .before .before in
+    let after-seats-of = c .before .before .before .before .before in
     let else-2 = after-seats-of .before .before in
     let after-count = else-2 .before in
     let else-1 = after-count .before .before in
     let at-start = else-1 .before in
     let v = at-start .pre .0 in (
       (v, none-open _ v _ (else-1 .if1 .left) _ (after-count .count .ensures) (closed else-2), after-seats-of .seats-of .ensures, else-1 .if1 .left),
-      at-start .pre .1,
+      (at-start .pre .1, kept-none _ _ _ refl (λ f. getD-replicate 8 f 0 0)),
     )
 
 readers-at-requires : tie.Need-readers-at-requires
@@ -59,7 +61,7 @@ readers-at-requires c κs = search needs
 returns-3 : tie.Need-returns-3
 returns-3 c =
     let after-go-on = c .before .before in
-    let after-seats-of = after-go-on .before .before .before .before .before in
+    let after-seats-of = after-go-on .before .before .before .before .before .before in
     let else-2 = after-seats-of .before .before in
     let after-count = else-2 .before in
     let else-1 = after-count .before .before in

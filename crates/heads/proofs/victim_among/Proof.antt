@@ -1,0 +1,128 @@
+-- Invariant: of the set's pages in the files passed none goes before the best, and the heads kept are their files'. Measure: the files that are left.
+use Prim.Native.Nat.{_-_, _≤_}
+use mathlib.Core.Path.{_≡_, sym, ap, _∙_}
+use mathlib.Core.Logic.{⊎-elim}
+use native.Mathlib.Omega.{arith}
+use borrow.Author.Needs.{needs}
+use lib.ListN.{getD}
+use Rattle.rules.specs.declared.View.{View}
+use Rattle.order.specs.Choices.{inSet}
+use Rattle.order.specs.Searches.{stateUnder}
+use Rattle.heads.specs.Heads.{Best, Kept, Seen, SeenAll}
+use Rattle.heads.proofs.Besting.{best-none, best-more, best-skip, best-all, best-victim, best-nothing}
+use Rattle.heads.proofs.victim_among.Statement.{statement}
+use Rattle.heads.proofs.victim_among.Tie as tie
+
+abbrev Inv-loop : tie.InvT-loop
+Inv-loop t sizes seats cached fetching heads₀ files best₀ file₀ heads best file =
+    (file ≤ 8)
+    × ((v : View) → SeenAll t sizes seats cached fetching v → Kept (stateUnder t v cached fetching) (t .done) heads₀
+    → Best (stateUnder t v cached fetching) (t .done) (inSet files) file best × Kept (stateUnder t v cached fetching) (t .done) heads)
+
+abbrev μ-loop : tie.MeasureT-loop
+μ-loop t sizes seats cached fetching heads₀ files best₀ file₀ heads best file = 8 - file
+
+-- what a look at the loop's file reads
+seen : (c : tie.At-loop Inv-loop μ-loop) (v : View) →
+    let a = c .before .args in
+    SeenAll (a .t) (a .sizes .now) (a .seats .now) (a .cached .now) (a .fetching .now) v
+    → Seen (a .t) (getD (a .sizes .now) (c .loop .file) 0) (a .seats .now) (a .cached .now) (a .fetching .now) (c .loop .file) v
+seen c v g = record { sighted = g .sighted; size-is = ap (λ sizes. getD sizes (c .loop .file) 0) (g .sizes-are) }
+
+loop-holds : tie.Need-loop-holds Inv-loop μ-loop
+loop-holds c = (omega arith, λ v g a. (best-none _ (g .sighted .valid) _ (c .pre .0) _, a))
+
+has-digit-requires : tie.Need-has-digit-requires Inv-loop μ-loop
+has-digit-requires c κs = search needs
+
+mul-head-of : tie.Need-mul-head-of Inv-loop μ-loop
+mul-head-of c = search needs
+
+element-copy-out-head-of : tie.Need-element-copy-out-head-of Inv-loop μ-loop
+element-copy-out-head-of c = search needs
+
+head-of-requires : tie.Need-head-of-requires Inv-loop μ-loop
+head-of-requires c κs =
+    let in-loop = c .before .before .before .before in
+    let at-loop = in-loop .before in
+    let at-start = at-loop .before in
+    let v = at-start .pre .1 .0 in
+    (omega (arith, in-loop .loop-test .taken), at-start .pre .0, (v, seen at-loop v (at-start .pre .1 .1)))
+
+larger-requires : tie.Need-larger-requires Inv-loop μ-loop
+larger-requires c κs = search needs
+
+add-file : tie.Need-add-file Inv-loop μ-loop
+add-file c = search needs
+
+loop-less : tie.Need-loop-less Inv-loop μ-loop
+loop-less c = search needs
+
+loop-again : tie.Need-loop-again Inv-loop μ-loop
+loop-again c =
+    let after-has-digit = c .before in
+    let in-loop = after-has-digit .before in
+    let at-loop = in-loop .before in
+    let at-start = at-loop .before in
+    let l = at-loop .loop in (
+      omega (arith, in-loop .loop-test .taken),
+      λ v g a.
+          let i = l .inv .1 v g a in
+          let w = g .sighted .valid in
+          ⊎-elim
+          (λ x.
+          let q = x .3 .ensures v (seen at-loop v g) (i .1) in
+          rw (x .5, x .6, x .4 .ensures) (
+            best-more _ w _ (at-start .pre .0) _ (l .file) (l .best) (i .0) _ (omega (arith, in-loop .loop-test .taken))
+                (sym (after-has-digit .has-digit .ensures) ∙ x .0 .taken) (q .0),
+            q .1,
+          ))
+          (λ x.
+          rw (x .1, x .2)
+          (best-skip _ w _ (at-start .pre .0) _ (l .file) (l .best) (i .0) (sym (after-has-digit .has-digit .ensures) ∙ x .0 .left), i .1))
+          (c .if1 .came),
+    )
+
+returns : tie.Need-returns Inv-loop μ-loop
+returns c = λ v g a.
+    let after-loop = c .before in
+    let at-loop = after-loop .before in
+    let at-start = at-loop .before in
+    let l = at-loop .loop in
+    let i = l .inv .1 v g a in
+    let w = g .sighted .valid in
+    let best = best-all _ w _ (at-start .pre .0) _ _ _ (omega (arith, l .inv .0, after-loop .loop-test .left)) (i .0) in
+    (sym (best-nothing _ w _ (at-start .pre .0) _ _ best (c .if2 .taken)), i .1)
+
+cast-key : tie.Need-cast-key Inv-loop μ-loop
+cast-key c = search needs
+
+returns-2 : tie.Need-returns-2 Inv-loop μ-loop
+returns-2 c = λ v g a.
+    let after-loop = c .before in
+    let at-loop = after-loop .before in
+    let at-start = at-loop .before in
+    let l = at-loop .loop in
+    let i = l .inv .1 v g a in
+    let w = g .sighted .valid in
+    let best = best-all _ w _ (at-start .pre .0) _ _ _ (omega (arith, l .inv .0, after-loop .loop-test .left)) (i .0) in
+    (sym (best-victim _ w _ (at-start .pre .0) _ _ best (c .if2 .left)), i .1)
+
+pub victim-among-spec : {M : Type 1} → statement M
+victim-among-spec =
+    tie.close
+    (tie.spec
+    Inv-loop
+    μ-loop
+    loop-holds
+    has-digit-requires
+    mul-head-of
+    element-copy-out-head-of
+    head-of-requires
+    larger-requires
+    add-file
+    loop-less
+    loop-again
+    returns
+    cast-key
+    returns-2)

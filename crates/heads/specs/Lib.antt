@@ -1,0 +1,2 @@
+-- What the contracts of the heads kept speak of.
+pub mod Heads
