@@ -1,10 +1,12 @@
 -- Laws of the digits of one word.
 use mathlib.Core.Path.{_≡_, refl, sym, ap, _∙_}
-use mathlib.Core.Bool.{_||_}
+use mathlib.Core.Bool.{cond, _||_}
 use Prim.Native.Nat.{ℕ, zero, suc, _+_, _-_, _*_, _/_, _%_, _^_, _≤_, _<_}
 use native.Mathlib.Nat.{pow-suc, one-mul, zero-mul, div-eq-of-lt, lt-of-lt-of-le}
 use native.Mathlib.Numerals.{one-add}
+use native.Mathlib.Decide.{ℕ-discrete}
 use native.Mathlib.Omega.{arith}
+use borrow.Author.Tests.{eq-eqb, ne-eqb}
 use lib.Bits.{bitAnd, bitOr, bitXor, and-high, and-le-l, and-zero-r, and-shr, and-mod, or-add-and, or-shr, or-mod, xor-add-and, xor-shr, xor-mod}
 use lib.Bits.{shifted-half, shifted-even}
 use lib.Count.{under, trailingZeros, leadingZeros, leading-length}
@@ -187,3 +189,11 @@ leading-set n w i h p =
     let t = leading-length n w h in
     let e : t .0 ≡ suc i = omega (arith, t .1) in
     top-set w i (rw e at (t .2)) (rw e at (t .3))
+
+-- the digits of a word with one set
+pub or-digits : (w i : ℕ) → i < 64 → (j : ℕ) → digit (bitOr w (1 * 2 ^ i % 2 ^ 64)) j ≡ cond (eqb j i) 1 (digit w j)
+or-digits w i l j = rw (shl-one i l, or-put w i) (by (ℕ-discrete j i))
+  where
+    by : Dec (j ≡ i) → digit (put w i 1) j ≡ cond (eqb j i) 1 (digit w j)
+    by (yes e) = rw (eq-eqb j i e, e) (put-digit w i 1 (omega arith))
+    by (no e) = rw (ne-eqb j i e) (put-digits w i 1 j e (omega arith))

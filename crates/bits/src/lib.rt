@@ -1,7 +1,7 @@
 // A map of pages: one bit a page in 64-bit words. Bits are counted by ones of words, and found by zeros of words.
 
 ghost use mathlib.Core.Path.{_≡_};
-ghost use mathlib.Core.Bool.{_&&_, _||_, not};
+ghost use mathlib.Core.Bool.{cond, _&&_, _||_, not};
 ghost use mathlib.Core.List.{[], _∷_};
 ghost use Prim.Native.Nat.{ℕ, _+_, _-_, _*_, _/_, _<_, _≤_, _%_};
 ghost use lib.ListN.{length, replicate};
@@ -14,6 +14,14 @@ pub fn has_digit(w: u64, i: usize) -> bool
     ensures { λ r. ⌜ r ≡ eqb (digit w i) 1 ⌝ }
 {
     (w >> i) & 1 == 1
+}
+
+// The word with digit i set.
+pub fn with_digit(w: u64, i: usize) -> u64
+    requires { ⌜ i < 64 ⌝ }
+    ensures { λ r. ⌜ ((j : ℕ) → digit r j ≡ cond (eqb j i) 1 (digit w j)) ⌝ }
+{
+    w | (1u64 << i)
 }
 
 // Is the bit of `key` set?

@@ -9,7 +9,6 @@ use lib.ListN.{length, getD}
 use lib.Dec.{T, leb}
 use Rattle.bits.specs.Map.{bit, ones, on, putBit}
 use Rattle.bits.proofs.Bits.{put-other, put-length}
-use Rattle.bits.proofs.Counts.{ones-put}
 use Rattle.rules.specs.Lists.{only}
 use Rattle.rules.specs.Pages.{pages, Page, cachedPages}
 use Rattle.rules.specs.Valid.{Valid}
@@ -40,16 +39,6 @@ module _ (s : State) (v : Valid s) (n : ℕ) (e : n ≡ ones (s .cached) 0 8192)
   pub taken-victim : s .frames ≤ n → victim s ≡ dropped s
   unfolding dropped full
   taken-victim h = cond-yes (λ o. victim s ≡ o) (leb (s .frames) (length (cachedPages s))) (victim s) none (rw held (search outcomes)) refl
-
--- the file of a cached page has one
-pub held-some : (cached held : List ℕ) → Held cached held → (k : ℕ) → k < 8192 → k / 64 < length cached → bit cached k ≡ 1 → 0 < getD held (k / 1024) 0
-held-some cached held a k low there e =
-    omega (
-      arith,
-      e,
-      a .pages (k / 1024) (omega arith),
-      ones-put cached k 0 (omega arith) there (k / 1024 * 1024) 1024 (omega arith) (omega arith),
-    )
 
 -- a page that is not cached is not once room is made
 pub eased-clear : (cached : List ℕ) (gone : Option ℕ) (k : ℕ) → CachedIn cached gone → bit cached k ≡ 0 → bit (eased cached gone) k ≡ 0

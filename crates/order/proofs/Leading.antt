@@ -6,11 +6,12 @@ use mathlib.Core.List.{List}
 use mathlib.Core.Logic.{_≢_, _⊎_, inl, inr}
 use native.Mathlib.Decide.{ℕ-discrete}
 use native.Mathlib.Omega.{arith}
+use borrow.Author.Tests.{eq-eqb, ne-eqb}
 use lib.Dec.{T, ltb, eqb, eqb→eq}
 use lib.ListN.{getD, set, length, length-set}
 use lib.Seq.{getD-set-same, getD-set-other}
 use Rattle.rules.specs.Lists.{range, every, head}
-use Rattle.bits.specs.Map.{bit, ones}
+use Rattle.bits.specs.Map.{digit, bit, ones}
 use Rattle.bits.proofs.Bits.{bit-le}
 use Rattle.bits.proofs.Counts.{ones-add, ones-clear}
 use Rattle.rules.specs.Pages.{size, fileOf, Page}
@@ -22,6 +23,7 @@ use Rattle.rules.specs.Views.{stateOf}
 use Rattle.rules.specs.declared.State.{State}
 use Rattle.rules.specs.declared.View.{View}
 use Rattle.rules.proofs.laws.Tests.{less, key}
+use Rattle.rules.proofs.laws.Cases.{passed}
 use Rattle.rules.proofs.laws.Members.{all-map, only-alike, range-at}
 use Rattle.rules.proofs.laws.Indexed.{every-all}
 use Rattle.rules.proofs.laws.Below.{one-more}
@@ -165,6 +167,17 @@ set-of-one b l f m =
     let test : ℕ → Bool = λ g. eqb (num (inSet (1 * 2 ^ b % 2 ^ 64) g)) (num (eqb g b)) in
     let there = range-at (λ g. T (test g)) 0 8 f (every-all test (range 0 8) here) (omega arith) (omega arith) in
     num-same _ _ (eqb→eq (num (inSet (1 * 2 ^ b % 2 ^ 64) f)) (num (eqb f b)) there)
+
+-- a file taken into a set is in it, and so is what was
+pub set-grown : (set r file : ℕ) → ((f : ℕ) → digit r f ≡ cond (eqb f file) 1 (digit set f)) → ((f : ℕ) → T (inSet set f) → T (inSet r f)) × T (inSet r file)
+set-grown set r file e = (λ f h. by f h (ℕ-discrete f file), new file refl)
+  where
+    new : (f : ℕ) → f ≡ file → T (inSet r f)
+    new f q = passed _ (eq-eqb (digit r f) 1 (e f ∙ rw (eq-eqb f file q)))
+
+    by : (f : ℕ) → T (inSet set f) → Dec (f ≡ file) → T (inSet r f)
+    by f h (yes q) = new f q
+    by f h (no q) = let d : digit r f ≡ digit set f = e f ∙ rw (ne-eqb f file q) in rw d h
 
 -- a file's cached pages are those up to its size
 whole-file : (s : State) → Valid s → (f : ℕ) → f < 8 → ones (s .cached) (f * 1024) 1024 ≡ ones (s .cached) (f * 1024) (size s f)

@@ -1,12 +1,14 @@
 -- The searches for the heads of the two orders, page by page. Assumes nothing.
 use mathlib.Core.Path.{_≡_, refl, sym, ap, ap₂, _∙_, subst}
 use mathlib.Core.Bool.{Bool, true, false, not, _&&_}
+use mathlib.Core.List.{List}
 use mathlib.Core.Option.{none, some}
 use Prim.Native.Nat.{ℕ, zero, suc, _+_, _-_, _*_, _≤_, _<_}
 use native.Mathlib.Decide.{ℕ-discrete, decLt}
 use native.Mathlib.Omega.{arith}
 use borrow.Author.Tests.{eq-eqb}
 use lib.Dec.{T, eqb, eqb→eq}
+use lib.ListN.{getD}
 use Rattle.bits.specs.Map.{bit, joined, nextBit}
 use Rattle.bits.proofs.Bits.{bit-le}
 use Rattle.bits.proofs.Finds.{Next, next-is, last-is}
@@ -37,6 +39,8 @@ use Rattle.rules.proofs.orders.Candidates.{
 }
 use Rattle.rules.specs.declared.State.{State}
 use Rattle.rules.specs.declared.Reader.{Reader}
+use Rattle.parts.specs.Held.{Held}
+use Rattle.parts.proofs.Carried.{held-some}
 use Rattle.order.specs.Choices.{inSet}
 use Rattle.order.specs.Searches.{lower, Over, Ranked, Raised, Topped, Highest, Soonest}
 use Rattle.order.specs.declared.Pick.{Pick}
@@ -161,21 +165,15 @@ module _ (s : State) (files : ℕ → Bool) where
     pub highest-nothing : p .value ≡ 0 → victimAmong files s ≡ none
     highest-nothing e = no-candidate s w files 16 (subst (NoneAbove s files 8 16) e above)
 
--- every file is in the set of all
-in-all : (f : ℕ) → f < 8 → T (inSet 255 f)
-in-all zero l = tt
-in-all (suc zero) l = tt
-in-all (suc (suc zero)) l = tt
-in-all (suc (suc (suc zero))) l = tt
-in-all (suc (suc (suc (suc zero)))) l = tt
-in-all (suc (suc (suc (suc (suc zero))))) l = tt
-in-all (suc (suc (suc (suc (suc (suc zero)))))) l = tt
-in-all (suc (suc (suc (suc (suc (suc (suc zero))))))) l = tt
-in-all (suc (suc (suc (suc (suc (suc (suc (suc f)))))))) l = absurd (omega arith)
-
--- of all files the page to give up is the box's, under the 1989 rule
-pub victim-of-all : (s : State) → Valid s → s .rule ≡ 0 → victimAmong (inSet 255) s ≡ victim s
-victim-of-all s w e = among-all s w e (inSet 255) in-all
+-- under the 1989 rule the page to give up is that of the files with cached pages
+pub victim-of-held : (s : State) → Valid s → s .rule ≡ 0 → (held : List ℕ) → Held (s .cached) held → (files : ℕ)
+    → ((f : ℕ) → f < 8 → 0 < getD held f 0 → T (inSet files f)) → victimAmong (inSet files) s ≡ victim s
+victim-of-held s w e held h files has = among-all s w e (inSet files) (λ k c. in-set k c (w .cached-in k c .low))
+  where
+    in-set : (k : ℕ) → T (cached s k) → k < 8192 → T (inSet files (fileOf k))
+    in-set k c l =
+        has (fileOf k) (omega arith)
+        (held-some (s .cached) held h k l (omega (arith, w .cached-map .all)) (eqb→eq (bit (s .cached) k) 1 c))
 
 -- ---- the next fetch
 

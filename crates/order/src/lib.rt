@@ -54,9 +54,6 @@ struct Lead {
     number: u64,
 }
 
-// The set of the files 0 to 7.
-const ALL_FILES: u64 = 255;
-
 // ---- the readers and their use keys
 
 pub fn terms_at(look_ahead: u32, fetch_time: u32, frames: u16, turn: u8, done: u64) -> Terms
@@ -486,14 +483,38 @@ pub fn set_of(file: usize) -> u64
     1u64 << file
 }
 
-// The files whose pages may go: all under the 1989 rule, the one chosen under the 1993 rule.
+// The set, and the file too if it has cached pages.
+fn and_held(set: u64, file: usize, pages: u16) -> u64
+    requires { ⌜ file < 8 ⌝ }
+    ensures { λ r. ⌜ ((f : ℕ) → T (inSet set f) → T (inSet r f)) × (0 < pages → T (inSet r file)) ⌝ }
+{
+    if 0 < pages {
+        return bits::with_digit(set, file);
+    }
+    set
+}
+
+// The set of the files that have cached pages. The others need no look.
+fn files_held(held: &[u16; 8]) -> u64
+    ensures { λ r. ⌜ ((f : ℕ) → f < 8 → 0 < getD (now (held .entry)) f 0 → T (inSet r f)) ⌝ }
+{
+    let mut set: u64 = 0;
+    let mut file: usize = 0;
+    while file < 8 {
+        set = and_held(set, file, held[file]);
+        file += 1;
+    }
+    set
+}
+
+// The files whose pages may go: those that have some under the 1989 rule, the one chosen under the 1993 rule.
 pub fn files_open(frames: u16, weights: &[u64; 9], held: &[u16; 8]) -> u64
     requires { ⌜ (frames ≤ 1024) × Weighed (now weights) × ((f : ℕ) → f < 8 → getD (now held) f 0 ≤ 1024) ⌝ }
     ensures { λ r. ⌜ ((v : View) (cached fetching : List ℕ) → Valid (stateOf v cached fetching) → frames ≡ v .frames → Weights v (now (weights .entry))
         → Held cached (now (held .entry)) → victimAmong (inSet r) (stateOf v cached fetching) ≡ victim (stateOf v cached fetching)) ⌝ }
 {
     if weights[8] == 0 {
-        return ALL_FILES;
+        return files_held(held);
     }
     set_of(chosen_file(frames, weights, held))
 }

@@ -37,6 +37,16 @@ counted-all cached held n l a = record { eight = a .eight; pages = λ f h. a .pa
 pub held-high : (cached held : List ℕ) → Held cached held → (f : ℕ) → f < 8 → getD held f 0 ≤ 1024
 held-high cached held a f l = omega (arith, a .pages f l, ones-le cached (f * 1024) 1024)
 
+-- the file of a cached page has one
+pub held-some : (cached held : List ℕ) → Held cached held → (k : ℕ) → k < 8192 → k / 64 < length cached → bit cached k ≡ 1 → 0 < getD held (k / 1024) 0
+held-some cached held a k low there e =
+    omega (
+      arith,
+      e,
+      a .pages (k / 1024) (omega arith),
+      ones-put cached k 0 (omega arith) there (k / 1024 * 1024) 1024 (omega arith) (omega arith),
+    )
+
 -- those of the first n files, summed, and of one more
 pub summed-more : (cached held : List ℕ) → Held cached held → (n taken : ℕ) → n < 8 → taken ≡ ones cached 0 (n * 1024)
     → taken + getD held n 0 ≡ ones cached 0 ((n + 1) * 1024)

@@ -1,8 +1,8 @@
 -- By whether a page was chosen.
 use native.Mathlib.Omega.{arith}
 use borrow.Author.Needs.{needs}
+use Rattle.parts.proofs.Carried.{held-some}
 use Rattle.calls.proofs.Choices.{chosen-key, is-key}
-use Rattle.calls.proofs.Frames.{held-some}
 use Rattle.calls.proofs.make_room.Statement.{statement}
 use Rattle.calls.proofs.make_room.Tie as tie
 

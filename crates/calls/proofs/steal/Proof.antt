@@ -3,8 +3,8 @@ use borrow.Author.Needs.{needs}
 use Rattle.rules.specs.Views.{stateOf}
 use Rattle.rules.specs.Orders.{victim}
 use Rattle.rules.specs.Calls.{stealOf}
+use Rattle.parts.proofs.Carried.{held-some}
 use Rattle.calls.proofs.Choices.{by-nothing, stole, victim-has}
-use Rattle.calls.proofs.Frames.{held-some}
 use Rattle.calls.proofs.steal.Statement.{statement}
 use Rattle.calls.proofs.steal.Tie as tie
 

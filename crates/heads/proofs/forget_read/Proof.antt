@@ -1,6 +1,7 @@
 -- The reader's file is forgotten, or the slot is empty.
 use borrow.Author.Needs.{needs}
 use mathlib.Core.Path.{sym, _∙_}
+use native.Mathlib.Omega.{arith}
 use Rattle.rules.proofs.laws.Cases.{passed}
 use Rattle.heads.proofs.Keeping.{forgot-none, forgot-as, not-read, none-read}
 use Rattle.heads.proofs.forget_read.Statement.{statement}
@@ -17,7 +18,7 @@ forget-requires c κs =
     let then-1 = c .before .before in
     let after-is-attached = then-1 .before in
     let at-start = after-is-attached .before in
-    (at-start .pre .1 (passed _ (sym (after-is-attached .is-attached .ensures) ∙ then-1 .if1 .taken)), at-start .pre .0)
+    (omega (arith, at-start .pre .1 (passed _ (sym (after-is-attached .is-attached .ensures) ∙ then-1 .if1 .taken))), at-start .pre .0)
 
 returns : tie.Need-returns
 returns c =

@@ -1,7 +1,7 @@
--- No weights: the set of all files. Else that of the file chosen.
+-- No weights: the set of the files with cached pages. Else that of the file chosen.
 use native.Mathlib.Omega.{arith}
 use borrow.Author.Needs.{needs}
-use Rattle.order.proofs.Searching.{victim-of-all}
+use Rattle.order.proofs.Searching.{victim-of-held}
 use Rattle.order.proofs.Leading.{no-rule, victim-of-one}
 use Rattle.order.proofs.files_open.Statement.{statement}
 use Rattle.order.proofs.files_open.Tie as tie
@@ -10,7 +10,12 @@ element-copy-out-if1 : tie.Need-element-copy-out-if1
 element-copy-out-if1 c = search needs
 
 returns : tie.Need-returns
-returns c = λ v cached fetching w e ws h. victim-of-all _ w (no-rule v _ ws (c .if1 .taken))
+returns c = λ v cached fetching w e ws h.
+    let then-1 = c .before in
+    victim-of-held _ w (no-rule v _ ws (then-1 .if1 .taken)) _ h _ (c .files-held .ensures)
+
+files-held-requires : tie.Need-files-held-requires
+files-held-requires c κs = search needs
 
 chosen-file-requires : tie.Need-chosen-file-requires
 chosen-file-requires c κs =
@@ -32,4 +37,10 @@ returns-2 c =
 pub files-open-spec : {M : Type 1} → statement M
 files-open-spec =
     tie.close
-    (tie.spec element-copy-out-if1 returns chosen-file-requires set-of-requires returns-2)
+    (tie.spec
+    element-copy-out-if1
+    files-held-requires
+    returns
+    chosen-file-requires
+    set-of-requires
+    returns-2)

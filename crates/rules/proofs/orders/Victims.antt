@@ -148,15 +148,15 @@ module _ (s : State) (w : Valid s) where
     pub victim-top : (v : ℕ) → victim s ≡ some v → (k : ℕ) → T (cached s k) → rank s k ≤ rank s v
     victim-top v q k h = among-top s w (λ f. true) v (sym victim-all ∙ q) k (and-both (cached s k) true h tt)
 
-    -- a set that has every file gives it
-    pub among-all : (files : ℕ → Bool) → ((f : ℕ) → f < 8 → T (files f)) → victimAmong files s ≡ victim s
+    -- a set that has the file of every cached page gives it
+    pub among-all : (files : ℕ → Bool) → ((k : ℕ) → T (cached s k) → T (files (fileOf k))) → victimAmong files s ≡ victim s
     among-all files has = go (victim s) refl
       where
         go : (o : Option ℕ) → victim s ≡ o → victimAmong files s ≡ victim s
         go none q = among-none s w files .1 (λ k c. no-victim .0 q k (and-first (cached s k) _ c)) ∙ sym q
         go (some v) q =
             let c = victim-cached v q in
-            head-is s w files v (and-both (cached s v) _ c (has (fileOf v) (omega (arith, w .cached-in v c .low))))
+            head-is s w files v (and-both (cached s v) _ c (has v c))
             (λ k h. victim-top v q k (and-first (cached s k) _ h))
             ∙ sym q
 
