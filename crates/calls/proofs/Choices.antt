@@ -21,16 +21,13 @@ use Rattle.rules.proofs.orders.Distinct.{wanted-page, fetch-wanted}
 use Rattle.rules.proofs.orders.Victims.{victim-cached}
 use Rattle.rules.proofs.calls.Landings.{dropped-some}
 use Rattle.order.specs.Choices.{chosen}
+use Rattle.order.proofs.Chosen.{chosen-key}
 use Rattle.order.specs.declared.Choice.{Choice}
 use Rattle.order.specs.declared.Choice.the-variants.{Key, Nothing}
 use Rattle.calls.specs.declared.Fetched.{Fetched}
 use Rattle.calls.specs.declared.Fetched.the-variants.{Open}
 use Rattle.calls.specs.Inner.{openFetch, CachedIn, eased, landedIn, arrivalOf}
 use Rattle.calls.proofs.Refusing.{does, found-key}
-
--- a choice with a key
-pub chosen-key : (g : Choice) (k : ℕ) → g ≡ Key k → chosen g ≡ some k
-chosen-key g k e = ap chosen e
 
 -- what is made of a choice with a key is made of the key
 pub is-key : {A : Type 0} (g : Choice) (k : ℕ) (f : ℕ → A) (x r : A) → g ≡ Key k → r ≡ f k → r ≡ onOption (chosen g) f x

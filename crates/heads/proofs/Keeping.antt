@@ -26,6 +26,7 @@ use Rattle.order.specs.declared.Choice.{Choice}
 use Rattle.order.specs.declared.Choice.the-variants.{Key, Nothing}
 use Rattle.order.specs.Choices.{chosen}
 use Rattle.order.specs.Searches.{alone}
+use Rattle.order.proofs.Chosen.{chosen-key}
 use Rattle.order.proofs.Firsts.{alone-file}
 use Rattle.heads.specs.Heads.{lasting, Best, Kept, Forgot, NotRead}
 
@@ -141,10 +142,6 @@ pub none-read : (r : Reader) (f : ℕ) → attached r ≡ false → NotRead f r
 none-read r f e = ap (λ b. b && eqb (r .file) f) e
 
 -- ---- what is forgotten of a choice
-
--- a choice with a key
-pub chosen-key : (g : Choice) (k : ℕ) → g ≡ Key k → chosen g ≡ some k
-chosen-key g k e = ap chosen e
 
 -- the file of the page that goes
 pub forgot-key : (heads left : List ℕ) (g : Choice) (k : ℕ) → g ≡ Key k → Forgot heads (λ f. f ≢ k / 1024) left

@@ -2,7 +2,8 @@
 use native.Mathlib.Omega.{arith}
 use borrow.Author.Needs.{needs}
 use Rattle.parts.proofs.Carried.{held-some}
-use Rattle.calls.proofs.Choices.{chosen-key, is-key}
+use Rattle.order.proofs.Chosen.{chosen-key}
+use Rattle.calls.proofs.Choices.{is-key}
 use Rattle.calls.proofs.make_room.Statement.{statement}
 use Rattle.calls.proofs.make_room.Tie as tie
 
