@@ -3,13 +3,10 @@ use Prim.Native.Nat.{ℕ, _≤_, _<_}
 use mathlib.Core.Path.{_≡_}
 use mathlib.Core.Bool.{cond}
 use mathlib.Core.List.{List}
-use mathlib.Core.Logic.{_≢_}
 use mathlib.Core.Option.{Option, some}
-use lib.ListN.{getD}
 use Rattle.bits.specs.Map.{bit, on}
 use Rattle.rules.specs.Lists.{onOption}
 use Rattle.rules.specs.Pages.{fileOf, pageOf, keyOf}
-use Rattle.rules.specs.Readers.{readerIn}
 use Rattle.rules.specs.Calls.{reply, withReaders, withReader, withFetching, withCached, without}
 use Rattle.parts.specs.Files.{noFileIn, noPageIn}
 use Rattle.rules.specs.declared.State.{State}
@@ -46,10 +43,6 @@ openFetch sizes fetching file page =
     cond (noFileIn sizes file) (NotOpen 3)
     (cond (noPageIn sizes file page) (NotOpen 8)
     (cond (on fetching (keyOf file page)) (Open (keyOf file page)) (NotOpen 9)))
-
--- every slot but this one has the record and the mark that it had
-abbrev pub OthersStay : View → ℕ → View → Type 0
-OthersStay v slot w = (j : ℕ) → j ≢ slot → (readerIn (w .readers) j ≡ readerIn (v .readers) j) × (getD (w .marks) j 0 ≡ getD (v .marks) j 0)
 
 -- the page chosen, if any, is one that the map has
 abbrev pub CachedIn : List ℕ → Option ℕ → Type 0

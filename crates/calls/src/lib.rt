@@ -1,4 +1,4 @@
-// The calls of the box, each as its rule has it. The state's two maps are lent; the rest, a view, is passed and returned.
+// Setup, Read on one record, Lost, Arrive, Steal, Prefetch, each as its rule has it. The state's two maps are lent; the rest, a view, is passed and returned.
 
 use order::Choice;
 use rules::Answer;
@@ -9,7 +9,7 @@ use rules::View;
 ghost use mathlib.Core.Path.{_≡_};
 ghost use mathlib.Core.Bool.{true};
 ghost use mathlib.Core.List.{List, [], map};
-ghost use Prim.Native.Nat.{ℕ, min, _+_, _≤_, _<_};
+ghost use Prim.Native.Nat.{ℕ, _≤_, _<_};
 ghost use lib.ListN.{getD, length, replicate};
 ghost use Rattle.bits.specs.Map.{bit, putBit};
 ghost use Rattle.rules.specs.Views.{stateOf, noPages, replyOf};
@@ -21,7 +21,6 @@ ghost use Rattle.rules.specs.Calls.{
   ruleIn,
   settingsIn,
   setupOf,
-  attachOf,
   readRunning,
   readOf,
   stealOf,
@@ -29,16 +28,12 @@ ghost use Rattle.rules.specs.Calls.{
   without,
   woken,
   arriveOf,
-  detachOf,
   lostOf,
   prefetchOf,
-  noInterval,
-  measuredPace,
-  measureOf,
 };
 ghost use Rattle.parts.specs.Held.{Held};
 ghost use Rattle.order.specs.Choices.{chosen};
-ghost use Rattle.calls.specs.Inner.{outcomeOf, refusal, Readable, stepped, openFetch, OthersStay, CachedIn, eased, landedIn, arrivalOf};
+ghost use Rattle.calls.specs.Inner.{outcomeOf, refusal, Readable, stepped, openFetch, CachedIn, eased, landedIn, arrivalOf};
 
 // What Arrive and Lost find of a page: the key of one that is in fetch, or the number of the refusal.
 pub enum Fetched {
@@ -60,7 +55,7 @@ pub struct Landing {
 
 // ---- outcomes and refusals
 
-fn outcome(view: View, answer: Answer) -> Outcome
+pub fn outcome(view: View, answer: Answer) -> Outcome
     ensures { λ r. ⌜ r ≡ outcomeOf view answer ⌝ }
 {
     Outcome { view, answer }
@@ -211,51 +206,7 @@ pub fn setup_by_rule(
     refuse(parts::idle(), 1)
 }
 
-// ---- the calls of a slot: one record changes, and the others stay
-
-// One more, up to 65,535.
-fn one_more(n: u16) -> u16
-    ensures { λ r. ⌜ r ≡ min 65535 (n + 1) ⌝ }
-{
-    if n < 65535 {
-        return n + 1;
-    }
-    n
-}
-
-// The slot's record is looked at last: 5 is the last of the refusals. Only an Attach that is carried out counts (A.6).
-pub fn attach(mut v: View, slot: u64, file: u64, pace: u64, start: u64, last: u64) -> Outcome
-    ensures { λ r. ⌜ ((c f : List ℕ) → replyOf r c f ≡ attachOf (stateOf v c f) slot file pace start last) ⌝ }
-    ensures one_record { λ r. ⌜ OthersStay v slot (r .view) ⌝ }
-{
-    if 15 < slot {
-        return refuse(v, 2);
-    }
-    let sizes = v.sizes;
-    if parts::no_file(sizes, file) {
-        return refuse(v, 3);
-    }
-    if !parts::within(1, 1000, pace) {
-        return refuse(v, 4);
-    }
-    let f = file as usize;
-    let size = sizes[f];
-    if parts::no_range(size, start, last) {
-        return refuse(v, 15);
-    }
-    let i = slot as usize;
-    let old = v.readers[i];
-    let condition = old.condition;
-    match condition {
-        Condition::Empty => {
-            v.readers[i] = parts::docked(file as u8, pace as u16, start as u16, last as u16);
-            v.marks[i] = start as u16;
-            v.attaches[f] = one_more(v.attaches[f]);
-            outcome(v, Answer::Done)
-        }
-        Condition::Running | Condition::Waiting => refuse(v, 5),
-    }
-}
+// ---- Read
 
 // The Read of a running reader, whose record is `old`. The view stays with the caller, which stores the record: a view is dear to pass.
 fn read_running(cached: &[u64; 128], fetching: &mut [u64; 128], old: Reader) -> Step
@@ -294,91 +245,6 @@ pub fn read_slot(cached: &[u64; 128], fetching: &mut [u64; 128], old: Reader) ->
         Condition::Running => read_running(cached, fetching, old),
         Condition::Waiting => answered(old, Answer::Refused(7)),
     }
-}
-
-pub fn read(mut v: View, cached: &[u64; 128], fetching: &mut [u64; 128], slot: u64) -> Outcome
-    requires { ⌜ Valid (stateOf v (now cached) (now fetching)) ⌝ }
-    ensures { λ r. ⌜ replyOf r (now (cached .entry)) (now (fetching .exit)) ≡ readOf (stateOf v (now (cached .entry)) (now (fetching .entry))) slot ⌝ }
-    ensures one_record { λ r. ⌜ OthersStay v slot (r .view) ⌝ }
-{
-    if 15 < slot {
-        return refuse(v, 2);
-    }
-    let i = slot as usize;
-    let r = read_slot(cached, fetching, v.readers[i]);
-    let answer = r.answer;
-    let reader = r.reader;
-    v.readers[i] = reader;
-    outcome(v, answer)
-}
-
-// No map is lent: a fetch that the reader waited for stays open.
-pub fn detach(mut v: View, slot: u64) -> Outcome
-    ensures { λ r. ⌜ ((c f : List ℕ) → replyOf r c f ≡ detachOf (stateOf v c f) slot) ⌝ }
-    ensures one_record { λ r. ⌜ OthersStay v slot (r .view) ⌝ }
-{
-    if 15 < slot {
-        return refuse(v, 2);
-    }
-    let i = slot as usize;
-    let old = v.readers[i];
-    let condition = old.condition;
-    match condition {
-        Condition::Empty => refuse(v, 6),
-        Condition::Running | Condition::Waiting => {
-            v.readers[i] = parts::no_reader();
-            v.marks[i] = 0;
-            outcome(v, Answer::Done)
-        }
-    }
-}
-
-// 16: an interval that is not 1 to 1,000,000 ticks, or more ticks blocked than it has.
-fn no_interval(interval: u64, blocked: u64) -> bool
-    ensures { λ r. ⌜ r ≡ noInterval interval blocked ⌝ }
-{
-    !parts::within(1, 1000000, interval) || interval < blocked
-}
-
-// The pace by what a reader has read since its mark. One that has read no page keeps its pace.
-fn measured_pace(old: Reader, mark: u16, interval: u64, blocked: u64) -> u16
-    requires { ⌜ blocked ≤ interval ⌝ }
-    ensures { λ r. ⌜ r ≡ measuredPace interval blocked old mark ⌝ }
-{
-    if old.position <= mark {
-        return old.pace;
-    }
-    let n = (old.position - mark) as u64;
-    let pace = (interval - blocked) / n;
-    if pace < 1 {
-        return 1;
-    }
-    if 1000 < pace {
-        return 1000;
-    }
-    pace as u16
-}
-
-// A reader that waits is measured as one that runs: the ticks for which it waited are blocked ones.
-pub fn measure(mut v: View, slot: u64, interval: u64, blocked: u64) -> Outcome
-    ensures { λ r. ⌜ ((c f : List ℕ) → replyOf r c f ≡ measureOf (stateOf v c f) slot interval blocked) ⌝ }
-    ensures one_record { λ r. ⌜ OthersStay v slot (r .view) ⌝ }
-{
-    if 15 < slot {
-        return refuse(v, 2);
-    }
-    let i = slot as usize;
-    let old = v.readers[i];
-    if !parts::is_attached(old) {
-        return refuse(v, 6);
-    }
-    if no_interval(interval, blocked) {
-        return refuse(v, 16);
-    }
-    let pace = measured_pace(old, v.marks[i], interval, blocked);
-    v.readers[i] = parts::paced(old, pace);
-    v.marks[i] = old.position;
-    outcome(v, Answer::Done)
 }
 
 // ---- the end of a fetch

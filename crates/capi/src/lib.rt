@@ -55,7 +55,7 @@ pub extern "C" fn quay_attach(
         return NO_IMAGE;
     }
     finish(
-        calls::attach(restored.view, slot, file, pace, start, last),
+        slots::attach(restored.view, slot, file, pace, start, last),
         &cached,
         &fetching,
         image,
@@ -78,7 +78,7 @@ pub extern "C" fn quay_detach(image: &mut [u8], slot: u64) -> u64
         return NO_IMAGE;
     }
     finish(
-        calls::detach(restored.view, slot),
+        slots::detach(restored.view, slot),
         &cached,
         &fetching,
         image,
@@ -100,7 +100,7 @@ pub extern "C" fn quay_read(image: &mut [u8], slot: u64) -> u64
     if !codes::carried_out(done) {
         return NO_IMAGE;
     }
-    let r = calls::read(restored.view, &cached, &mut fetching, slot);
+    let r = slots::read(restored.view, &cached, &mut fetching, slot);
     finish(r, &cached, &fetching, image)
 }
 
@@ -224,7 +224,7 @@ pub extern "C" fn quay_measure(image: &mut [u8], slot: u64, interval: u64, block
         return NO_IMAGE;
     }
     finish(
-        calls::measure(restored.view, slot, interval, blocked),
+        slots::measure(restored.view, slot, interval, blocked),
         &cached,
         &fetching,
         image,

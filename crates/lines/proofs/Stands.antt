@@ -21,7 +21,7 @@ use Rattle.text.specs.Streams.{OnePiece, Fed, behind, answered, feed, feedAll, 
 use Rattle.text.proofs.Pieces.{by-test, split-some}
 use Rattle.text.proofs.Keeps.{by-most, clipped-short, clipped-long, clipped-more, clipped-none, kept-length, text-kept, text-none, text-some}
 use Rattle.text.proofs.Feeds.{piece-last, pieces-behind, feed-line, feed-part, feed-none, feed-one, none-one, long-refused, fed-whole}
-use Rattle.lines.specs.Responses.{answerRoom, Roomy, lineEnd}
+use Rattle.answers.specs.Responses.{answerRoom, Roomy, lineEnd}
 use Rattle.lines.specs.Sessions.{Reached, taken, startOf, noText, Taken, saved, goneOf, feedOf, finishOf, StandsIn}
 use Rattle.lines.proofs.Taking.{ready-all, taken-cons, taken-stop, taken-valid, feed-taken}
 

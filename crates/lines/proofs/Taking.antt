@@ -34,10 +34,10 @@ use Rattle.text.specs.Streams.{Fed, behind, answered}
 use Rattle.text.proofs.Pieces.{split-some}
 use Rattle.text.proofs.Keeps.{by-most, end-line, end-last, text-none, kept-over, kept-fits, kept-front, kept-length, kept-same, kept-none, copied-whole}
 use Rattle.text.proofs.Asks.{parsed-long}
-use Rattle.lines.specs.Responses.{answerRoom, Roomy, lineEnd, Answered, Gives}
+use Rattle.answers.specs.Responses.{answerRoom, Roomy, lineEnd, Answered, Gives}
 use Rattle.lines.specs.Sessions.{taken, startOf, Gone, goneOf, Left, Taken, leftIn, fedIn, ready, saved, feedOf, finishOf}
 use Rattle.lines.proofs.Kept.{respond-kept}
-use Rattle.lines.proofs.Replies.{others, refused-by, carried-by}
+use Rattle.answers.proofs.Replies.{others, refused-by, carried-by}
 
 -- ---- can lines be taken?
 

@@ -1,3 +1,2 @@
 -- What the contracts of the lines speak of.
-pub mod Responses
 pub mod Sessions

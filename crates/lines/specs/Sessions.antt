@@ -15,7 +15,7 @@ use Rattle.rules.specs.Lines.{split}
 use Rattle.rules.specs.declared.State.{State}
 use Rattle.text.specs.Cuts.{textRoom, clipped, textIn, kept}
 use Rattle.text.specs.Streams.{OnePiece, Fed, behind, answered}
-use Rattle.lines.specs.Responses.{answerRoom, lineEnd}
+use Rattle.answers.specs.Responses.{answerRoom, lineEnd}
 use Rattle.lines.specs.declared.Went.{Went}
 use Rattle.lines.specs.declared.Progress.{Progress}
 

@@ -8,7 +8,7 @@ use Rattle.rules.specs.Calls.{idle}
 use Rattle.rules.specs.Image.{imageOf}
 use Rattle.text.specs.Streams.{Fed, feed, unfed}
 use Rattle.text.proofs.Feeds.{feed-none}
-use Rattle.lines.specs.Responses.{Roomy}
+use Rattle.answers.specs.Responses.{Roomy}
 use Rattle.lines.specs.Sessions.{noText, feedOf, StandsIn}
 use Rattle.lines.proofs.Stands.{stands-on, stands-first}
 use Rattle.quay.specs.Program.{Stands, Within, Handed, handedIn, handedOf}

@@ -9,7 +9,7 @@ ghost use lib.ListN.{length, take};
 ghost use Rattle.rules.specs.Calls.{idle};
 ghost use Rattle.rules.specs.Image.{imageOf};
 ghost use Rattle.text.specs.Streams.{Fed, feed};
-ghost use Rattle.lines.specs.Responses.{Roomy};
+ghost use Rattle.answers.specs.Responses.{Roomy};
 ghost use Rattle.lines.specs.Sessions.{noText, feedOf, finishOf, StandsIn};
 ghost use Rattle.quay.specs.Program.{Stands, Within, answersIn, handedOf, handedIn};
 

@@ -6,7 +6,7 @@ use native.Mathlib.Omega.{arith}
 use borrow.Author.Needs.{needs}
 use lib.ListN.{length, take}
 use lib.Seq.{length-take-le}
-use Rattle.lines.specs.Responses.{Roomy}
+use Rattle.answers.specs.Responses.{Roomy}
 use Rattle.quay.proofs.Pumping.{FedTo, fed-none, fed-more, fed-far, fed-all}
 use Rattle.quay.proofs.pump.Statement.{statement}
 use Rattle.quay.proofs.pump.Tie as tie

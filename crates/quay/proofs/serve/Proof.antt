@@ -3,7 +3,7 @@
 use mathlib.Core.Path.{_≡_, refl}
 use borrow.Author.Needs.{needs}
 use lib.ListN.{length}
-use Rattle.lines.specs.Responses.{Roomy}
+use Rattle.answers.specs.Responses.{Roomy}
 use Rattle.quay.specs.Program.{Stands}
 use Rattle.quay.proofs.Pumping.{starts, bytes-within}
 use Rattle.quay.proofs.serve.Statement.{statement}

@@ -1,0 +1,2 @@
+-- What the contracts of the answers speak of.
+pub mod Responses

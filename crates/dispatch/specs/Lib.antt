@@ -1,0 +1,2 @@
+-- What the contracts of the dispatch speak of.
+pub mod Requests

@@ -1,0 +1,2 @@
+-- What the contracts of the calls of a slot speak of.
+pub mod Others
