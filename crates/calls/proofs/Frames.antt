@@ -1,11 +1,11 @@
 -- Pages counted by the bits of a map: whether a frame is free, and what is known of a page before it is counted in or out. Assumes nothing.
-use Prim.Native.Nat.{ℕ, _*_, _/_, _≤_, _<_}
+use Prim.Native.Nat.{ℕ, _≤_, _<_}
 use mathlib.Core.Path.{_≡_, refl, sym, ap, _∙_}
 use mathlib.Core.List.{List}
 use mathlib.Core.Option.{Option, none, some}
 use native.Mathlib.Decide.{ℕ-discrete}
 use native.Mathlib.Omega.{arith}
-use lib.ListN.{length, getD}
+use lib.ListN.{length}
 use lib.Dec.{T, leb}
 use Rattle.bits.specs.Map.{bit, ones, on, putBit}
 use Rattle.bits.proofs.Bits.{put-other, put-length}
@@ -15,7 +15,6 @@ use Rattle.rules.specs.Valid.{Valid}
 use Rattle.rules.specs.Orders.{victim}
 use Rattle.rules.specs.Calls.{full, dropped}
 use Rattle.rules.specs.declared.State.{State}
-use Rattle.parts.specs.Held.{Held}
 use Rattle.calls.specs.Inner.{CachedIn, eased}
 use Rattle.rules.proofs.laws.Cases.{cond-yes, cond-no, outcomes}
 use Rattle.rules.proofs.laws.Counts.{count-ones, pages-count}

@@ -1,5 +1,5 @@
 -- The best of the files' heads is that of the page to give up. Assumes nothing.
-use mathlib.Core.Path.{_≡_, refl, sym, ap, subst, _∙_}
+use mathlib.Core.Path.{_≡_, refl, ap, subst, _∙_}
 use mathlib.Core.Bool.{Bool, true, false, cond}
 use mathlib.Core.List.{List}
 use mathlib.Core.Option.{none, some}
@@ -19,7 +19,7 @@ use Rattle.rules.proofs.orders.Distinct.{Stretch, behind, unseen, in-use, stret
 use Rattle.rules.specs.declared.State.{State}
 use Rattle.order.specs.declared.Pick.{Pick}
 use Rattle.order.specs.Searches.{alone, First}
-use Rattle.order.proofs.Firsts.{alone-in, alone-file}
+use Rattle.order.proofs.Firsts.{alone-file}
 use Rattle.heads.specs.Heads.{lasting, packed, Best, Kept}
 use Rattle.heads.proofs.Keeping.{lasting-near, lasting-far, kept-put}
 

@@ -13,12 +13,12 @@ ghost use mathlib.Core.Logic.{_≢_};
 ghost use mathlib.Core.Option.{some};
 ghost use Prim.Native.Nat.{ℕ, _≤_, _<_};
 ghost use lib.Dec.{T, ltb};
-ghost use lib.ListN.{getD, length};
+ghost use lib.ListN.{length};
 ghost use Rattle.rules.specs.Pages.{fileOf};
 ghost use Rattle.rules.specs.Readers.{attached};
 ghost use Rattle.rules.specs.Ranks.{victimAmong};
 ghost use Rattle.order.specs.Choices.{chosen, inSet};
-ghost use Rattle.order.specs.Searches.{stateUnder, Sighted, alone};
+ghost use Rattle.order.specs.Searches.{stateUnder, alone};
 ghost use Rattle.heads.specs.Heads.{packed, Best, Kept, Forgot, NotRead, Seen, SeenAll};
 
 // The head of a file without cached pages.

@@ -1,5 +1,5 @@
 -- The page of one file that goes first, as either search finds it. Assumes nothing.
-use mathlib.Core.Path.{_≡_, refl, sym, ap, subst, _∙_}
+use mathlib.Core.Path.{_≡_, refl}
 use mathlib.Core.Bool.{true}
 use mathlib.Core.Option.{none, some}
 use Prim.Native.Nat.{ℕ, _+_, _≤_, _<_}
@@ -8,9 +8,8 @@ use native.Mathlib.Omega.{arith}
 use borrow.Author.Tests.{eq-eqb}
 use lib.Dec.{T, eqb→eq}
 use Rattle.rules.specs.Pages.{fileOf, cached}
-use Rattle.rules.specs.Readers.{readerAt, readsFile}
 use Rattle.rules.specs.Valid.{Valid}
-use Rattle.rules.specs.Ranks.{rank, cachedAmong, victimAmong, AtMost}
+use Rattle.rules.specs.Ranks.{rank, cachedAmong, victimAmong}
 use Rattle.rules.proofs.laws.Tests.{and-second}
 use Rattle.rules.proofs.orders.Distinct.{among-top, among-none}
 use Rattle.rules.specs.declared.State.{State}

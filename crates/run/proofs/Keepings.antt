@@ -1,5 +1,5 @@
 -- What a turn leaves of the heads kept: those of the files that its reader does not read and of which no page goes. Assumes nothing.
-use Prim.Native.Nat.{ℕ, _+_, _%_, _<_}
+use Prim.Native.Nat.{ℕ, _+_, _<_}
 use mathlib.Core.Path.{_≡_, refl, sym, ap, ap₂, _∙_}
 use mathlib.Core.Bool.{Bool, _&&_, _||_}
 use mathlib.Core.List.{List}
@@ -9,12 +9,12 @@ use native.Mathlib.Decide.{ℕ-discrete}
 use native.Mathlib.Omega.{arith}
 use borrow.Author.Tests.{eqb-false}
 use lib.Dec.{T, eqb}
-use lib.ListN.{getD, set}
+use lib.ListN.{set}
 use lib.Seq.{getD-set-same, getD-set-other}
-use Rattle.bits.specs.Map.{bit, on, putBit}
+use Rattle.bits.specs.Map.{on, putBit}
 use Rattle.bits.proofs.Bits.{put-other}
-use Rattle.rules.specs.Pages.{fileOf, cached, inFetch}
-use Rattle.rules.specs.Readers.{noReader, readerIn, readerAt, attached, inCondition}
+use Rattle.rules.specs.Pages.{fileOf}
+use Rattle.rules.specs.Readers.{noReader, readerIn, attached, inCondition}
 use Rattle.rules.specs.Valid.{Valid}
 use Rattle.rules.specs.UseTimes.{present}
 use Rattle.rules.specs.Views.{stateOf}

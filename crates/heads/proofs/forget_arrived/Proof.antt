@@ -1,5 +1,4 @@
 -- Both files are forgotten, one after the other.
-use borrow.Author.Needs.{needs}
 use native.Mathlib.Omega.{arith}
 use Rattle.heads.proofs.Keeping.{forgot-both}
 use Rattle.heads.proofs.forget_arrived.Statement.{statement}

@@ -1,5 +1,4 @@
 -- By the test.
-use mathlib.Core.Path.{sym}
 use borrow.Author.Tests.{lt-ltb, le-ltb}
 use Rattle.heads.proofs.larger.Statement.{statement}
 use Rattle.heads.proofs.larger.Tie as tie

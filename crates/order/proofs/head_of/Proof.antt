@@ -1,6 +1,4 @@
 -- The file has a page that is ahead of no reader, or the best of its candidates goes first.
-use native.Mathlib.Omega.{arith}
-use borrow.Author.Needs.{needs}
 use Rattle.order.proofs.Firsts.{alone-in, ranked-none, rear-before, first-rear, first-topped}
 use Rattle.order.proofs.head_of.Statement.{statement}
 use Rattle.order.proofs.head_of.Tie as tie

@@ -3,16 +3,16 @@
 use mathlib.Core.Path.{_≡_, sym, _∙_, subst}
 use mathlib.Core.Bool.{not}
 use mathlib.Core.Logic.{_⊎_, inl, inr, _≢_}
-use Prim.Native.Nat.{ℕ, _+_, _-_, _*_, _%_, _≤_, _<_}
-use native.Mathlib.Decide.{ℕ-discrete, decLt}
+use Prim.Native.Nat.{ℕ, _+_, _-_, _%_, _≤_, _<_}
+use native.Mathlib.Decide.{decLt}
 use native.Mathlib.Omega.{arith}
 use lib.Dec.{T, T-not}
 use Rattle.rules.specs.Pages.{fileOf}
 use Rattle.rules.specs.Readers.{readerAt}
 use Rattle.rules.specs.Valid.{Valid}
-use Rattle.rules.specs.UseTimes.{sees, timeFor, seat, never, useFor, useKey, ahead, seen}
+use Rattle.rules.specs.UseTimes.{sees, seat, never, useFor, useKey, ahead, seen}
 use Rattle.rules.specs.Ranks.{rank}
-use Rattle.rules.proofs.laws.Tests.{side, is-true, sixteen}
+use Rattle.rules.proofs.laws.Tests.{side, sixteen}
 use Rattle.rules.proofs.orders.Ranks.{rank-behind, rank-unseen, rank-seen, seen-small}
 use Rattle.rules.proofs.orders.LookAheads.{use-for, use-least, met-by}
 use Rattle.rules.proofs.orders.Local.{NotOf, LikeFile, SameSlot, not-sees, slot-same, ahead-local, seen-local}
