@@ -20,7 +20,7 @@ use Rattle.rules.specs.declared.State.{State}
 use Rattle.order.specs.declared.Pick.{Pick}
 use Rattle.order.specs.Searches.{alone, First}
 use Rattle.order.proofs.Firsts.{alone-file}
-use Rattle.heads.specs.Heads.{lasting, packed, Best, Kept}
+use Rattle.heads.specs.Heads.{lasting, packed, HeadIs, Kept}
 use Rattle.heads.proofs.Keeping.{lasting-near, lasting-far, kept-put}
 
 -- a quotient and a remainder by 8192
@@ -78,10 +78,10 @@ module _ (s : State) (w : Valid s) (done : ℕ) (few : done ≤ 16384) where
 
   -- ---- a file's head, as it is found
 
-  head-found : (f : ℕ) (p : Pick) → First s f p → Best s done (alone f) 8 (packed done p)
+  head-found : (f : ℕ) (p : Pick) → First s f p → HeadIs s done (alone f) 8 (packed done p)
   head-found f p a = go (ℕ-discrete (p .value) 0)
     where
-      go : Dec (p .value ≡ 0) → Best s done (alone f) 8 (packed done p)
+      go : Dec (p .value ≡ 0) → HeadIs s done (alone f) 8 (packed done p)
       go (yes e) = rw (eq-eqb (p .value) 0 e) (record {
         known = omega arith;
         held = λ l. absurd (omega arith);
@@ -115,19 +115,19 @@ module _ (s : State) (w : Valid s) (done : ℕ) (few : done ≤ 16384) where
 
   -- it is put
   pub head-put : (f : ℕ) (p : Pick) (h : ℕ) (heads : List ℕ) → f < 8 → h ≡ packed done p → First s f p → Kept s done heads
-      → Best s done (alone f) 8 h × Kept s done (set heads f h)
+      → HeadIs s done (alone f) 8 h × Kept s done (set heads f h)
   head-put f p h heads l e a k = rw e (head-found f p a, kept-put s done heads f (packed done p) l k (head-found f p a))
 
   -- ---- the best of the files
 
   module _ (files : ℕ → Bool) where
     -- a search starts with none of the files
-    pub best-none : Best s done files 0 8192
+    pub best-none : HeadIs s done files 0 8192
     best-none = record { known = omega arith; held = λ l. absurd (omega arith); its = λ l. absurd (omega arith); top = λ k l. absurd (omega arith) }
 
-    module _ (n h : ℕ) (a : Best s done files n h) where
+    module _ (n h : ℕ) (a : HeadIs s done files n h) where
       -- one file more
-      pub best-more : (g : ℕ) → n < 8 → files n ≡ true → Best s done (alone n) 8 g → Best s done files (n + 1) (cond (ltb h g) g h)
+      pub best-more : (g : ℕ) → n < 8 → files n ≡ true → HeadIs s done (alone n) 8 g → HeadIs s done files (n + 1) (cond (ltb h g) g h)
       best-more g low in-set b = go (decLt h g)
         where
           -- its pages are those of the file
@@ -144,7 +144,7 @@ module _ (s : State) (w : Valid s) (done : ℕ) (few : done ≤ 16384) where
                   let q : g / 8192 ≤ x / 8192 = omega arith in
                   omega (arith, b .top k (omega arith) (here k e c))
 
-          go : Dec (h < g) → Best s done files (n + 1) (cond (ltb h g) g h)
+          go : Dec (h < g) → HeadIs s done files (n + 1) (cond (ltb h g) g h)
           go (yes l) = rw (lt-ltb h g l) (record {
             known = b .known;
             held = λ u.
@@ -157,7 +157,7 @@ module _ (s : State) (w : Valid s) (done : ℕ) (few : done ≤ 16384) where
           go (no l) = rw (le-ltb h g (omega arith)) (record { known = a .known; held = a .held; its = a .its; top = above h (omega arith) (omega arith) })
 
       -- one that is not of the set
-      pub best-skip : files n ≡ false → Best s done files (n + 1) h
+      pub best-skip : files n ≡ false → HeadIs s done files (n + 1) h
       best-skip e = record { known = a .known; held = a .held; its = a .its; top = λ k l c. by k l c (decLt (fileOf k) n) }
         where
           by : (k : ℕ) → fileOf k < n + 1 → T (cachedAmong files s k) → Dec (fileOf k < n) → lasting done (rank s k) ≤ h / 8192
@@ -167,10 +167,10 @@ module _ (s : State) (w : Valid s) (done : ℕ) (few : done ≤ 16384) where
               absurd (failed _ e (subst (λ i. T (files i)) q (and-second (cached s k) _ c)))
 
     -- all files
-    pub best-all : (n h : ℕ) → n ≡ 8 → Best s done files n h → Best s done files 8 h
+    pub best-all : (n h : ℕ) → n ≡ 8 → HeadIs s done files n h → HeadIs s done files 8 h
     best-all n h e a = rw e at a
 
-    module _ (h : ℕ) (a : Best s done files 8 h) where
+    module _ (h : ℕ) (a : HeadIs s done files 8 h) where
       low : (k : ℕ) → T (cachedAmong files s k) → fileOf k < 8
       low k c = omega (arith, w .cached-in k (and-first (cached s k) _ c) .low)
 

@@ -28,7 +28,7 @@ use Rattle.order.specs.Choices.{chosen}
 use Rattle.order.specs.Searches.{alone}
 use Rattle.order.proofs.Chosen.{chosen-key}
 use Rattle.order.proofs.Firsts.{alone-file}
-use Rattle.heads.specs.Heads.{lasting, Best, Kept, Forgot, NotRead}
+use Rattle.heads.specs.Heads.{lasting, HeadIs, Kept, Forgot, NotRead}
 
 -- ---- the numbers
 
@@ -45,7 +45,7 @@ lasting-far done r l = rw (le-ltb r never l)
 module _ (s t : State) (d e f : ℕ) where
   -- where a file's pages are cached in both or in neither, with one number, its head is one
   head-alike : ((k : ℕ) → fileOf k ≡ f → cached s k ≡ cached t k) → ((k : ℕ) → fileOf k ≡ f → lasting d (rank s k) ≡ lasting e (rank t k))
-      → (h : ℕ) → Best s d (alone f) 8 h → Best t e (alone f) 8 h
+      → (h : ℕ) → HeadIs s d (alone f) 8 h → HeadIs t e (alone f) 8 h
   head-alike same one h a = record {
     known = a .known;
     held = λ l. there (h % 8192) (a .held l);
@@ -61,12 +61,12 @@ module _ (s t : State) (d e f : ℕ) where
 
 module _ (s t : State) (done f : ℕ) where
   -- two states alike in the file
-  pub head-same : SameFile f t s → (h : ℕ) → Best s done (alone f) 8 h → Best t done (alone f) 8 h
+  pub head-same : SameFile f t s → (h : ℕ) → HeadIs s done (alone f) 8 h → HeadIs t done (alone f) 8 h
   head-same a =
       head-alike s t done done f (λ k q. sym (a .like .cached-same k q)) (λ k q. ap (lasting done) (sym (rank-local t s k (rw q a))))
 
   -- a turn that passed it
-  pub head-passed : Valid s → Valid t → PassedFile f s t → (h : ℕ) → Best s done (alone f) 8 h → Best t (done + 1) (alone f) 8 h
+  pub head-passed : Valid s → Valid t → PassedFile f s t → (h : ℕ) → HeadIs s done (alone f) 8 h → HeadIs t (done + 1) (alone f) 8 h
   head-passed v w a = head-alike s t done (done + 1) f (a .like .cached-same) (λ k q. by k (rank-passed s t v w k (rw q a)) (decLt (rank s k) never))
     where
       by : (k : ℕ) → (rank s k < never → rank s k ≡ rank t k + 1) × (never ≤ rank s k → rank s k ≡ rank t k) → Dec (rank s k < never)
@@ -85,19 +85,19 @@ pub kept-none : (s : State) (done : ℕ) (heads : List ℕ) → length heads ≡
 kept-none s done heads long none = record { long = long; each = λ f l h. absurd (omega (arith, none f l)) }
 
 -- a head is put
-pub kept-put : (s : State) (done : ℕ) (heads : List ℕ) (f h : ℕ) → f < 8 → Kept s done heads → Best s done (alone f) 8 h → Kept s done (set heads f h)
+pub kept-put : (s : State) (done : ℕ) (heads : List ℕ) (f h : ℕ) → f < 8 → Kept s done heads → HeadIs s done (alone f) 8 h → Kept s done (set heads f h)
 kept-put s done heads f h l a b = record {
   long = length-set heads f h ∙ a .long;
   each = λ g u p. by g u p (ℕ-discrete g f);
 }
   where
-    by : (g : ℕ) → g < 8 → 0 < getD (set heads f h) g 0 → Dec (g ≡ f) → Best s done (alone g) 8 (getD (set heads f h) g 0)
+    by : (g : ℕ) → g < 8 → 0 < getD (set heads f h) g 0 → Dec (g ≡ f) → HeadIs s done (alone g) 8 (getD (set heads f h) g 0)
     by g u p (yes e) = rw (e, getD-set-same heads f h 0 (omega (arith, a .long))) b
     by g u p (no e) = let q = getD-set-other heads f g h 0 e in rw q (a .each g u (rw q at p))
 
 -- what is not forgotten stays, where each such head does
 pub kept-over : (s t : State) (d e : ℕ) (heads left : List ℕ) (Stays : ℕ → Type 0) → Forgot heads Stays left
-    → ((f : ℕ) → f < 8 → Stays f → (h : ℕ) → Best s d (alone f) 8 h → Best t e (alone f) 8 h) → Kept s d heads → Kept t e left
+    → ((f : ℕ) → f < 8 → Stays f → (h : ℕ) → HeadIs s d (alone f) 8 h → HeadIs t e (alone f) 8 h) → Kept s d heads → Kept t e left
 kept-over s t d e heads left Stays o over a = record {
   long = o .long;
   each = λ f l p. let q = o .same f l p in rw q (over f l (o .stays f l p) _ (a .each f l (rw q at p)));

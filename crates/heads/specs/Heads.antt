@@ -16,16 +16,17 @@ use Rattle.order.specs.declared.Pick.{Pick}
 use Rattle.order.specs.declared.Terms.{Terms}
 use Rattle.order.specs.Searches.{Sighted, alone}
 
--- a rank after so many turns, as a number that stays while nothing of the page's file moves: a use key is counted from the first turn
+-- a rank after so many turns, as a number that stays while nothing of the page's file moves: to a use key the turns made are added. In a valid state a use key
+-- is 16 to 64,000,015, so with the 16,384 turns of a Run at most it stays below `never`: the order of the ranks is kept, and no page has the number 1
 abbrev pub lasting : ℕ → ℕ → ℕ
 lasting done rank = cond (ltb rank never) (rank + done) rank
 
--- a page found, with its rank, as a head; 1 is above the key where there is none
+-- a page found, with its rank, as a head; 8,192 where there is none, which is above 0, a head not known, and below that of every page
 abbrev pub packed : ℕ → Pick → ℕ
 packed done p = cond (eqb (p .value) 0) 8192 (lasting done (p .value) * 8192 + p .key)
 
--- after so many turns the head h is that of the page that goes first of the set's in the first n files, or that of no page where they have none cached
-pub record Best (s : State) (done : ℕ) (files : ℕ → Bool) (n h : ℕ) : Type 0 where
+-- after so many turns h is the head of a page of the set, or of none, and no cached page of the set in the first n files goes before it
+pub record HeadIs (s : State) (done : ℕ) (files : ℕ → Bool) (n h : ℕ) : Type 0 where
   pub known : 8192 ≤ h
   pub held : 8192 < h → T (cachedAmong files s (h % 8192))
   pub its : 8192 < h → lasting done (rank s (h % 8192)) ≡ h / 8192
@@ -34,23 +35,23 @@ pub record Best (s : State) (done : ℕ) (files : ℕ → Bool) (n h : ℕ) : Ty
 -- each head that is known is its file's
 pub record Kept (s : State) (done : ℕ) (heads : List ℕ) : Type 0 where
   pub long : length heads ≡ 8
-  pub each : (f : ℕ) → f < 8 → 0 < getD heads f 0 → Best s done (alone f) 8 (getD heads f 0)
+  pub each : (f : ℕ) → f < 8 → 0 < getD heads f 0 → HeadIs s done (alone f) 8 (getD heads f 0)
 
--- of what was kept only that of files that stay is known
+-- `left` is what was kept with some forgotten: what is still known is as it was, and its file is one that stays
 pub record Forgot (heads : List ℕ) (Stays : ℕ → Type 0) (left : List ℕ) : Type 0 where
   pub long : length left ≡ 8
   pub stays : (f : ℕ) → f < 8 → 0 < getD left f 0 → Stays f
   pub same : (f : ℕ) → f < 8 → 0 < getD left f 0 → getD left f 0 ≡ getD heads f 0
 
--- the file is not the one that the reader reads
+-- the slot is empty, or its reader's file is another
 abbrev pub NotRead : ℕ → Reader → Type 0
 NotRead f r = readsFile f r ≡ false
 
--- what a look at one file reads of a view, and what a look at all does
-pub record Seen (t : Terms) (size : ℕ) (seats cached fetching : List ℕ) (f : ℕ) (v : View) : Type 0 where
+-- under these terms and with these maps the view is a valid state, and the array has its readers; the size is that of the file, or the sizes are those of all
+pub record SightedFile (t : Terms) (size : ℕ) (seats cached fetching : List ℕ) (f : ℕ) (v : View) : Type 0 where
   pub sighted : Sighted t seats cached fetching v
   pub size-is : size ≡ getD (v .sizes) f 0
 
-pub record SeenAll (t : Terms) (sizes seats cached fetching : List ℕ) (v : View) : Type 0 where
+pub record SightedAll (t : Terms) (sizes seats cached fetching : List ℕ) (v : View) : Type 0 where
   pub sighted : Sighted t seats cached fetching v
   pub sizes-are : sizes ≡ v .sizes

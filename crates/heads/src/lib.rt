@@ -1,5 +1,5 @@
-// Each file's head over the turns of a Run: the page of the file that goes first. It is looked up when a page has to go, and stays known until a reader or a
-// page of its file moves. A head is one number, above the key what it ranks by, so that the higher goes first; 0 where it is not known.
+// Each file's head over the turns of a Run: the page of the file that goes first. It is looked up when a page has to go, and stays known until a reader of the
+// file has its turn or a page of it moves. A head is one number, above the key what it ranks by, so that the higher goes first; 0 where it is not known.
 
 use order::Choice;
 use order::Pick;
@@ -19,7 +19,7 @@ ghost use Rattle.rules.specs.Readers.{attached};
 ghost use Rattle.rules.specs.Ranks.{victimAmong};
 ghost use Rattle.order.specs.Choices.{chosen, inSet};
 ghost use Rattle.order.specs.Searches.{stateUnder, alone};
-ghost use Rattle.heads.specs.Heads.{packed, Best, Kept, Forgot, NotRead, Seen, SeenAll};
+ghost use Rattle.heads.specs.Heads.{packed, HeadIs, Kept, Forgot, NotRead, SightedFile, SightedAll};
 
 // The head of a file without cached pages.
 const NO_PAGE: u64 = 8192;
@@ -33,7 +33,7 @@ fn forget(heads: &mut [u64; 8], file: usize)
     heads[file] = 0;
 }
 
-// A reader moves.
+// A reader of the file, if the slot has one, has had its turn: it has moved, or is at its end.
 pub fn forget_read(heads: &mut [u64; 8], r: Reader)
     requires { ⌜ (length (now heads) ≡ 8) × (T (attached r) → r .file < 8) ⌝ }
     ensures { λ _. ⌜ Forgot (now (heads .entry)) (λ f. NotRead f r) (now (heads .exit)) ⌝ }
@@ -77,8 +77,8 @@ pub fn forget_arrived(heads: &mut [u64; 8], key: usize, gone: Choice)
 
 // ---- the page to give up
 
-// A page and its rank after so many turns as one number, which stays while nothing of the page's file moves: the use key of a page in a look-ahead falls by 1
-// with every turn, so it is counted from the first.
+// A page and its rank after so many turns as one number, which stays while nothing of the page's file moves. The use key of a page in a look-ahead falls by 1
+// with every turn of another file's reader, so the turns made are added to it.
 fn packed(head: Pick, done: u64) -> u64
     requires { ⌜ (done ≤ 16384) × (head .value < 200000000) ⌝ }
     ensures { λ r. ⌜ r ≡ packed done head ⌝ }
@@ -94,7 +94,7 @@ fn packed(head: Pick, done: u64) -> u64
 }
 
 // The head of a file: the one kept or, where none is known, the one looked up, which is kept from now on.
-fn head_of<'a>(
+fn head_kept<'a>(
     t: Terms,
     size: u16,
     seats: &[u16; 72],
@@ -103,10 +103,10 @@ fn head_of<'a>(
     heads: &mut [u64; 8],
     file: usize,
 ) -> u64
-    requires { ⌜ (file < 8) × (t .done ≤ 16384) × ((v : View) × Seen t size (now seats) (now cached) (now fetching) file v) ⌝ }
-    ensures { λ r. ⌜ ((v : View) → Seen t size (now (seats .entry)) (now (cached .entry)) (now (fetching .entry)) file v
+    requires { ⌜ (file < 8) × (t .done ≤ 16384) × ((v : View) × SightedFile t size (now seats) (now cached) (now fetching) file v) ⌝ }
+    ensures { λ r. ⌜ ((v : View) → SightedFile t size (now (seats .entry)) (now (cached .entry)) (now (fetching .entry)) file v
         → Kept (stateUnder t v (now (cached .entry)) (now (fetching .entry))) (t .done) (now (heads .entry))
-        → Best (stateUnder t v (now (cached .entry)) (now (fetching .entry))) (t .done) (alone file) 8 r
+        → HeadIs (stateUnder t v (now (cached .entry)) (now (fetching .entry))) (t .done) (alone file) 8 r
         × Kept (stateUnder t v (now (cached .entry)) (now (fetching .entry))) (t .done) (now (heads .exit))) ⌝ }
 {
     let kept = heads[file];
@@ -131,7 +131,7 @@ fn larger(a: u64, b: u64) -> u64
 }
 
 // The page to give up among the files of a set, after so many turns.
-pub fn victim_among<'a>(
+pub fn victim_kept<'a>(
     t: Terms,
     sizes: &[u16; 8],
     seats: &[u16; 72],
@@ -140,8 +140,8 @@ pub fn victim_among<'a>(
     heads: &mut [u64; 8],
     files: u64,
 ) -> Choice
-    requires { ⌜ (t .done ≤ 16384) × ((v : View) × SeenAll t (now sizes) (now seats) (now cached) (now fetching) v) ⌝ }
-    ensures { λ r. ⌜ ((v : View) → SeenAll t (now (sizes .entry)) (now (seats .entry)) (now (cached .entry)) (now (fetching .entry)) v
+    requires { ⌜ (t .done ≤ 16384) × ((v : View) × SightedAll t (now sizes) (now seats) (now cached) (now fetching) v) ⌝ }
+    ensures { λ r. ⌜ ((v : View) → SightedAll t (now (sizes .entry)) (now (seats .entry)) (now (cached .entry)) (now (fetching .entry)) v
         → Kept (stateUnder t v (now (cached .entry)) (now (fetching .entry))) (t .done) (now (heads .entry))
         → (chosen r ≡ victimAmong (inSet files) (stateUnder t v (now (cached .entry)) (now (fetching .entry))))
         × Kept (stateUnder t v (now (cached .entry)) (now (fetching .entry))) (t .done) (now (heads .exit))) ⌝ }
@@ -150,7 +150,7 @@ pub fn victim_among<'a>(
     let mut file: usize = 0;
     while file < 8 {
         if bits::has_digit(files, file) {
-            let head = head_of(t, sizes[file], seats, cached, fetching, heads, file);
+            let head = head_kept(t, sizes[file], seats, cached, fetching, heads, file);
             best = larger(best, head);
         }
         file += 1;

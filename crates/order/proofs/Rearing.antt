@@ -63,16 +63,24 @@ module _ (readers : List Reader) (f page : ℕ) where
           by (no g) (yes g2) = rw g2 (here-too (rw g2 at p))
           by (no g) (no g2) = absurd (seat-is readers f n .after j (omega arith) (omega arith) h)
 
+      low : next ≤ n
+      low = omega (arith, s, seat-is readers f n .high)
+
+      -- the slot met before
+      still : r < page
+          → (j : ℕ) × (next ≤ j) × (j < 16) × T (readsFile f (readerIn readers j)) × (readerIn readers j .position ≡ r) × (page ≤ readerIn readers j .last)
+      still h = let m = a .met h in (m .0, omega (arith, m .1, e, low), m .2, m .3, m .4, m .5)
+
       go : Dec (c < r) → Dec (page ≤ readerIn readers n .last) → Least readers f page next (cond (ltb c r && leb page (readerIn readers n .last)) c r)
       go (yes g) (yes p) = rw (lt-ltb c r g, le-leb page _ p) (record {
         low = omega (arith, a .low);
         all = from c (omega arith) (λ _. omega arith);
-        met = λ _. (n, l, here, refl, p);
+        met = λ _. (n, low, l, here, refl, p);
       })
       go (yes g) (no p) =
           rw (lt-ltb c r g, lt-leb page (readerIn readers n .last) (omega arith))
-          (record { low = a .low; all = from r (omega arith) (λ z. absurd (p z)); met = a .met })
-      go (no g) _ = rw (le-ltb c r (omega arith)) (record { low = a .low; all = from r (omega arith) (λ _. omega arith); met = a .met })
+          (record { low = a .low; all = from r (omega arith) (λ z. absurd (p z)); met = still })
+      go (no g) _ = rw (le-ltb c r (omega arith)) (record { low = a .low; all = from r (omega arith) (λ _. omega arith); met = still })
 
 -- ---- the pages passed over
 
@@ -110,7 +118,7 @@ module _ (readers : List Reader) (map : List ℕ) (f page r : ℕ) (few : page �
           absurd (omega (arith, z, eqb→eq (bit map k) 1 h))
       by k h e l u (no g) =
           let m = a .met (omega arith) in
-          has-before readers f k (m .0) (m .1) (m .2) e (omega (arith, m .3)) (omega (arith, m .4))
+          has-before readers f k (m .0) (m .2) (m .3) e (omega (arith, m .4)) (omega (arith, m .5))
 
   -- if that is the page itself, no reader has it before it
   pub back-free : last ≡ page → Free readers f last

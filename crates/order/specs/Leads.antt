@@ -27,7 +27,7 @@ pagesIn held f = getD held f 0
 abbrev pub weightsOf : View → ℕ → ℕ
 weightsOf v = weightIn (v .expected) (v .attaches) (v .sizes)
 
--- the files' weights and, at 8, their sum, in one array; under the 1989 rule all are 0, which the sum never is under the other
+-- the files' weights and, at 8, `weightSum`, which is never 0, in one array; under the 1989 rule all are 0
 pub record Weights (v : View) (weights : List ℕ) : Type 0 where
   pub none : v .rule ≡ 0 → weights ≡ replicate 9 0
   pub sum : v .rule ≢ 0 → getD weights 8 0 ≡ weightSum (weightsOf v)

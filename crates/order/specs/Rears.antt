@@ -23,7 +23,8 @@ Ahead readers k = (j : ℕ) × (j < 16) × T (before (readerIn readers j) k)
 pub record Least (readers : List Reader) (f page n r : ℕ) : Type 0 where
   pub low : r ≤ page
   pub all : (j : ℕ) → n ≤ j → j < 16 → T (readsFile f (readerIn readers j)) → page ≤ readerIn readers j .last → r ≤ readerIn readers j .position
-  pub met : r < page → (j : ℕ) × (j < 16) × T (readsFile f (readerIn readers j)) × (readerIn readers j .position ≡ r) × (page ≤ readerIn readers j .last)
+  pub met : r < page
+      → (j : ℕ) × (n ≤ j) × (j < 16) × T (readsFile f (readerIn readers j)) × (readerIn readers j .position ≡ r) × (page ≤ readerIn readers j .last)
 
 -- page r of file f is cached, if it is one, and every cached page after it, up to `page`, is ahead of a reader
 pub record Back (readers : List Reader) (cached : List ℕ) (f page r : ℕ) : Type 0 where

@@ -19,7 +19,7 @@ use Rattle.order.specs.Seats.{Seated}
 
 -- ---- what a search reads of a view
 
--- the view's terms, at this turn, after so many
+-- the view's terms, at this turn, after so many turns
 abbrev pub termsOf : View → ℕ → ℕ → Terms
 termsOf v turn done = record { «look_ahead» = v .«look_ahead»; «fetch_time» = v .«fetch_time»; frames = v .frames; turn = turn; done = done }
 
@@ -48,7 +48,7 @@ pub record Sits (v : View) (slot position pace k : ℕ) : Type 0 where
   pub position-is : position ≡ readerIn (v .readers) slot .position
   pub pace-is : pace ≡ readerIn (v .readers) slot .pace
 
--- that state is valid, and its readers are in this array
+-- `stateUnder` is valid, and its readers are in this array
 pub record Sighted (t : Terms) (seats cached fetching : List ℕ) (v : View) : Type 0 where
   pub valid : Valid (stateUnder t v cached fetching)
   pub seated : Seated (v .readers) 16 seats

@@ -153,7 +153,7 @@ pub fn seats_of(readers: [Reader; 16]) -> [u16; 72]
 
 // ---- the page to give up, where a page is ahead of no reader
 
-// The lesser of `least` and a reader's position, where the reader has a page up to its last one.
+// The lesser of `least` and a reader's position, where the page is not past the reader's last.
 fn nearer(position: u16, last: u16, page: usize, least: usize) -> usize
     ensures { λ r. ⌜ r ≡ cond (ltb position least && leb page last) position least ⌝ }
     ensures low { λ r. ⌜ r ≤ least ⌝ }
@@ -183,8 +183,8 @@ fn least_ahead(seats: &[u16; 72], file: usize, page: usize) -> usize
     least
 }
 
-// The last cached page of the file that is not passed over: those between it and the page are ahead of one and the same reader. The page itself, if it is
-// cached and ahead of none.
+// The last cached page of the file that a step back does not pass over: every cached one between it and the page is ahead of a reader. The page itself, if it
+// is cached and ahead of none.
 fn back_from(seats: &[u16; 72], cached: &[u64; 128], file: usize, page: usize) -> usize
     requires { ⌜ (file < 8) × (page ≤ 1024) × SeatsOf (now seats) ⌝ }
     ensures { λ r. ⌜ ((readers : List Reader) → Seated readers 16 (now (seats .entry))
@@ -199,7 +199,7 @@ fn behind_all(seats: &[u16; 72], cached: &[u64; 128], file: usize, size: u16) ->
     requires { ⌜ (file < 8) × (size ≤ 1024) × SeatsOf (now seats) ⌝ }
     ensures { λ r. ⌜ ((readers : List Reader) → Seated readers 16 (now (seats .entry))
         → Back readers (now (cached .entry)) file size r × Free readers file r) ⌝ }
-    ensures low { λ r. ⌜ r ≤ 1024 ⌝ }
+    ensures low { λ r. ⌜ r ≤ size ⌝ }
 {
     let mut page = back_from(seats, cached, file, size as usize);
     if page == 0 {
@@ -440,7 +440,7 @@ fn fuller(pages: u16, frames: u16, sum: u64, weight: u64, file: usize, best: Lea
     best
 }
 
-// The files' weights, and at 8 their sum, as the 1993 rule has them; all 0 under the 1989 rule, where none is asked for. A sum of weights is never 0.
+// The files' weights, and at 8 what shares are of, which is 1 where all weights are 0; all 0 under the 1989 rule, where none is asked for.
 pub fn weights_of(v: View) -> [u64; 9]
     ensures { λ r. ⌜ Weights v r ⌝ }
 {
@@ -483,7 +483,7 @@ pub fn set_of(file: usize) -> u64
     1u64 << file
 }
 
-// The set, and the file too if it has cached pages.
+// A set that has what was in the set, and the file if it has cached pages.
 fn and_held(set: u64, file: usize, pages: u16) -> u64
     requires { ⌜ file < 8 ⌝ }
     ensures { λ r. ⌜ ((f : ℕ) → T (inSet set f) → T (inSet r f)) × (0 < pages → T (inSet r file)) ⌝ }
@@ -494,7 +494,7 @@ fn and_held(set: u64, file: usize, pages: u16) -> u64
     set
 }
 
-// The set of the files that have cached pages. The others need no look.
+// A set that has every file with cached pages. One more would do no harm, but would be looked at for nothing.
 fn files_held(held: &[u16; 8]) -> u64
     ensures { λ r. ⌜ ((f : ℕ) → f < 8 → 0 < getD (now (held .entry)) f 0 → T (inSet r f)) ⌝ }
 {

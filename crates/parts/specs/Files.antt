@@ -15,7 +15,7 @@ use Rattle.rules.specs.declared.State.{State}
 abbrev pub sizedWith : List ℕ → List ℕ → State
 sizedWith sizes fetching = withFetching (fresh 1 1 0 sizes 0 (replicate 8 0)) fetching
 
--- of these sizes, whatever is in fetch
+-- of these sizes, with nothing in fetch, which tests of files and pages do not look at
 abbrev sized : List ℕ → State
 sized sizes = sizedWith sizes noPages
 

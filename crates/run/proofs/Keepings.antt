@@ -33,7 +33,7 @@ use Rattle.order.specs.Searches.{stateUnder}
 use Rattle.heads.specs.Heads.{Kept, Forgot, NotRead}
 use Rattle.heads.proofs.Keeping.{head-same, head-passed, kept-over, not-read}
 use Rattle.calls.specs.Inner.{eased}
-use Rattle.run.specs.Places.{movedTo, goneOn, Turning}
+use Rattle.run.specs.Places.{movedTo, afterTurn, Turning}
 use Rattle.run.proofs.Turnings.{valid, waits}
 
 -- a page of another file is not touched
@@ -76,7 +76,7 @@ module _ (t : Terms) (sizes weights seats map fetching heads : List ℕ) (r : Re
   -- ---- the turn met no F
 
   module _ (p : ℕ) (still : List ℕ) (e : still ≡ fetching) where
-    passes : (f : ℕ) → NotRead f r → PassedFile f s (stateOf (goneOn t w r p) map still)
+    passes : (f : ℕ) → NotRead f r → PassedFile f s (stateOf (afterTurn t w r p) map still)
     unfolding present
     passes f n = record {
       like = record {
@@ -93,11 +93,11 @@ module _ (t : Terms) (sizes weights seats map fetching heads : List ℕ) (r : Re
     }
 
     -- only the head of its reader's file is to be forgotten
-    pub kept-moved : (left : List ℕ) → Valid (stateOf (goneOn t w r p) map still) → Forgot heads (λ f. NotRead f r) left
-        → Kept (stateOf (goneOn t w r p) map still) (t .done + 1) left
+    pub kept-moved : (left : List ℕ) → Valid (stateOf (afterTurn t w r p) map still) → Forgot heads (λ f. NotRead f r) left
+        → Kept (stateOf (afterTurn t w r p) map still) (t .done + 1) left
     kept-moved left v o =
-        kept-over s (stateOf (goneOn t w r p) map still) (t .done) (t .done + 1) heads left (λ f. NotRead f r) o
-        (λ f l n. head-passed s (stateOf (goneOn t w r p) map still) (t .done) f here v (passes f n)) (g .kept)
+        kept-over s (stateOf (afterTurn t w r p) map still) (t .done) (t .done + 1) heads left (λ f. NotRead f r) o
+        (λ f l n. head-passed s (stateOf (afterTurn t w r p) map still) (t .done) f here v (passes f n)) (g .kept)
 
   -- ---- it met F
 
@@ -141,7 +141,7 @@ module _ (t : Terms) (sizes weights seats map fetching heads : List ℕ) (r : Re
     module _ (p : ℕ) (gone : Option ℕ) (key : ℕ) (map′ still : List ℕ) (ek : key ≡ keyNow s) (em : map′ ≡ putBit (eased map gone) key 1)
         (es : on still ≡ on fetching) where
       abbrev after : State
-      after = stateOf (goneOn t w r p) map′ still
+      after = stateOf (afterTurn t w r p) map′ still
 
       -- what is not to be forgotten then
       abbrev Stays : ℕ → Type 0

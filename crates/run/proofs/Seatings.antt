@@ -37,10 +37,10 @@ moved-more readers seats n next q l a e = record {
 }
 
 -- all
-pub moved-all : (readers : List Reader) (seats : List ℕ) (n : ℕ) (next after : List Reader) → 16 ≤ n → Moved readers seats n next → length after ≡ 16
-    → Posed readers seats after → next ≡ after
-moved-all readers seats n next after l a e p =
-    ext-getD noReader next after (a .sixteen ∙ sym e) (λ j h. a .done j (omega (arith, a .sixteen)) ∙ sym (p .moved j (omega (arith, a .sixteen))))
+pub moved-all : (readers : List Reader) (seats : List ℕ) (next after : List Reader) → length next ≡ 16
+    → ((j : ℕ) → j < 16 → readerIn next j ≡ movedTo (getD seats j 0) (readerIn readers j)) → length after ≡ 16 → Posed readers seats after → next ≡ after
+moved-all readers seats next after sixteen done e p =
+    ext-getD noReader next after (sixteen ∙ sym e) (λ j h. done j (omega (arith, sixteen)) ∙ sym (p .moved j (omega (arith, sixteen))))
 
 -- ---- over the turns
 

@@ -34,25 +34,25 @@ reseated v turn readers = record {
 }
 
 -- the view after a turn whose reader, r, is then at position p
-abbrev pub goneOn : Terms → View → Reader → ℕ → View
-goneOn t w r p = reseated (under t w) ((t .turn + 1) % 16) (set (w .readers) (t .turn) (movedTo p r))
+abbrev pub afterTurn : Terms → View → Reader → ℕ → View
+afterTurn t w r p = reseated (under t w) ((t .turn + 1) % 16) (set (w .readers) (t .turn) (movedTo p r))
 
--- the readers are these, each at the position that the array has for its slot
-pub record Posed (readers : List Reader) (seats : List ℕ) (now : List Reader) : Type 0 where
-  pub moved : (j : ℕ) → j < 16 → readerIn now j ≡ movedTo (getD seats j 0) (readerIn readers j)
-  pub seated : Seated now 16 seats
+-- `after` are these readers, each at the position that the array has for its slot, and the array is that of `after`
+pub record Posed (readers : List Reader) (seats : List ℕ) (after : List Reader) : Type 0 where
+  pub moved : (j : ℕ) → j < 16 → readerIn after j ≡ movedTo (getD seats j 0) (readerIn readers j)
+  pub seated : Seated after 16 seats
 
 -- no page is in fetch
 abbrev pub Quiet : List ℕ → Type 0
 Quiet fetching = (k : ℕ) → T (on fetching k) → ⊥
 
--- what the choice of a page to drop reads of a view under these terms
+-- under these terms and with these maps the view is a valid state, and these arrays have its sizes, its weights and its readers
 pub record Choosing (t : Terms) (sizes weights seats cached fetching : List ℕ) (w : View) : Type 0 where
   pub sighted : Sighted t seats cached fetching w
   pub sizes-are : sizes ≡ w .sizes
   pub weights-are : Weights (under t w) weights
 
--- what a turn reads of it: the turn's slot has this record, no page is in fetch, and these heads are kept
+-- so it is before a turn: the turn's slot has this record, no page is in fetch, and these heads are kept
 pub record Turning (t : Terms) (sizes weights seats cached fetching heads : List ℕ) (r : Reader) (w : View) : Type 0 where
   pub choosing : Choosing t sizes weights seats cached fetching w
   pub quiet : Quiet fetching

@@ -12,7 +12,7 @@ use Rattle.order.specs.declared.Terms.{Terms}
 use Rattle.order.specs.Searches.{stateUnder}
 use Rattle.heads.specs.Heads.{Kept}
 use Rattle.run.specs.declared.Turned.{Turned}
-use Rattle.run.specs.Places.{goneOn, Quiet}
+use Rattle.run.specs.Places.{afterTurn, Quiet}
 
 -- the state after a turn, 1 if it met F, and 1 if it ended in H
 pub record Tally : Type 0 where
@@ -32,15 +32,15 @@ turned t w cached fetching = record { after = stateOf w cached fetching; fetched
 abbrev pub Single : Turned → Type 0
 Single t = (t .fetched ≤ 1) × (t .read ≤ 1)
 
--- a turn of the view w made on an array and on maps: the turn's reader, r, is at position p now, there as in the view, and the rest is the rule's; and the
--- heads kept then
+-- a turn of the view w made on an array and on maps: the turn's reader, r, is at position p now, in the array as in the view, the rest is the rule's, and
+-- these heads are kept
 pub record Made (t : Terms) (w : View) (r : Reader) (seats cached fetching : List ℕ) (q : Turned)
     (seats′ cached′ fetching′ heads′ : List ℕ) (p : ℕ) : Type 0 where
   pub placed : seats′ ≡ set seats (t .turn) p
-  pub told : turned q (goneOn t w r p) cached′ fetching′
+  pub told : turned q (afterTurn t w r p) cached′ fetching′
       ≡ tally (turnOf (stateUnder t w cached fetching))
   pub still : Quiet fetching′
-  pub kept : Kept (stateOf (goneOn t w r p) cached′ fetching′) (t .done + 1) heads′
+  pub kept : Kept (stateOf (afterTurn t w r p) cached′ fetching′) (t .done + 1) heads′
 
 -- the state after some turns, the fetches and the reads
 abbrev pub soFar : State → ℕ → ℕ → Turns

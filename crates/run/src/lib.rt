@@ -10,8 +10,9 @@ use rules::Reader;
 use rules::View;
 ghost use mathlib.Core.Path.{_≡_};
 ghost use mathlib.Core.List.{List};
-ghost use Prim.Native.Nat.{ℕ, _≤_};
-ghost use lib.ListN.{length};
+ghost use Prim.Native.Nat.{ℕ, _≤_, _<_};
+ghost use lib.ListN.{getD, length};
+ghost use Rattle.rules.specs.Readers.{readerIn};
 ghost use Rattle.rules.specs.Views.{stateOf, replyOf};
 ghost use Rattle.rules.specs.Valid.{Valid};
 ghost use Rattle.rules.specs.Calls.{dropped};
@@ -87,7 +88,7 @@ fn give_up<'a>(
         return Choice::Nothing;
     }
     let files = order::files_open(t.frames, weights, held);
-    heads::victim_among(t, sizes, seats, cached, fetching, heads, files)
+    heads::victim_kept(t, sizes, seats, cached, fetching, heads, files)
 }
 
 // One turn, of the slot whose record is `r`. Read refuses an empty slot and changes nothing, so the slot is not looked at before.
@@ -133,7 +134,7 @@ fn turn<'a>(
 
 // The readers where the array has them.
 fn readers_at(readers: [Reader; 16], seats: &[u16; 72]) -> [Reader; 16]
-    ensures { λ r. ⌜ ((now : List Reader) → length now ≡ 16 → Posed readers (seats .entry .now) now → r ≡ now) ⌝ }
+    ensures { λ r. ⌜ (length r ≡ 16) × ((j : ℕ) → j < 16 → readerIn r j ≡ movedTo (getD (now (seats .entry)) j 0) (readerIn readers j)) ⌝ }
 {
     let mut next = readers;
     let mut j: usize = 0;
@@ -159,7 +160,8 @@ fn go_on(
     requires { ⌜ Held (now cached) (now held) × Kept (stateOf v (now cached) (now fetching)) 0 (now heads) ⌝ }
     ensures { λ r. ⌜ ((after : List Reader) × (Posed (v .readers) (now (seats .exit)) after
         × (soFar (stateOf (reseated v (r .slot) after) (now (cached .exit)) (now (fetching .exit))) (r .fetches) (r .reads)
-        ≡ turnsOf turns (stateOf v (now (cached .entry)) (now (fetching .entry)))))) ⌝ }
+        ≡ turnsOf turns (stateOf v (now (cached .entry)) (now (fetching .entry))))
+        × Kept (stateOf (reseated v (r .slot) after) (now (cached .exit)) (now (fetching .exit))) turns (now (heads .exit)))) ⌝ }
     ensures counted { λ _. ⌜ Held (now (cached .exit)) (now (held .exit)) ⌝ }
 {
     let sizes = v.sizes;

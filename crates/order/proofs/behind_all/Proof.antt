@@ -14,7 +14,7 @@ use Rattle.order.proofs.behind_all.Tie as tie
 
 abbrev Inv-loop : tie.InvT-loop
 Inv-loop seats cached file size page₀ next₀ page next =
-    (page ≤ 1024)
+    (page ≤ size)
     × (next ≤ page)
     × ((readers : List Reader) → Seated readers 16 seats
     → Back readers cached file size page × (Back readers cached file page next × (next ≡ page → Free readers file next)))
@@ -36,9 +36,8 @@ back-from-requires-2 c κs = search needs
 
 loop-holds : tie.Need-loop-holds Inv-loop μ-loop
 loop-holds c =
-    let after-back-from = c .before .before in
-    let at-start = after-back-from .before in (
-      omega (arith, after-back-from .back-from .ensures .1, at-start .pre .1),
+    let after-back-from = c .before .before in (
+      after-back-from .back-from .ensures .1,
       c .back-from2 .ensures .1,
       λ readers g. (after-back-from .back-from .ensures .0 readers g .0, c .back-from2 .ensures .0 readers g),
     )

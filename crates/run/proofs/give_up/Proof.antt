@@ -29,8 +29,8 @@ files-open-requires c κs =
       held-high _ _ (at-start .pre .1 .1),
     )
 
-victim-among-requires : tie.Need-victim-among-requires
-victim-among-requires c κs =
+victim-kept-requires : tie.Need-victim-kept-requires
+victim-kept-requires c κs =
     let at-start = c .before .before .before .before .before in
     let g = at-start .pre .0 .1 in
     (at-start .pre .1 .0, (at-start .pre .0 .0, record { sighted = g .sighted; sizes-are = g .sizes-are }))
@@ -41,7 +41,7 @@ returns-2 c = λ w g k.
     let else-1 = opened .before in
     let after-taken = else-1 .before .before in
     let at-start = after-taken .before in
-    let found = c .victim-among .ensures w record { sighted = g .sighted; sizes-are = g .sizes-are } k in (
+    let found = c .victim-kept .ensures w record { sighted = g .sighted; sizes-are = g .sizes-are } k in (
       found .0
           ∙ opened .files-open .ensures _ _ _ (g .sighted .valid) refl (g .weights-are) (at-start .pre .1 .1)
           ∙ taken-victim _ (g .sighted .valid) _ (after-taken .taken .ensures _ (at-start .pre .1 .1)) (omega (arith, else-1 .if1 .left)),
@@ -50,4 +50,4 @@ returns-2 c = λ w g k.
 
 pub give-up-spec : {M : Type 1} → statement M
 give-up-spec =
-    tie.close (tie.spec taken-requires cast-if1 returns files-open-requires victim-among-requires returns-2)
+    tie.close (tie.spec taken-requires cast-if1 returns files-open-requires victim-kept-requires returns-2)

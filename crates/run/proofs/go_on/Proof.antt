@@ -179,8 +179,10 @@ returns c =
     let i = l .inv .6 .1 in
     let at-start = start at-loop in
     let a = at-start .args in
-    let e : l .i ≡ a .turns = omega (arith, l .inv .0, c .loop-test .left) in
-    ((_, (i .0, i .1 .1 .0 ∙ ap (λ n. turnsOf n (stateOf (a .t1) (a .cached .now) (a .fetching .now))) e)), l .inv .4)
+    let e : l .i ≡ a .turns = omega (arith, l .inv .0, c .loop-test .left) in (
+      (_, (i .0, i .1 .1 .0 ∙ ap (λ n. turnsOf n (stateOf (a .t1) (a .cached .now) (a .fetching .now))) e, rw e at (i .1 .1 .1))),
+      l .inv .4,
+    )
 
 pub go-on-spec : {M : Type 1} → statement M
 go-on-spec =

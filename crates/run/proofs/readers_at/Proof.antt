@@ -2,7 +2,7 @@
 use Prim.Native.Nat.{_-_, _≤_}
 use native.Mathlib.Omega.{arith}
 use borrow.Author.Needs.{needs}
-use Rattle.run.proofs.Seatings.{Moved, moved-none, moved-more, moved-all}
+use Rattle.run.proofs.Seatings.{Moved, moved-none, moved-more}
 use Rattle.run.proofs.readers_at.Statement.{statement}
 use Rattle.run.proofs.readers_at.Tie as tie
 
@@ -49,9 +49,9 @@ loop-again c =
     (omega (arith, at-loop-test .loop-test .taken), moved-more _ _ _ _ _ (at-loop-test .loop-test .taken) (at-loop .loop .inv .1) (c .at-position .ensures))
 
 returns : tie.Need-returns Inv-loop μ-loop
-returns c = λ after e p.
+returns c =
     let l = c .before .loop in
-    moved-all _ _ (l .j) _ after (omega (arith, c .loop-test .left)) (l .inv .1) e p
+    (l .inv .1 .sixteen, λ j h. l .inv .1 .done j (omega (arith, c .loop-test .left)))
 
 pub readers-at-spec : {M : Type 1} → statement M
 readers-at-spec =

@@ -6,6 +6,7 @@ use lib.ListN.{getD-replicate}
 use Rattle.rules.proofs.calls.Valids.{placed-at}
 use Rattle.rules.proofs.calls.Kept.{turns-kept}
 use Rattle.heads.proofs.Keeping.{kept-none}
+use Rattle.run.proofs.Seatings.{moved-all}
 use Rattle.run.proofs.Rounds.{with-third, run-many, run-open, run-done, none-open, sixteen-after}
 use Rattle.run.proofs.run.Statement.{statement}
 use Rattle.run.proofs.run.Tie as tie
@@ -70,7 +71,8 @@ returns-3 c =
     let went = after-go-on .go-on .ensures in
     let after = went .0 .1 in
     let kept = turns-kept (at-start .args .turns) _ v in
-    let e = c .readers-at .ensures _ (sixteen-after _ _ _ _ _ (after .1) kept) (after .0) in
+    let moved = c .readers-at .ensures in
+    let e = moved-all _ _ (c .readers-at .result) (went .0 .0) (moved .0) (moved .1) (sixteen-after _ _ _ _ _ (after .1) kept) (after .0) in
     with-third _ _ _ _ _ (went .1)
     (run-done _ v _ (else-1 .if1 .left) _ (after-count .count .ensures) _ _ _ _ (closed else-2) (after .1) (rw e refl))
 

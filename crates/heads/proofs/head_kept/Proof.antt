@@ -2,8 +2,8 @@
 use borrow.Author.Needs.{needs}
 use native.Mathlib.Omega.{arith}
 use Rattle.heads.proofs.Besting.{first-low, head-put}
-use Rattle.heads.proofs.head_of.Statement.{statement}
-use Rattle.heads.proofs.head_of.Tie as tie
+use Rattle.heads.proofs.head_kept.Statement.{statement}
+use Rattle.heads.proofs.head_kept.Tie as tie
 
 mul-kept : tie.Need-mul-kept
 mul-kept c = search needs
@@ -43,8 +43,8 @@ returns-2 c = λ v g a.
     head-put _ (g .sighted .valid) _ (at-start .pre .1) _ _ _ _ (at-start .pre .0) (c .packed .ensures)
     (after-head-of .head-of .ensures v (g .sighted) (g .size-is)) a
 
-pub head-of-spec : {M : Type 1} → statement M
-head-of-spec =
+pub head-kept-spec : {M : Type 1} → statement M
+head-kept-spec =
     tie.close
     (tie.spec
     mul-kept

@@ -8,16 +8,16 @@ use lib.ListN.{getD}
 use Rattle.rules.specs.declared.View.{View}
 use Rattle.order.specs.Choices.{inSet}
 use Rattle.order.specs.Searches.{stateUnder}
-use Rattle.heads.specs.Heads.{Best, Kept, Seen, SeenAll}
+use Rattle.heads.specs.Heads.{HeadIs, Kept, SightedFile, SightedAll}
 use Rattle.heads.proofs.Besting.{best-none, best-more, best-skip, best-all, best-victim, best-nothing}
-use Rattle.heads.proofs.victim_among.Statement.{statement}
-use Rattle.heads.proofs.victim_among.Tie as tie
+use Rattle.heads.proofs.victim_kept.Statement.{statement}
+use Rattle.heads.proofs.victim_kept.Tie as tie
 
 abbrev Inv-loop : tie.InvT-loop
 Inv-loop t sizes seats cached fetching heads₀ files best₀ file₀ heads best file =
     (file ≤ 8)
-    × ((v : View) → SeenAll t sizes seats cached fetching v → Kept (stateUnder t v cached fetching) (t .done) heads₀
-    → Best (stateUnder t v cached fetching) (t .done) (inSet files) file best × Kept (stateUnder t v cached fetching) (t .done) heads)
+    × ((v : View) → SightedAll t sizes seats cached fetching v → Kept (stateUnder t v cached fetching) (t .done) heads₀
+    → HeadIs (stateUnder t v cached fetching) (t .done) (inSet files) file best × Kept (stateUnder t v cached fetching) (t .done) heads)
 
 abbrev μ-loop : tie.MeasureT-loop
 μ-loop t sizes seats cached fetching heads₀ files best₀ file₀ heads best file = 8 - file
@@ -25,8 +25,8 @@ abbrev μ-loop : tie.MeasureT-loop
 -- what a look at the loop's file reads
 seen : (c : tie.At-loop Inv-loop μ-loop) (v : View) →
     let a = c .before .args in
-    SeenAll (a .t) (a .sizes .now) (a .seats .now) (a .cached .now) (a .fetching .now) v
-    → Seen (a .t) (getD (a .sizes .now) (c .loop .file) 0) (a .seats .now) (a .cached .now) (a .fetching .now) (c .loop .file) v
+    SightedAll (a .t) (a .sizes .now) (a .seats .now) (a .cached .now) (a .fetching .now) v
+    → SightedFile (a .t) (getD (a .sizes .now) (c .loop .file) 0) (a .seats .now) (a .cached .now) (a .fetching .now) (c .loop .file) v
 seen c v g = record { sighted = g .sighted; size-is = ap (λ sizes. getD sizes (c .loop .file) 0) (g .sizes-are) }
 
 loop-holds : tie.Need-loop-holds Inv-loop μ-loop
@@ -35,14 +35,14 @@ loop-holds c = (omega arith, λ v g a. (best-none _ (g .sighted .valid) _ (c .pr
 has-digit-requires : tie.Need-has-digit-requires Inv-loop μ-loop
 has-digit-requires c κs = search needs
 
-mul-head-of : tie.Need-mul-head-of Inv-loop μ-loop
-mul-head-of c = search needs
+mul-head-kept : tie.Need-mul-head-kept Inv-loop μ-loop
+mul-head-kept c = search needs
 
-element-copy-out-head-of : tie.Need-element-copy-out-head-of Inv-loop μ-loop
-element-copy-out-head-of c = search needs
+element-copy-out-head-kept : tie.Need-element-copy-out-head-kept Inv-loop μ-loop
+element-copy-out-head-kept c = search needs
 
-head-of-requires : tie.Need-head-of-requires Inv-loop μ-loop
-head-of-requires c κs =
+head-kept-requires : tie.Need-head-kept-requires Inv-loop μ-loop
+head-kept-requires c κs =
     let in-loop = c .before .before .before .before in
     let at-loop = in-loop .before in
     let at-start = at-loop .before in
@@ -108,17 +108,17 @@ returns-2 c = λ v g a.
     let best = best-all _ w _ (at-start .pre .0) _ _ _ (omega (arith, l .inv .0, after-loop .loop-test .left)) (i .0) in
     (sym (best-victim _ w _ (at-start .pre .0) _ _ best (c .if2 .left)), i .1)
 
-pub victim-among-spec : {M : Type 1} → statement M
-victim-among-spec =
+pub victim-kept-spec : {M : Type 1} → statement M
+victim-kept-spec =
     tie.close
     (tie.spec
     Inv-loop
     μ-loop
     loop-holds
     has-digit-requires
-    mul-head-of
-    element-copy-out-head-of
-    head-of-requires
+    mul-head-kept
+    element-copy-out-head-kept
+    head-kept-requires
     larger-requires
     add-file
     loop-less
