@@ -30,7 +30,8 @@ fn finish<'a>(r: Outcome, cached: &'a [u64; 128], fetching: &'a [u64; 128], imag
     n
 }
 
-// ---- the entries: each restores the state from the image, does its call on it and saves it
+// ---- the entries: each restores the state from the image, does its call on it and saves it. The maps are read in the entry itself, where the compiler sees
+// that they fill its arrays: each is then one copy of memory, and nothing is cleared before.
 
 #[no_mangle]
 pub extern "C" fn quay_attach(
@@ -49,7 +50,8 @@ pub extern "C" fn quay_attach(
     let mut cached = [0u64; 128];
     let mut fetching = [0u64; 128];
     let mut held = [0u16; 8];
-    let restored = image::restore_whole(image, &mut cached, &mut fetching, &mut held);
+    image::read_maps(image, &mut cached, &mut fetching);
+    let restored = image::restore_read(image, &mut cached, &mut fetching, &mut held);
     let done = restored.answer;
     if !codes::carried_out(done) {
         return NO_IMAGE;
@@ -72,7 +74,8 @@ pub extern "C" fn quay_detach(image: &mut [u8], slot: u64) -> u64
     let mut cached = [0u64; 128];
     let mut fetching = [0u64; 128];
     let mut held = [0u16; 8];
-    let restored = image::restore_whole(image, &mut cached, &mut fetching, &mut held);
+    image::read_maps(image, &mut cached, &mut fetching);
+    let restored = image::restore_read(image, &mut cached, &mut fetching, &mut held);
     let done = restored.answer;
     if !codes::carried_out(done) {
         return NO_IMAGE;
@@ -95,7 +98,8 @@ pub extern "C" fn quay_read(image: &mut [u8], slot: u64) -> u64
     let mut cached = [0u64; 128];
     let mut fetching = [0u64; 128];
     let mut held = [0u16; 8];
-    let restored = image::restore_whole(image, &mut cached, &mut fetching, &mut held);
+    image::read_maps(image, &mut cached, &mut fetching);
+    let restored = image::restore_read(image, &mut cached, &mut fetching, &mut held);
     let done = restored.answer;
     if !codes::carried_out(done) {
         return NO_IMAGE;
@@ -114,7 +118,8 @@ pub extern "C" fn quay_arrive(image: &mut [u8], file: u64, page: u64) -> u64
     let mut cached = [0u64; 128];
     let mut fetching = [0u64; 128];
     let mut held = [0u16; 8];
-    let restored = image::restore_whole(image, &mut cached, &mut fetching, &mut held);
+    image::read_maps(image, &mut cached, &mut fetching);
+    let restored = image::restore_read(image, &mut cached, &mut fetching, &mut held);
     let done = restored.answer;
     if !codes::carried_out(done) {
         return NO_IMAGE;
@@ -140,7 +145,8 @@ pub extern "C" fn quay_lost(image: &mut [u8], file: u64, page: u64) -> u64
     let mut cached = [0u64; 128];
     let mut fetching = [0u64; 128];
     let mut held = [0u16; 8];
-    let restored = image::restore_whole(image, &mut cached, &mut fetching, &mut held);
+    image::read_maps(image, &mut cached, &mut fetching);
+    let restored = image::restore_read(image, &mut cached, &mut fetching, &mut held);
     let done = restored.answer;
     if !codes::carried_out(done) {
         return NO_IMAGE;
@@ -159,7 +165,8 @@ pub extern "C" fn quay_prefetch(image: &mut [u8]) -> u64
     let mut cached = [0u64; 128];
     let mut fetching = [0u64; 128];
     let mut held = [0u16; 8];
-    let restored = image::restore_whole(image, &mut cached, &mut fetching, &mut held);
+    image::read_maps(image, &mut cached, &mut fetching);
+    let restored = image::restore_read(image, &mut cached, &mut fetching, &mut held);
     let done = restored.answer;
     if !codes::carried_out(done) {
         return NO_IMAGE;
@@ -179,7 +186,8 @@ pub extern "C" fn quay_steal(image: &mut [u8]) -> u64
     let mut cached = [0u64; 128];
     let mut fetching = [0u64; 128];
     let mut held = [0u16; 8];
-    let restored = image::restore_whole(image, &mut cached, &mut fetching, &mut held);
+    image::read_maps(image, &mut cached, &mut fetching);
+    let restored = image::restore_read(image, &mut cached, &mut fetching, &mut held);
     let done = restored.answer;
     if !codes::carried_out(done) {
         return NO_IMAGE;
@@ -199,7 +207,8 @@ pub extern "C" fn quay_run(image: &mut [u8], turns: u64) -> u64
     let mut cached = [0u64; 128];
     let mut fetching = [0u64; 128];
     let mut held = [0u16; 8];
-    let restored = image::restore_whole(image, &mut cached, &mut fetching, &mut held);
+    image::read_maps(image, &mut cached, &mut fetching);
+    let restored = image::restore_read(image, &mut cached, &mut fetching, &mut held);
     let done = restored.answer;
     if !codes::carried_out(done) {
         return NO_IMAGE;
@@ -218,7 +227,8 @@ pub extern "C" fn quay_measure(image: &mut [u8], slot: u64, interval: u64, block
     let mut cached = [0u64; 128];
     let mut fetching = [0u64; 128];
     let mut held = [0u16; 8];
-    let restored = image::restore_whole(image, &mut cached, &mut fetching, &mut held);
+    image::read_maps(image, &mut cached, &mut fetching);
+    let restored = image::restore_read(image, &mut cached, &mut fetching, &mut held);
     let done = restored.answer;
     if !codes::carried_out(done) {
         return NO_IMAGE;

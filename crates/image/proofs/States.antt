@@ -164,6 +164,6 @@ module _ (image : List ℕ) where
 
   -- with its maps it is whole
   pub state-read : (v : View) (cached fetching : List ℕ) → v ≡ viewOf (stateIn image)
-      → cached ≡ numbersAt 8 image cachedAt 128 → fetching ≡ numbersAt 8 image fetchingAt 128
+      → cached ≡ stateIn image .cached → fetching ≡ stateIn image .fetching
       → stateOf v cached fetching ≡ stateIn image
-  state-read v cached fetching e c f = λ i. stateOf (e i) ((c ∙ cached-read) i) ((f ∙ fetching-read) i)
+  state-read v cached fetching e c f = λ i. stateOf (e i) (c i) (f i)

@@ -444,6 +444,40 @@ fn refuse(cached: &mut [u64; 128], fetching: &mut [u64; 128], held: &mut [u16; 8
     }
 }
 
+// Reads both maps into their places.
+pub fn read_maps(image: &[u8], cached: &mut [u64; 128], fetching: &mut [u64; 128])
+    requires { ⌜ length (now image) ≡ imageLength ⌝ }
+    ensures { λ _. ⌜ (now (cached .exit) ≡ stateIn (now (image .entry)) .cached) × (now (fetching .exit) ≡ stateIn (now (image .entry)) .fetching) ⌝ }
+{
+    read_words(cached, image, CACHED_AT);
+    read_words(fetching, image, FETCHING_AT);
+}
+
+// Restore after `read_maps`: the tests, and what is left to read. The lent maps stay those of the image; where it is refused, they become those of the idle
+// state. `held` becomes the counts of the files' cached pages.
+pub fn restore_read(
+    image: &[u8],
+    cached: &mut [u64; 128],
+    fetching: &mut [u64; 128],
+    held: &mut [u16; 8],
+) -> Outcome
+    requires { ⌜ (length (now image) ≡ imageLength) × (now cached ≡ stateIn (now image) .cached) × (now fetching ≡ stateIn (now image) .fetching) ⌝ }
+    ensures { λ r. ⌜ replyOf r (now (cached .exit)) (now (fetching .exit)) ≡ restoreWhole (now (image .entry)) ⌝ }
+    ensures counted { λ _. ⌜ Held (now (cached .exit)) (now (held .exit)) ⌝ }
+{
+    // The length of a lent array is known once it is set, and the count asks for it.
+    *held = [0u16; 8];
+    parts::count_held(cached, held);
+    if !accepted(image, cached, fetching, parts::taken(held)) {
+        return refuse(cached, fetching, held);
+    }
+    let view = view_in(image);
+    Outcome {
+        view,
+        answer: Answer::Done,
+    }
+}
+
 // Restore of an image as long as Save writes it; any other is refused. The lent maps become those of the image, whatever they held; where it is refused, those
 // of the idle state. `held` becomes the counts of the files' cached pages.
 pub fn restore_whole(
@@ -458,17 +492,6 @@ pub fn restore_whole(
     if image.len() != IMAGE_LENGTH {
         return refuse(cached, fetching, held);
     }
-    read_words(cached, image, CACHED_AT);
-    read_words(fetching, image, FETCHING_AT);
-    // The length of a lent array is known once it is set, and the count asks for it.
-    *held = [0u16; 8];
-    parts::count_held(cached, held);
-    if !accepted(image, cached, fetching, parts::taken(held)) {
-        return refuse(cached, fetching, held);
-    }
-    let view = view_in(image);
-    Outcome {
-        view,
-        answer: Answer::Done,
-    }
+    read_maps(image, cached, fetching);
+    restore_read(image, cached, fetching, held)
 }

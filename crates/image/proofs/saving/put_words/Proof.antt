@@ -11,12 +11,12 @@ use Rattle.image.proofs.saving.put_words.Statement.{statement}
 use Rattle.image.proofs.saving.put_words.Tie as tie
 
 abbrev Inv-loop : tie.InvT-loop
-Inv-loop buffer₀ at words k₀ buffer k =
+Inv-loop buffer₀ at words all k₀ buffer k =
     (k ≤ 128) × (length words ≡ 128) × (length buffer ≡ length buffer₀)
     × (buffer ≡ written buffer₀ at (each (bytesOf 8) (take k words)))
 
 abbrev μ-loop : tie.MeasureT-loop
-μ-loop buffer₀ at words k₀ buffer k = 128 - k
+μ-loop buffer₀ at words all k₀ buffer k = 128 - k
 
 loop-holds : tie.Need-loop-holds Inv-loop μ-loop
 loop-holds c = search (each-none (bytesOf 8) 8 (bytes-length 8) 128 0, needs)
@@ -30,8 +30,8 @@ add-put-u64 c = search needs
 mul-put-u64-2 : tie.Need-mul-put-u64-2 Inv-loop μ-loop
 mul-put-u64-2 c = search needs
 
-element-copy-out-put-u64 : tie.Need-element-copy-out-put-u64 Inv-loop μ-loop
-element-copy-out-put-u64 c = search needs
+array-read-put-u64 : tie.Need-array-read-put-u64 Inv-loop μ-loop
+array-read-put-u64 c = search needs
 
 put-u64-requires : tie.Need-put-u64-requires Inv-loop μ-loop
 put-u64-requires c κs = search needs
@@ -61,7 +61,7 @@ put-words-spec =
     mul-put-u64
     add-put-u64
     mul-put-u64-2
-    element-copy-out-put-u64
+    array-read-put-u64
     put-u64-requires
     add-k
     loop-less
