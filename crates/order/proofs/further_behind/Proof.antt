@@ -13,7 +13,8 @@ returns c = λ v fetching w g e files o a.
     let after-behind-all = c .before in
     let s = after-behind-all .before in
     let b = after-behind-all .behind-all .ensures in
-    rear-clear _ w files (s .args .file) (s .args .best) a (s .args .size) _ (s .pre .0) (omega (arith, b .1, s .pre .1)) e (b .0 _ g .0) (b .0 _ g .1) (c .if1 .taken)
+    rear-clear _ w files (s .args .file) (s .args .best) a (s .args .size) _ (s .pre .0) (omega (arith, b .1, s .pre .1)) e (b .0 _ g .0)
+    (b .0 _ g .1) (c .if1 .taken)
 
 mul-value : tie.Need-mul-value
 mul-value c = search needs
@@ -45,7 +46,8 @@ returns-2 c = λ v fetching w g e files o a.
     let after-behind-all = else-1 .before in
     let s = after-behind-all .before in
     let b = after-behind-all .behind-all .ensures in
-    rear-take _ w files (s .args .file) (s .args .best) a (s .args .size) _ (s .pre .0) (omega (arith, b .1, s .pre .1)) e (b .0 _ g .0) (b .0 _ g .1) o
+    rear-take _ w files (s .args .file) (s .args .best) a (s .args .size) _ (s .pre .0) (omega (arith, b .1, s .pre .1)) e (b .0 _ g .0)
+    (b .0 _ g .1) o
     (else-1 .if1 .left) (c .if2 .taken)
 
 returns-3 : tie.Need-returns-3
@@ -54,7 +56,8 @@ returns-3 c = λ v fetching w g e files o a.
     let after-behind-all = else-1 .before in
     let s = after-behind-all .before in
     let b = after-behind-all .behind-all .ensures in
-    rear-keep _ w files (s .args .file) (s .args .best) a (s .args .size) _ (s .pre .0) (omega (arith, b .1, s .pre .1)) e (b .0 _ g .0) (b .0 _ g .1) (c .if2 .left)
+    rear-keep _ w files (s .args .file) (s .args .best) a (s .args .size) _ (s .pre .0) (omega (arith, b .1, s .pre .1)) e (b .0 _ g .0)
+    (b .0 _ g .1) (c .if2 .left)
 
 pub further-behind-spec : {M : Type 1} → statement M
 further-behind-spec =
