@@ -1,5 +1,6 @@
 -- Another length is refused; else both maps are read, and then the rest.
 use mathlib.Core.Path.{_∙_}
+use native.Mathlib.Omega.{arith}
 use borrow.Author.Needs.{needs}
 use Rattle.image.proofs.Restores.{restore-short}
 use Rattle.image.proofs.restoring.restore_whole.Statement.{statement}
@@ -12,7 +13,7 @@ returns : tie.Need-returns
 returns c =
     let then-1 = c .before .before .before .before in
     let at-start = then-1 .before .before in
-    (c .refuse .ensures .0 ∙ restore-short (at-start .args .image .now) (then-1 .if1 .taken), c .refuse .ensures .1)
+    (c .refuse .ensures .0 ∙ restore-short (at-start .args .image .now) (λ e. omega (arith, e, then-1 .if1 .taken)), c .refuse .ensures .1)
 
 read-maps-requires : tie.Need-read-maps-requires
 read-maps-requires c κs = search needs
