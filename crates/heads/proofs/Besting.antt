@@ -1,5 +1,5 @@
 -- The best of the files' heads is that of the page to give up. Assumes nothing.
-use mathlib.Core.Path.{_≡_, refl, ap, subst, _∙_}
+use mathlib.Core.Path.{_≡_, refl, sym, ap, subst, _∙_}
 use mathlib.Core.Bool.{Bool, true, false, cond}
 use mathlib.Core.List.{List}
 use mathlib.Core.Option.{none, some}
@@ -18,10 +18,10 @@ use Rattle.rules.proofs.laws.Cases.{passed, failed}
 use Rattle.rules.proofs.orders.Distinct.{Stretch, behind, unseen, in-use, stretch, rank-positive, rank-far, head-is, among-none}
 use Rattle.rules.specs.declared.State.{State}
 use Rattle.order.specs.declared.Pick.{Pick}
-use Rattle.order.specs.Searches.{alone, First}
-use Rattle.order.proofs.Firsts.{alone-file}
-use Rattle.heads.specs.Heads.{lasting, packed, HeadIs, Kept}
-use Rattle.heads.proofs.Keeping.{lasting-near, lasting-far, kept-put}
+use Rattle.order.specs.Choices.{inSet}
+use Rattle.order.specs.Searches.{First}
+use Rattle.heads.specs.Heads.{alone, lasting, packed, HeadIs, Kept}
+use Rattle.heads.proofs.Keeping.{alone-file, lasting-near, lasting-far, kept-put}
 
 -- a quotient and a remainder by 8192
 apart : (q k : ℕ) → k < 8192 → ((q * 8192 + k) / 8192 ≡ q) × ((q * 8192 + k) % 8192 ≡ k)
@@ -43,8 +43,8 @@ module _ (done : ℕ) (p : Pick) (ne : p .value ≡ 0 → ⊥) where
   packed-far l = rw (ne-eqb (p .value) 0 ne, lasting-far done (p .value) l)
 
 -- a rank is far below what a word holds
-pub first-low : (s : State) → Valid s → (f : ℕ) (p : Pick) → First s f p → p .value < 200000000
-first-low s w f p a = go (decLt 0 (p .value))
+pub first-low : (s : State) → Valid s → (files : ℕ → Bool) (p : Pick) → First s files p → p .value < 200000000
+first-low s w files p a = go (decLt 0 (p .value))
   where
     by : p .key < 8192 → Stretch s (p .key) → rank s (p .key) < 200000000
     by l (behind b x) = omega arith
@@ -78,7 +78,7 @@ module _ (s : State) (w : Valid s) (done : ℕ) (few : done ≤ 16384) where
 
   -- ---- a file's head, as it is found
 
-  head-found : (f : ℕ) (p : Pick) → First s f p → HeadIs s done (alone f) 8 (packed done p)
+  head-found : (f : ℕ) (p : Pick) → First s (alone f) p → HeadIs s done (alone f) 8 (packed done p)
   head-found f p a = go (ℕ-discrete (p .value) 0)
     where
       go : Dec (p .value ≡ 0) → HeadIs s done (alone f) 8 (packed done p)
@@ -113,10 +113,32 @@ module _ (s : State) (w : Valid s) (done : ℕ) (few : done ≤ 16384) where
               by (no x) (yes y) = absurd (omega arith)
               by (no x) (no y) = omega (arith, lasting-far done (rank s k) (omega arith), lasting-far done (p .value) (omega arith))
 
+  -- a word with the file's digit alone is its set
+  first-alone : (f word : ℕ) (p : Pick) → ((g : ℕ) → g < 8 → inSet word g ≡ alone f g) → First s (inSet word) p → First s (alone f) p
+  first-alone f word p e a = record {
+    page = record { held = λ h. there (p .key) (a .page .held h); its = a .page .its };
+    top = λ k c. a .top k (back k c);
+  }
+    where
+      low : (k : ℕ) → T (cached s k) → fileOf k < 8
+      low k c = omega (arith, w .cached-in k c .low)
+
+      there : (k : ℕ) → T (cachedAmong (inSet word) s k) → T (cachedAmong (alone f) s k)
+      there k c =
+          let h = and-first (cached s k) _ c in
+          and-both (cached s k) _ h (subst T (e (fileOf k) (low k h)) (and-second (cached s k) _ c))
+
+      back : (k : ℕ) → T (cachedAmong (alone f) s k) → T (cachedAmong (inSet word) s k)
+      back k c =
+          let h = and-first (cached s k) _ c in
+          and-both (cached s k) _ h (subst T (sym (e (fileOf k) (low k h))) (and-second (cached s k) _ c))
+
   -- it is put
-  pub head-put : (f : ℕ) (p : Pick) (h : ℕ) (heads : List ℕ) → f < 8 → h ≡ packed done p → First s f p → Kept s done heads
-      → HeadIs s done (alone f) 8 h × Kept s done (set heads f h)
-  head-put f p h heads l e a k = rw e (head-found f p a, kept-put s done heads f (packed done p) l k (head-found f p a))
+  pub head-put : (f word : ℕ) (p : Pick) (h : ℕ) (heads : List ℕ) → f < 8 → ((g : ℕ) → g < 8 → inSet word g ≡ alone f g) → h ≡ packed done p
+      → First s (inSet word) p → Kept s done heads → HeadIs s done (alone f) 8 h × Kept s done (set heads f h)
+  head-put f word p h heads l one e a k =
+      let found = head-found f p (first-alone f word p one a) in
+      rw e (found, kept-put s done heads f (packed done p) l k found)
 
   -- ---- the best of the files
 

@@ -8,7 +8,7 @@ use Prim.Native.Nat.{ℕ, _+_, _/_, _%_, _≤_, _<_}
 use native.Mathlib.Decide.{ℕ-discrete, decLt}
 use native.Mathlib.Omega.{arith}
 use borrow.Author.Tests.{lt-ltb, le-ltb, ne-eqb}
-use lib.Dec.{T, eqb}
+use lib.Dec.{T, eqb, eqb→eq}
 use lib.ListN.{getD, set, length, length-set}
 use lib.Seq.{getD-set-same, getD-set-other}
 use Rattle.rules.specs.Lists.{onOption}
@@ -25,10 +25,12 @@ use Rattle.rules.specs.declared.Reader.{Reader}
 use Rattle.order.specs.declared.Choice.{Choice}
 use Rattle.order.specs.declared.Choice.the-variants.{Key, Nothing}
 use Rattle.order.specs.Choices.{chosen}
-use Rattle.order.specs.Searches.{alone}
 use Rattle.order.proofs.Chosen.{chosen-key}
-use Rattle.order.proofs.Firsts.{alone-file}
-use Rattle.heads.specs.Heads.{lasting, HeadIs, Kept, Forgot, NotRead}
+use Rattle.heads.specs.Heads.{alone, lasting, HeadIs, Kept, Forgot, NotRead}
+
+-- a page of a file's own set is of the file
+pub alone-file : (s : State) (f k : ℕ) → T (cachedAmong (alone f) s k) → fileOf k ≡ f
+alone-file s f k h = eqb→eq (fileOf k) f (and-second (cached s k) _ h)
 
 -- ---- the numbers
 

@@ -14,7 +14,11 @@ use Rattle.rules.specs.declared.Reader.{Reader}
 use Rattle.rules.specs.declared.View.{View}
 use Rattle.order.specs.declared.Pick.{Pick}
 use Rattle.order.specs.declared.Terms.{Terms}
-use Rattle.order.specs.Searches.{Sighted, alone}
+use Rattle.order.specs.Searches.{Sighted}
+
+-- the set of one file
+abbrev pub alone : ℕ → ℕ → Bool
+alone f g = eqb g f
 
 -- a rank after so many turns, as a number that stays while nothing of the page's file moves: to a use key the turns made are added. In a valid state a use key
 -- is 16 to 64,000,015, so with the 16,384 turns of a Run at most it stays below `never`: the order of the ranks is kept, and no page has the number 1
@@ -47,11 +51,7 @@ pub record Forgot (heads : List ℕ) (Stays : ℕ → Type 0) (left : List ℕ) 
 abbrev pub NotRead : ℕ → Reader → Type 0
 NotRead f r = readsFile f r ≡ false
 
--- under these terms and with these maps the view is a valid state, and the array has its readers; the size is that of the file, or the sizes are those of all
-pub record SightedFile (t : Terms) (size : ℕ) (seats cached fetching : List ℕ) (f : ℕ) (v : View) : Type 0 where
-  pub sighted : Sighted t seats cached fetching v
-  pub size-is : size ≡ getD (v .sizes) f 0
-
+-- under these terms and with these maps the view is a valid state, and these arrays have its sizes and its readers
 pub record SightedAll (t : Terms) (sizes seats cached fetching : List ℕ) (v : View) : Type 0 where
   pub sighted : Sighted t seats cached fetching v
   pub sizes-are : sizes ≡ v .sizes

@@ -18,8 +18,8 @@ ghost use Rattle.rules.specs.Pages.{fileOf};
 ghost use Rattle.rules.specs.Readers.{attached};
 ghost use Rattle.rules.specs.Ranks.{victimAmong};
 ghost use Rattle.order.specs.Choices.{chosen, inSet};
-ghost use Rattle.order.specs.Searches.{stateUnder, alone};
-ghost use Rattle.heads.specs.Heads.{packed, HeadIs, Kept, Forgot, NotRead, SightedFile, SightedAll};
+ghost use Rattle.order.specs.Searches.{stateUnder};
+ghost use Rattle.heads.specs.Heads.{alone, packed, HeadIs, Kept, Forgot, NotRead, SightedAll};
 
 // The head of a file without cached pages.
 const NO_PAGE: u64 = 8192;
@@ -96,15 +96,15 @@ fn packed(head: Pick, done: u64) -> u64
 // The head of a file: the one kept or, where none is known, the one looked up, which is kept from now on.
 fn head_kept<'a>(
     t: Terms,
-    size: u16,
+    sizes: &[u16; 8],
     seats: &[u16; 72],
     cached: &'a [u64; 128],
     fetching: &'a [u64; 128],
     heads: &mut [u64; 8],
     file: usize,
 ) -> u64
-    requires { ⌜ (file < 8) × (t .done ≤ 16384) × ((v : View) × SightedFile t size (now seats) (now cached) (now fetching) file v) ⌝ }
-    ensures { λ r. ⌜ ((v : View) → SightedFile t size (now (seats .entry)) (now (cached .entry)) (now (fetching .entry)) file v
+    requires { ⌜ (file < 8) × (t .done ≤ 16384) × ((v : View) × SightedAll t (now sizes) (now seats) (now cached) (now fetching) v) ⌝ }
+    ensures { λ r. ⌜ ((v : View) → SightedAll t (now (sizes .entry)) (now (seats .entry)) (now (cached .entry)) (now (fetching .entry)) v
         → Kept (stateUnder t v (now (cached .entry)) (now (fetching .entry))) (t .done) (now (heads .entry))
         → HeadIs (stateUnder t v (now (cached .entry)) (now (fetching .entry))) (t .done) (alone file) 8 r
         × Kept (stateUnder t v (now (cached .entry)) (now (fetching .entry))) (t .done) (now (heads .exit))) ⌝ }
@@ -113,10 +113,9 @@ fn head_kept<'a>(
     if 0 < kept {
         return kept;
     }
-    let found = packed(
-        order::head_of(t, size, seats, cached, fetching, file),
-        t.done,
-    );
+    let files = order::set_of(file);
+    let first = order::first_among(t, sizes, seats, cached, fetching, files);
+    let found = packed(first, t.done);
     heads[file] = found;
     found
 }
@@ -150,7 +149,7 @@ pub fn victim_kept<'a>(
     let mut file: usize = 0;
     while file < 8 {
         if bits::has_digit(files, file) {
-            let head = head_kept(t, sizes[file], seats, cached, fetching, heads, file);
+            let head = head_kept(t, sizes, seats, cached, fetching, heads, file);
             best = larger(best, head);
         }
         file += 1;

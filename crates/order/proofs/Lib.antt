@@ -8,5 +8,6 @@ pub mod Sweeps
 pub mod Lacks
 pub mod Rearing
 pub mod Searching
+pub mod Looking
 pub mod Firsts
 pub mod Leading

@@ -3,7 +3,7 @@ use Prim.Native.Nat.{ℕ, min, _≤_, _<_}
 use mathlib.Core.Path.{_≡_}
 use mathlib.Core.Bool.{Bool, cond}
 use mathlib.Core.List.{List}
-use lib.Dec.{T, eqb}
+use lib.Dec.{T}
 use Rattle.rules.specs.Readers.{readerIn, readerAt, readsFile}
 use Rattle.rules.specs.UseTimes.{sees, never, useFor, useKey}
 use Rattle.rules.specs.Orders.{wanted}
@@ -96,14 +96,10 @@ pub record Highest (s : State) (files : ℕ → Bool) (n : ℕ) (p : Pick) : Typ
   pub by-file : (f : ℕ) → f < n → T (files f) → AtMost s (p .value) f 1024
   pub by-slot : (f j : ℕ) → f < n → T (files f) → j < 16 → T (readsFile f (readerAt s j)) → AtMost s (p .value) f (readerAt s j .position)
 
--- the set of one file
-abbrev pub alone : ℕ → ℕ → Bool
-alone f g = eqb g f
-
--- the page kept, if any, is the first of file f's to go: no cached page of the file has a higher rank
-pub record First (s : State) (f : ℕ) (p : Pick) : Type 0 where
-  pub page : Ranked s (alone f) p
-  pub top : (k : ℕ) → T (cachedAmong (alone f) s k) → rank s k ≤ p .value
+-- the page kept, if any, is the first of the set's to go: no cached page of the set has a higher rank
+pub record First (s : State) (files : ℕ → Bool) (p : Pick) : Type 0 where
+  pub page : Ranked s files p
+  pub top : (k : ℕ) → T (cachedAmong files s k) → rank s k ≤ p .value
 
 -- the page kept, if any, is wanted, and no first absent page of the first m slots is used sooner
 pub record Soonest (s : State) (m : ℕ) (p : Pick) : Type 0 where

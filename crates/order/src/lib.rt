@@ -23,7 +23,7 @@ ghost use Rattle.rules.specs.Views.{stateOf};
 ghost use Rattle.parts.specs.Held.{Held};
 ghost use Rattle.order.specs.Choices.{chosen, inSet};
 ghost use Rattle.order.specs.Leads.{leading, Weights, Weighed, Foremost};
-ghost use Rattle.order.specs.Seats.{Seated};
+ghost use Rattle.order.specs.Seats.{Seated, reached, nextReached};
 ghost use Rattle.order.specs.Searches.{termsOf, stateUnder, Sits, Sighted, Sight, SeatsOf, lower, Over, Ranked, Raised, Topped, Highest, First, Soonest};
 ghost use Rattle.order.specs.Rears.{Least, Back, Free, Rear};
 
@@ -326,8 +326,31 @@ fn higher<'a>(
     best
 }
 
+// What a look at a file goes by, one after the other: at 17 the file's end, at a slot, counted from 1, its position.
+fn reach(seats: &[u16; 72], at: usize) -> u16
+    requires { ⌜ (0 < at) × (at ≤ 17) ⌝ }
+    ensures { λ r. ⌜ r ≡ reached (now (seats .entry)) at ⌝ }
+{
+    if at == 17 {
+        return 1024;
+    }
+    seats[at - 1]
+}
+
+// The next of them: the file's last slot, then the last one before it with a reader of the file; 0 at the end.
+fn next_reach(seats: &[u16; 72], file: usize, at: usize) -> u16
+    requires { ⌜ (file < 8) × (0 < at) × (at ≤ 17) ⌝ }
+    ensures { λ r. ⌜ r ≡ nextReached (now (seats .entry)) file at ⌝ }
+{
+    if at == 17 {
+        return seats[48 + file];
+    }
+    seats[31 + at]
+}
+
 // The best page after a look at a file. Of its cached pages with no reader between, only the last can be of the highest rank. So the last of all is looked at,
-// and the last at or before each position of its readers.
+// and the last at or before each position of its readers. The file's end is a place in the chain: so `higher` is called at one place, and the compiler puts it
+// there.
 fn highest_of<'a>(
     t: Terms,
     seats: &[u16; 72],
@@ -341,13 +364,12 @@ fn highest_of<'a>(
         → Ranked (stateUnder t v (now (cached .entry)) (now (fetching .entry))) files first
         → Topped (stateUnder t v (now (cached .entry)) (now (fetching .entry))) files file 0 first r) ⌝ }
 {
-    let mut best = higher(t, seats, cached, fetching, file, 1024, first);
-    let mut at = seats[48 + file] as usize;
+    let mut best = first;
+    let mut at: usize = 17;
     while 0 < at {
-        let slot = at - 1;
-        let n = seats[slot] as usize;
+        let n = reach(seats, at) as usize;
         best = higher(t, seats, cached, fetching, file, n, best);
-        at = seats[32 + slot] as usize;
+        at = next_reach(seats, file, at) as usize;
     }
     best
 }
@@ -375,31 +397,30 @@ fn highest<'a>(
     best
 }
 
-// The page of a file that goes first, with its rank; 0 where the file has no cached page.
-pub fn head_of<'a>(
+// ---- the page to give up
+
+// The page that goes first of the files of a set, which is a word with a digit for each file, with its rank; 0 where they have no cached page. A page ahead of
+// no reader goes before any other, and is found without ranks.
+pub fn first_among<'a>(
     t: Terms,
-    size: u16,
+    sizes: &[u16; 8],
     seats: &[u16; 72],
     cached: &'a [u64; 128],
     fetching: &'a [u64; 128],
-    file: usize,
+    files: u64,
 ) -> Pick
-    requires { ⌜ (file < 8) × (size ≤ 1024) × Sight t (now seats) (now cached) (now fetching) ⌝ }
-    ensures { λ r. ⌜ ((v : View) → Sighted t (now (seats .entry)) (now (cached .entry)) (now (fetching .entry)) v → size ≡ getD (v .sizes) file 0
-        → First (stateUnder t v (now (cached .entry)) (now (fetching .entry))) file r) ⌝ }
+    requires { ⌜ ((f : ℕ) → getD (now sizes) f 0 ≤ 1024) × Sight t (now seats) (now cached) (now fetching) ⌝ }
+    ensures { λ r. ⌜ ((v : View) → Sighted t (now (seats .entry)) (now (cached .entry)) (now (fetching .entry)) v → now (sizes .entry) ≡ v .sizes
+        → First (stateUnder t v (now (cached .entry)) (now (fetching .entry))) (inSet files) r) ⌝ }
 {
-    let none = Pick { key: 0, value: 0 };
-    let behind = further_behind(seats, cached, file, size, none);
+    let behind = furthest_behind(sizes, seats, cached, files);
     if 0 < behind.value {
         return behind;
     }
-    highest_of(t, seats, cached, fetching, file, none)
+    highest(t, seats, cached, fetching, files)
 }
 
-// ---- the page to give up
-
-// The page to give up among the files of a set, which is a word with a digit for each file. A page ahead of no reader goes before any other, and is found
-// without ranks.
+// The page to give up among the files of a set.
 fn victim_among<'a>(
     t: Terms,
     sizes: &[u16; 8],
@@ -412,15 +433,11 @@ fn victim_among<'a>(
     ensures { λ r. ⌜ ((v : View) → Sighted t (now (seats .entry)) (now (cached .entry)) (now (fetching .entry)) v → now (sizes .entry) ≡ v .sizes
         → chosen r ≡ victimAmong (inSet files) (stateUnder t v (now (cached .entry)) (now (fetching .entry)))) ⌝ }
 {
-    let behind = furthest_behind(sizes, seats, cached, files);
-    if 0 < behind.value {
-        return Choice::Key(behind.key);
-    }
-    let best = highest(t, seats, cached, fetching, files);
-    if best.value == 0 {
+    let first = first_among(t, sizes, seats, cached, fetching, files);
+    if first.value == 0 {
         return Choice::Nothing;
     }
-    Choice::Key(best.key)
+    Choice::Key(first.key)
 }
 
 // The file that leads after a look at one more, with so many cached pages and of this weight: one with cached pages leads by a higher number. The sum is that

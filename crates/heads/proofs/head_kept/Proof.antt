@@ -16,19 +16,24 @@ returns c = λ v g a.
     let at-start = c .before .before in
     (a .each _ (at-start .pre .0) (omega (arith, c .if1 .taken)), a)
 
-head-of-requires : tie.Need-head-of-requires
-head-of-requires c κs =
+set-of-requires : tie.Need-set-of-requires
+set-of-requires c κs =
     let at-start = c .before .before in
-    let v = at-start .pre .2 .0 in
-    let g = at-start .pre .2 .1 in
-    (at-start .pre .0, rw (g .size-is) (g .sighted .valid .sizes-high _), (v, g .sighted))
+    at-start .pre .0
 
-packed-requires : tie.Need-packed-requires
-packed-requires c κs =
+first-among-requires : tie.Need-first-among-requires
+first-among-requires c κs =
     let at-start = c .before .before .before in
     let v = at-start .pre .2 .0 in
     let g = at-start .pre .2 .1 in
-    (at-start .pre .1, first-low _ (g .sighted .valid) _ _ (c .head-of .ensures v (g .sighted) (g .size-is)))
+    (rw (g .sizes-are) (g .sighted .valid .sizes-high), (v, g .sighted))
+
+packed-requires : tie.Need-packed-requires
+packed-requires c κs =
+    let at-start = c .before .before .before .before in
+    let v = at-start .pre .2 .0 in
+    let g = at-start .pre .2 .1 in
+    (at-start .pre .1, first-low _ (g .sighted .valid) _ _ (c .first-among .ensures v (g .sighted) (g .sizes-are)))
 
 mul-heads : tie.Need-mul-heads
 mul-heads c = search needs
@@ -38,10 +43,11 @@ element-write-heads c = search needs
 
 returns-2 : tie.Need-returns-2
 returns-2 c = λ v g a.
-    let after-head-of = c .before in
-    let at-start = after-head-of .before .before .before in
-    head-put _ (g .sighted .valid) _ (at-start .pre .1) _ _ _ _ (at-start .pre .0) (c .packed .ensures)
-    (after-head-of .head-of .ensures v (g .sighted) (g .size-is)) a
+    let after-first-among = c .before in
+    let after-set-of = after-first-among .before in
+    let at-start = after-set-of .before .before .before in
+    head-put _ (g .sighted .valid) _ (at-start .pre .1) _ _ _ _ _ (at-start .pre .0) (after-set-of .set-of .ensures) (c .packed .ensures)
+    (after-first-among .first-among .ensures v (g .sighted) (g .sizes-are)) a
 
 pub head-kept-spec : {M : Type 1} → statement M
 head-kept-spec =
@@ -50,7 +56,8 @@ head-kept-spec =
     mul-kept
     element-copy-out-kept
     returns
-    head-of-requires
+    set-of-requires
+    first-among-requires
     packed-requires
     mul-heads
     element-write-heads

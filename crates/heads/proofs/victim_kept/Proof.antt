@@ -1,14 +1,13 @@
 -- Invariant: of the set's pages in the files passed none goes before the best, and the heads kept are their files'. Measure: the files that are left.
 use Prim.Native.Nat.{_-_, _≤_}
-use mathlib.Core.Path.{sym, ap, _∙_}
+use mathlib.Core.Path.{sym, _∙_}
 use mathlib.Core.Logic.{⊎-elim}
 use native.Mathlib.Omega.{arith}
 use borrow.Author.Needs.{needs}
-use lib.ListN.{getD}
 use Rattle.rules.specs.declared.View.{View}
 use Rattle.order.specs.Choices.{inSet}
 use Rattle.order.specs.Searches.{stateUnder}
-use Rattle.heads.specs.Heads.{HeadIs, Kept, SightedFile, SightedAll}
+use Rattle.heads.specs.Heads.{HeadIs, Kept, SightedAll}
 use Rattle.heads.proofs.Besting.{best-none, best-more, best-skip, best-all, best-victim, best-nothing}
 use Rattle.heads.proofs.victim_kept.Statement.{statement}
 use Rattle.heads.proofs.victim_kept.Tie as tie
@@ -22,32 +21,19 @@ Inv-loop t sizes seats cached fetching heads₀ files best₀ file₀ heads best
 abbrev μ-loop : tie.MeasureT-loop
 μ-loop t sizes seats cached fetching heads₀ files best₀ file₀ heads best file = 8 - file
 
--- what a look at the loop's file reads
-seen : (c : tie.At-loop Inv-loop μ-loop) (v : View) →
-    let a = c .before .args in
-    SightedAll (a .t) (a .sizes .now) (a .seats .now) (a .cached .now) (a .fetching .now) v
-    → SightedFile (a .t) (getD (a .sizes .now) (c .loop .file) 0) (a .seats .now) (a .cached .now) (a .fetching .now) (c .loop .file) v
-seen c v g = record { sighted = g .sighted; size-is = ap (λ sizes. getD sizes (c .loop .file) 0) (g .sizes-are) }
-
 loop-holds : tie.Need-loop-holds Inv-loop μ-loop
 loop-holds c = (omega arith, λ v g a. (best-none _ (g .sighted .valid) _ (c .pre .0) _, a))
 
 has-digit-requires : tie.Need-has-digit-requires Inv-loop μ-loop
 has-digit-requires c κs = search needs
 
-mul-head-kept : tie.Need-mul-head-kept Inv-loop μ-loop
-mul-head-kept c = search needs
-
-element-copy-out-head-kept : tie.Need-element-copy-out-head-kept Inv-loop μ-loop
-element-copy-out-head-kept c = search needs
-
 head-kept-requires : tie.Need-head-kept-requires Inv-loop μ-loop
 head-kept-requires c κs =
-    let in-loop = c .before .before .before .before in
+    let in-loop = c .before .before .before in
     let at-loop = in-loop .before in
     let at-start = at-loop .before in
     let v = at-start .pre .1 .0 in
-    (omega (arith, in-loop .loop-test .taken), at-start .pre .0, (v, seen at-loop v (at-start .pre .1 .1)))
+    (omega (arith, in-loop .loop-test .taken), at-start .pre .0, (v, at-start .pre .1 .1))
 
 larger-requires : tie.Need-larger-requires Inv-loop μ-loop
 larger-requires c κs = search needs
@@ -71,8 +57,8 @@ loop-again c =
           let w = g .sighted .valid in
           ⊎-elim
           (λ x.
-          let q = x .3 .ensures v (seen at-loop v g) (i .1) in
-          rw (x .5, x .6, x .4 .ensures) (
+          let q = x .2 .ensures v g (i .1) in
+          rw (x .4, x .5, x .3 .ensures) (
             best-more _ w _ (at-start .pre .0) _ (l .file) (l .best) (i .0) _ (omega (arith, in-loop .loop-test .taken))
                 (sym (after-has-digit .has-digit .ensures) ∙ x .0 .taken) (q .0),
             q .1,
@@ -116,8 +102,6 @@ victim-kept-spec =
     μ-loop
     loop-holds
     has-digit-requires
-    mul-head-kept
-    element-copy-out-head-kept
     head-kept-requires
     larger-requires
     add-file
