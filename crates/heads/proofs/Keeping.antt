@@ -34,7 +34,7 @@ alone-file s f k h = eqb→eq (fileOf k) f (and-second (cached s k) _ h)
 
 -- ---- the numbers
 
--- a use key is counted from the first turn
+-- to a use key the turns made are added
 pub lasting-near : (done r : ℕ) → r < never → lasting done r ≡ r + done
 lasting-near done r l = rw (lt-ltb r never l)
 
