@@ -168,54 +168,58 @@ module _ (readers : List Reader) (n : ℕ) (seats : List ℕ) (a : Seated reader
       last = λ f v. beside (48 + f) (omega arith) ∙ last f v;
     }
 
--- ---- other readers, another position
+-- ---- other readers, at other positions
 
--- where as many slots have a reader of each file, the last one is the same
-seat-same : (readers others : List Reader) → ((f j : ℕ) → readsFile f (readerIn others j) ≡ readsFile f (readerIn readers j)) → (f n : ℕ)
+-- two records alike but for condition and position
+pub record Alike (q r : Reader) : Type 0 where
+  pub here : attached q ≡ attached r
+  pub file-same : q .file ≡ r .file
+  pub pace-same : q .pace ≡ r .pace
+  pub last-same : q .last ≡ r .last
+
+-- where the same slots have a reader of the file, the last one is the same
+seat-same : (readers others : List Reader) (f n : ℕ) → ((j : ℕ) → j < n → readsFile f (readerIn others j) ≡ readsFile f (readerIn readers j))
     → lastSeat others f n ≡ lastSeat readers f n
 unfolding lastSeat
-seat-same readers others e f zero = refl
-seat-same readers others e f (suc n) = rw (e f n, seat-same readers others e f n) refl
+seat-same readers others f zero e = refl
+seat-same readers others f (suc n) e = rw (e n (omega arith), seat-same readers others f n (λ j l. e j (omega arith))) refl
 
--- slot n's record becomes q, which is alike but for its condition and its position, and the position is put into the array
-module _ (readers : List Reader) (seats : List ℕ) (a : Seated readers 16 seats) (len : length readers ≡ 16) (n : ℕ) (l : n < 16) (q : Reader)
-    (here : attached q ≡ attached (readerIn readers n)) (own : q .file ≡ readerIn readers n .file) (pace : q .pace ≡ readerIn readers n .pace)
-    (last : q .last ≡ readerIn readers n .last) where
-  abbrev others : List Reader
-  others = set readers n q
+-- the array with the positions of others that are alike
+module _ (readers others : List Reader) (seats next : List ℕ) (a : Seated readers 16 seats) (alike : (j : ℕ) → j < 16 → Alike (readerIn others j) (readerIn readers j))
+    (long : length next ≡ 72) (placed : (j : ℕ) → j < 16 → getD next j 0 ≡ readerIn others j .position)
+    (rest : (i : ℕ) → 16 ≤ i → getD next i 0 ≡ getD seats i 0) where
+  files-alike : (f j : ℕ) → j < 16 → readsFile f (readerIn others j) ≡ readsFile f (readerIn readers j)
+  files-alike f j l = rw (alike j l .here, alike j l .file-same) refl
 
-  alike : (j : ℕ) → (attached (readerIn others j) ≡ attached (readerIn readers j)) × (readerIn others j .file ≡ readerIn readers j .file)
-      × (readerIn others j .pace ≡ readerIn readers j .pace) × (readerIn others j .last ≡ readerIn readers j .last)
-  alike j = by (ℕ-discrete j n)
-    where
-      by : Dec (j ≡ n) → (attached (readerIn others j) ≡ attached (readerIn readers j)) × (readerIn others j .file ≡ readerIn readers j .file)
-          × (readerIn others j .pace ≡ readerIn readers j .pace) × (readerIn others j .last ≡ readerIn readers j .last)
-      by (yes e) = rw (e, getD-set-same readers n q noReader (omega (arith, len))) (here, own, pace, last)
-      by (no e) = rw (getD-set-other readers n j q noReader e) (refl, refl, refl, refl)
-
-  files-alike : (f j : ℕ) → readsFile f (readerIn others j) ≡ readsFile f (readerIn readers j)
-  files-alike f j = rw (alike j .0, alike j .1) refl
-
-  pub seated-moved : Seated others 16 (set seats n (q .position))
-  seated-moved = record {
-    long = let z = a .long in simp length-set z;
-    position = λ j u. by j u (ℕ-discrete j n);
-    pace = λ j u t. beside (16 + j) (omega arith) ∙ a .pace j u (rw (← alike j .0) t) ∙ sym (alike j .2);
-    reach = λ j u t. beside (56 + j) (omega arith) ∙ a .reach j u (rw (← alike j .0) t) ∙ sym (alike j .3);
-    next = λ j u t.
-        beside (32 + j) (omega arith) ∙ a .next j u (rw (← alike j .0) t)
-        ∙ sym (seat-same readers others files-alike (readerIn others j .file) j ∙ ap (λ f. lastSeat readers f j) (alike j .1));
-    last = λ f u. beside (48 + f) (omega arith) ∙ a .last f u ∙ sym (seat-same readers others files-alike f 16);
+  pub seated-alike : Seated others 16 next
+  seated-alike = record {
+    long = long;
+    position = placed;
+    pace = λ j l h. rest (16 + j) (omega arith) ∙ a .pace j l (rw (← alike j l .here) h) ∙ sym (alike j l .pace-same);
+    reach = λ j l h. rest (56 + j) (omega arith) ∙ a .reach j l (rw (← alike j l .here) h) ∙ sym (alike j l .last-same);
+    next = λ j l h.
+        rest (32 + j) (omega arith) ∙ a .next j l (rw (← alike j l .here) h)
+        ∙ sym (seat-same readers others (readerIn others j .file) j (λ i m. files-alike (readerIn others j .file) i (omega arith))
+        ∙ ap (λ f. lastSeat readers f j) (alike j l .file-same));
+    last = λ f l. rest (48 + f) (omega arith) ∙ a .last f l ∙ sym (seat-same readers others f 16 (λ j m. files-alike f j m));
   }
-    where
-      beside : (i : ℕ) → i ≢ n → getD (set seats n (q .position)) i 0 ≡ getD seats i 0
-      beside i ne = getD-set-other seats n i (q .position) 0 ne
 
-      by : (j : ℕ) → j < 16 → Dec (j ≡ n) → getD (set seats n (q .position)) j 0 ≡ readerIn others j .position
-      by j u (yes e) =
-          rw e (getD-set-same seats n (q .position) 0 (omega (arith, a .long))
-          ∙ sym (ap (λ r. r .position) (getD-set-same readers n q noReader (omega (arith, len)))))
-      by j u (no e) = beside j e ∙ a .position j u ∙ sym (ap (λ r. r .position) (getD-set-other readers n j q noReader e))
+-- slot n's record becomes one that is alike, and its position is put into the array
+pub seated-moved : (readers : List Reader) (seats : List ℕ) → Seated readers 16 seats → length readers ≡ 16 → (n : ℕ) → n < 16 → (q : Reader)
+    → Alike q (readerIn readers n) → Seated (set readers n q) 16 (set seats n (q .position))
+seated-moved readers seats a sixteen n l q same =
+    seated-alike readers (set readers n q) seats (set seats n (q .position)) a (λ j u. alike j (ℕ-discrete j n))
+    (let z = a .long in simp length-set z) (λ j u. placed j u (ℕ-discrete j n)) (λ i u. getD-set-other seats n i (q .position) 0 (omega arith))
+  where
+    alike : (j : ℕ) → Dec (j ≡ n) → Alike (readerIn (set readers n q) j) (readerIn readers j)
+    alike j (yes e) = rw (e, getD-set-same readers n q noReader (omega (arith, sixteen))) same
+    alike j (no e) =
+        rw (getD-set-other readers n j q noReader e) (record { here = refl; file-same = refl; pace-same = refl; last-same = refl })
+
+    placed : (j : ℕ) → j < 16 → Dec (j ≡ n) → getD (set seats n (q .position)) j 0 ≡ readerIn (set readers n q) j .position
+    placed j u (yes e) =
+        rw (e, getD-set-same seats n (q .position) 0 (omega (arith, a .long)), getD-set-same readers n q noReader (omega (arith, sixteen))) refl
+    placed j u (no e) = rw (getD-set-other seats n j (q .position) 0 e, getD-set-other readers n j q noReader e) (a .position j u)
 
 -- ---- along a file's chain
 

@@ -19,6 +19,7 @@ ghost use Rattle.rules.specs.Orders.{weightOf, weightSum, standing};
 ghost use Rattle.rules.specs.Questions.{slotAt};
 ghost use Rattle.parts.specs.Files.{noFileIn, noPageIn, noRangeIn, weightIn, Small};
 ghost use Rattle.parts.specs.Held.{Held};
+ghost use Rattle.parts.specs.Positions.{movedTo};
 
 // ---- numbers
 
@@ -237,6 +238,15 @@ pub fn onward(r: Reader) -> Reader
 {
     let mut next = r;
     next.position = r.position + 1;
+    next
+}
+
+// The reader at another position.
+pub fn at_position(r: Reader, position: u16) -> Reader
+    ensures { λ t. ⌜ t ≡ movedTo position r ⌝ }
+{
+    let mut next = r;
+    next.position = position;
     next
 }
 

@@ -33,7 +33,8 @@ use Rattle.order.specs.Searches.{stateUnder}
 use Rattle.heads.specs.Heads.{Kept, Forgot, NotRead}
 use Rattle.heads.proofs.Keeping.{head-same, head-passed, kept-over, not-read}
 use Rattle.calls.specs.Inner.{eased}
-use Rattle.run.specs.Places.{movedTo, afterTurn, Turning}
+use Rattle.parts.specs.Positions.{movedTo}
+use Rattle.run.specs.Places.{afterTurn, Turning}
 use Rattle.run.proofs.Turnings.{valid, waits}
 
 -- a page of another file is not touched

@@ -1,6 +1,7 @@
--- What Run rests on: the answer of a turn, the readers and their array, turns one after the other, and a turn as its code reads it.
+-- What Run rests on: the answer of a turn, the readers and their array, turns one after the other, a turn as its code reads it, and legs of turns.
 pub mod Answers
 pub mod Seatings
 pub mod Rounds
 pub mod Turnings
 pub mod Keepings
+pub mod Legs

@@ -5,15 +5,15 @@ use mathlib.Core.Bool.{Bool, true, false, not, cond}
 use mathlib.Core.List.{List, []}
 use mathlib.Core.Option.{Option}
 use native.Mathlib.Omega.{arith}
-use native.Mathlib.Numerals.{add-one}
+use native.Mathlib.Nat.{zero-add, suc-add, add-assoc, add-zero}
 use lib.ListN.{getD, set, length}
 use lib.Seq.{getD-set-same}
 use lib.Dec.{T, ltb, eqb}
 use Rattle.bits.specs.Map.{putBit, on, ones}
 use Rattle.rules.specs.Pages.{cached, inFetch, fetchingPages}
-use Rattle.rules.specs.Readers.{noReader, readerAt, byCondition, onward}
+use Rattle.rules.specs.Readers.{noReader, readerAt, attached, byCondition, onward}
 use Rattle.rules.specs.Valid.{Valid}
-use Rattle.rules.specs.Calls.{reply, refused, withReaders, withReader, withFetching, withCached, without, readOf, dropped}
+use Rattle.rules.specs.Calls.{reply, refused, withReaders, withReader, withFetching, withCached, without, readOf, arriveOf, dropped}
 use Rattle.rules.specs.Run.{fetchOpen, onFetch, hitPage, nextTurn, ended, readTurn, turnOf, Turn, Turns, turnsOf, runOf}
 use Rattle.rules.specs.Third.{ThirdStatement}
 use Rattle.rules.specs.declared.State.{State}
@@ -23,7 +23,7 @@ use Rattle.rules.specs.declared.Answer.{Answer}
 use Rattle.rules.specs.declared.Answer.the-variants.{Hit, Ran}
 use Rattle.rules.specs.declared.Condition.{Condition}
 use Rattle.rules.specs.declared.Condition.the-variants.{Empty, Running, Waiting}
-use Rattle.rules.proofs.laws.Cases.{cond-yes, cond-no, outcomes}
+use Rattle.rules.proofs.laws.Cases.{cond-yes, cond-no, cond-all, fetch-all, outcomes}
 use Rattle.rules.proofs.calls.Kept.{turn-kept}
 use Rattle.rules.proofs.third.Optimal.{third-of}
 use Rattle.rules.proofs.third.Moves.{nowAt, goesNow, keyNow}
@@ -32,9 +32,9 @@ use Rattle.parts.specs.Held.{Held}
 use Rattle.calls.specs.Inner.{stepped, eased}
 use Rattle.calls.specs.declared.Step.{Step}
 use Rattle.calls.proofs.Frames.{pages-ones}
-use Rattle.run.specs.Places.{movedTo}
+use Rattle.parts.specs.Positions.{movedTo}
 use Rattle.run.specs.Tallies.{Tally, tally, soFar}
-use Rattle.run.proofs.Answers.{NoFetch, not-fetch, IsFetch, only-fetch}
+use Rattle.run.proofs.Answers.{NoFetch, not-fetch, IsFetch, only-fetch, one-hit}
 
 -- ---- what Read says of the turn's record
 
@@ -184,34 +184,59 @@ module _ (s : State) (v : Valid s) (closed : (k : ℕ) → T (inFetch s k) → �
 
 -- ---- the turns so far
 
--- some turns and one more at their end
-abbrev andOne : Turns → Turn → Turns
-andOne ts t = soFar (t .after) (ts .fetches + t .fetched) (ts .reads + length (t .hit))
+-- some turns, and others from where they end
+abbrev andMore : Turns → Turns → Turns
+andMore a b = soFar (b .after) (a .fetches + b .fetches) (a .reads + b .reads)
 
--- n + 1 turns are n turns and one more at the end
-turns-last : (n : ℕ) (s : State) → turnsOf (suc n) s ≡ andOne (turnsOf n s) (turnOf (turnsOf n s .after))
+-- a + b turns are a turns and then b turns
+turns-join : (a b : ℕ) (s : State) → turnsOf (a + b) s ≡ andMore (turnsOf a s) (turnsOf b (turnsOf a s .after))
 unfolding turnsOf
-turns-last zero s = ap₂ (soFar (turnOf s .after)) (omega arith) (omega arith)
-turns-last (suc n) s =
+turns-join zero b s = rw (zero-add b, zero-add (turnsOf b s .fetches), zero-add (turnsOf b s .reads)) refl
+turns-join (suc a) b s =
     let t : Turn = turnOf s in
-    let more : Turns = turnsOf n (t .after) in
-    let last : Turn = turnOf (more .after) in
-    ap (λ ts. soFar (ts .after) (t .fetched + ts .fetches) (length (t .hit) + ts .reads)) (turns-last n (t .after))
-    ∙ ap₂ (soFar (last .after)) (omega arith) (omega arith)
+    let rest : Turns = turnsOf a (t .after) in
+    let more : Turns = turnsOf b (rest .after) in
+    rw (suc-add a b) (ap (λ ts. soFar (ts .after) (t .fetched + ts .fetches) (length (t .hit) + ts .reads)) (turns-join a b (t .after))
+    ∙ ap₂ (soFar (more .after)) (sym (add-assoc (t .fetched) (rest .fetches) (more .fetches))) (sym (add-assoc (length (t .hit)) (rest .reads) (more .reads))))
 
 -- no turn yet
 pub turns-none : (s : State) → soFar s 0 0 ≡ turnsOf 0 s
 unfolding turnsOf
 turns-none s = refl
 
+-- more of them
+pub turns-then : (s t u : State) (fetches reads more-fetches more-reads a b : ℕ) → soFar t fetches reads ≡ turnsOf a s
+    → soFar u more-fetches more-reads ≡ turnsOf b t → soFar u (fetches + more-fetches) (reads + more-reads) ≡ turnsOf (a + b) s
+turns-then s t u fetches reads more-fetches more-reads a b e h = rw (turns-join a b s, ← e, ← h) refl
+
+-- one
+turns-one : (s : State) (r : Tally) → r ≡ tally (turnOf s) → soFar (r .after) (r .fetched) (r .read) ≡ turnsOf 1 s
+unfolding turnsOf
+turns-one s r e = rw e (ap₂ (soFar (turnOf s .after)) (sym (add-zero (turnOf s .fetched))) (sym (add-zero (length (turnOf s .hit)))))
+
 -- one more
 pub turns-more : (s t : State) (fetches reads i : ℕ) (r : Tally) → soFar t fetches reads ≡ turnsOf i s → r ≡ tally (turnOf t)
     → soFar (r .after) (fetches + r .fetched) (reads + r .read) ≡ turnsOf (i + 1) s
-turns-more s t fetches reads i r e h = rw (add-one i, turns-last i s, ← e, h)
+turns-more s t fetches reads i r e h = turns-then s t (r .after) fetches reads (r .fetched) (r .read) i 1 e (turns-one t r h)
 
--- after some turns there are sixteen records
-pub sixteen-after : (s t : State) (fetches reads n : ℕ) → soFar t fetches reads ≡ turnsOf n s → Valid (turnsOf n s .after) → length (t .readers) ≡ 16
-sixteen-after s t fetches reads n e v = rw (ap (λ ts. ts .after) e) (v .sixteen)
+-- a turn meets F once at most, and ends in one H at most
+turn-few : (s : State) → (turnOf s .fetched ≤ 1) × (length (turnOf s .hit) ≤ 1)
+unfolding turnOf readTurn
+turn-few s =
+    cond-all (λ (t : Turn). (t .fetched ≤ 1) × (length (t .hit) ≤ 1)) (attached (readerAt s (s .turn))) _ _
+    (λ _. fetch-all (λ (t : Turn). (t .fetched ≤ 1) × (length (t .hit) ≤ 1)) (readOf s (s .turn) .answer) _ _
+    (λ file page _. (omega arith, one-hit (readOf (arriveOf (readOf s (s .turn) .state) file page .state) (s .turn) .answer)))
+    (omega arith, one-hit (readOf s (s .turn) .answer)))
+    (λ _. (omega arith, omega arith))
+
+-- so n turns have at most n fetches and n reads
+pub turns-few : (n : ℕ) (s : State) → (turnsOf n s .fetches ≤ n) × (turnsOf n s .reads ≤ n)
+unfolding turnsOf
+turns-few zero s = (omega arith, omega arith)
+turns-few (suc n) s =
+    let one = turn-few s in
+    let more = turns-few n (turnOf s .after) in
+    (omega (arith, one .0, more .0), omega (arith, one .1, more .1))
 
 -- a turn leaves a valid state
 pub turn-valid : (s : State) → Valid s → (t : Tally) → t ≡ tally (turnOf s) → Valid (t .after)

@@ -9,9 +9,11 @@ use lib.Seq.{getD-set-same, getD-set-other, ext-getD}
 use Rattle.rules.specs.Readers.{noReader, readerIn}
 use Rattle.rules.proofs.laws.Below.{one-more}
 use Rattle.rules.specs.declared.Reader.{Reader}
+use Rattle.rules.specs.declared.View.{View}
 use Rattle.order.specs.Seats.{Seated}
 use Rattle.order.proofs.Seating.{seated-moved}
-use Rattle.run.specs.Places.{movedTo, Posed}
+use Rattle.parts.specs.Positions.{movedTo}
+use Rattle.run.specs.Places.{reseated, Posed, Following}
 
 -- ---- the records put at their positions
 
@@ -36,11 +38,14 @@ moved-more readers seats n next q l a e = record {
   left = λ j h. getD-set-other next n j q noReader (omega arith) ∙ a .left j (omega arith);
 }
 
--- all
-pub moved-all : (readers : List Reader) (seats : List ℕ) (next after : List Reader) → length next ≡ 16
-    → ((j : ℕ) → j < 16 → readerIn next j ≡ movedTo (getD seats j 0) (readerIn readers j)) → length after ≡ 16 → Posed readers seats after → next ≡ after
-moved-all readers seats next after sixteen done e p =
-    ext-getD noReader next after (sixteen ∙ sym e) (λ j h. done j (omega (arith, sixteen)) ∙ sym (p .moved j (omega (arith, sixteen))))
+-- all: the view after some turns has these readers
+pub following-is : (v w : View) (slot : ℕ) (seats : List ℕ) (after : List Reader) → Following v slot seats w → length after ≡ 16 → Posed (v .readers) seats after
+    → w ≡ reseated v slot after
+following-is v w slot seats after f e p = f .same ∙ ap (reseated v slot) readers
+  where
+    readers : w .readers ≡ after
+    readers = ext-getD noReader (w .readers) after (f .sixteen ∙ sym e)
+        (λ j h. f .moved j (omega (arith, f .sixteen)) ∙ sym (p .moved j (omega (arith, f .sixteen))))
 
 -- ---- over the turns
 
@@ -53,7 +58,8 @@ posed-next : (readers : List Reader) (seats : List ℕ) (after : List Reader) (n
     → Posed readers (set seats n p) (set after n (movedTo p (readerIn after n)))
 posed-next readers seats after n p l e a = record {
   moved = λ j u. by j u (ℕ-discrete j n);
-  seated = seated-moved after seats (a .seated) e n l (movedTo p (readerIn after n)) refl refl refl refl;
+  seated = seated-moved after seats (a .seated) e n l (movedTo p (readerIn after n))
+      (record { here = refl; file-same = refl; pace-same = refl; last-same = refl });
 }
   where
     by : (j : ℕ) → j < 16 → Dec (j ≡ n)

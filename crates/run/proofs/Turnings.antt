@@ -70,7 +70,8 @@ module _ (t : Terms) (sizes weights seats map fetching heads : List ℕ) (r : Re
         let q : Reader = inCondition Waiting (readerIn (w .readers) (t .turn)) in
         let same : set seats (t .turn) (q .position) ≡ seats =
         ap (set seats (t .turn)) (sym (a .position (t .turn) (valid .turn-high))) ∙ set-getD seats (t .turn) 0 in
-        rw same at (seated-moved (w .readers) seats a (valid .sixteen) (t .turn) (valid .turn-high) q (sym (is-true _ here)) refl refl refl)
+        rw same at (seated-moved (w .readers) seats a (valid .sixteen) (t .turn) (valid .turn-high) q
+        (record { here = sym (is-true _ here); file-same = refl; pace-same = refl; last-same = refl }))
 
     -- the choice reads that view
     pub choosing-waits : (still : List ℕ) → still ≡ putBit fetching (keyNow s) 1 → Choosing t sizes weights seats map still waits

@@ -3,20 +3,17 @@ use Prim.Native.Nat.{ℕ, _+_, _%_, _<_}
 use mathlib.Core.Path.{_≡_}
 use mathlib.Core.List.{List}
 use lib.Dec.{T}
-use lib.ListN.{getD, set}
+use lib.ListN.{getD, length, set}
 use Rattle.bits.specs.Map.{on}
 use Rattle.rules.specs.Readers.{readerIn}
 use Rattle.rules.specs.declared.Reader.{Reader}
 use Rattle.rules.specs.declared.View.{View}
+use Rattle.parts.specs.Positions.{movedTo}
 use Rattle.order.specs.declared.Terms.{Terms}
 use Rattle.order.specs.Seats.{Seated}
 use Rattle.order.specs.Leads.{Weights}
 use Rattle.order.specs.Searches.{under, stateUnder, Sighted}
 use Rattle.heads.specs.Heads.{Kept}
-
--- a record at another position
-abbrev pub movedTo : ℕ → Reader → Reader
-movedTo position r = record { condition = r .condition; file = r .file; pace = r .pace; position = position; last = r .last }
 
 -- the view at another turn, with other readers
 abbrev pub reseated : View → ℕ → List Reader → View
@@ -41,6 +38,12 @@ afterTurn t w r p = reseated (under t w) ((t .turn + 1) % 16) (set (w .readers) 
 pub record Posed (readers : List Reader) (seats : List ℕ) (after : List Reader) : Type 0 where
   pub moved : (j : ℕ) → j < 16 → readerIn after j ≡ movedTo (getD seats j 0) (readerIn readers j)
   pub seated : Seated after 16 seats
+
+-- r is the view after some turns: it is this slot's turn, and each reader is at the position that the array has for its slot
+pub record Following (v : View) (slot : ℕ) (seats : List ℕ) (r : View) : Type 0 where
+  pub same : r ≡ reseated v slot (r .readers)
+  pub sixteen : length (r .readers) ≡ 16
+  pub moved : (j : ℕ) → j < 16 → readerIn (r .readers) j ≡ movedTo (getD seats j 0) (readerIn (v .readers) j)
 
 -- no page is in fetch
 abbrev pub Quiet : List ℕ → Type 0

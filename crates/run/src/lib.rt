@@ -1,6 +1,6 @@
 // Run: the turns of the slots in their order, each with Read and, where that meets F, Arrive and Read again. A turn changes one position, the cached map and
-// the files' counts. So the view stays as it is until the end: the positions are in the readers' array of the searches, which is lent from turn to turn, and
-// what is known of the files' heads goes along.
+// the files' counts. So the view stays as it is for a leg of turns: the positions are in the readers' array of the searches, which is lent from turn to turn,
+// and what is known of the files' heads goes along. After a leg without F the turns that meet none are made at once.
 
 use order::Choice;
 use order::Terms;
@@ -10,7 +10,7 @@ use rules::Reader;
 use rules::View;
 ghost use mathlib.Core.Path.{_≡_};
 ghost use mathlib.Core.List.{List};
-ghost use Prim.Native.Nat.{ℕ, _≤_, _<_};
+ghost use Prim.Native.Nat.{ℕ, _+_, _≤_, _<_};
 ghost use lib.ListN.{getD, length};
 ghost use Rattle.rules.specs.Readers.{readerIn};
 ghost use Rattle.rules.specs.Views.{stateOf, replyOf};
@@ -21,10 +21,11 @@ ghost use Rattle.rules.specs.Third.{ThirdStatement};
 ghost use Rattle.parts.specs.Held.{Held};
 ghost use Rattle.order.specs.Choices.{chosen};
 ghost use Rattle.order.specs.Searches.{stateUnder};
-ghost use Rattle.order.specs.Seats.{Seated};
 ghost use Rattle.heads.specs.Heads.{Kept};
-ghost use Rattle.run.specs.Places.{movedTo, reseated, Posed, Quiet, Choosing, Turning};
+ghost use Rattle.parts.specs.Positions.{movedTo};
+ghost use Rattle.run.specs.Places.{Following, Quiet, Choosing, Turning};
 ghost use Rattle.run.specs.Tallies.{Single, Made, soFar};
+ghost use Rattle.run.specs.Legs.{Ready, Gone, both};
 
 // What a turn did: 1 if it met F, and 1 if it ended in H.
 pub struct Turned {
@@ -32,12 +33,16 @@ pub struct Turned {
     pub read: u16,
 }
 
-// What some turns did: the slot whose turn it is then, the fetches and the reads.
-struct Went {
-    slot: u8,
+// Some turns that were made: the view after them, how many they are, the fetches and the reads.
+struct Leg {
+    view: View,
+    turns: u64,
     fetches: u16,
     reads: u16,
 }
+
+// A leg is two rounds at most. A search for turns that meet no F costs about as much as a round of hits, so it is tried only after turns without F.
+const LEG: u64 = 32;
 
 // 1 if the answer is H.
 fn hits(answer: Answer) -> u16
@@ -55,15 +60,6 @@ fn ended(answer: Answer, fetched: u16) -> Turned
 {
     let read = hits(answer);
     Turned { fetched, read }
-}
-
-// The record at another position.
-fn at_position(r: Reader, position: u16) -> Reader
-    ensures { λ t. ⌜ t ≡ movedTo position r ⌝ }
-{
-    let mut next = r;
-    next.position = position;
-    next
 }
 
 // The page that gives up its frame for one that arrives: where all frames are taken, the head of the steal order.
@@ -139,14 +135,25 @@ fn readers_at(readers: [Reader; 16], seats: &[u16; 72]) -> [Reader; 16]
     let mut next = readers;
     let mut j: usize = 0;
     while j < 16 {
-        next[j] = at_position(next[j], seats[j]);
+        next[j] = parts::at_position(next[j], seats[j]);
         j += 1;
     }
     next
 }
 
-// Some turns, of a view whose readers are in the array. The counts fit: each turn adds at most 1 to either, and there are at most 16,384. Between two turns
-// no page is in fetch.
+// The view after some turns: it is this slot's turn, and the readers are where the array has them.
+fn view_after(v: View, slot: u8, seats: &[u16; 72]) -> View
+    ensures { λ r. ⌜ Following v slot (now (seats .entry)) r ⌝ }
+{
+    let readers = v.readers;
+    let moved = readers_at(readers, seats);
+    let mut after = v;
+    after.turn = slot;
+    after.readers = moved;
+    after
+}
+
+// Some turns, one after the other. The counts fit: each turn adds at most 1 to either, and there are at most 16,384. Between two turns no page is in fetch.
 fn go_on(
     v: View,
     seats: &mut [u16; 72],
@@ -154,15 +161,14 @@ fn go_on(
     fetching: &mut [u64; 128],
     held: &mut [u16; 8],
     heads: &mut [u64; 8],
+    done: u64,
     turns: u64,
-) -> Went
-    requires { ⌜ Valid (stateOf v (now cached) (now fetching)) × Quiet (now fetching) × Seated (v .readers) 16 (now seats) × (turns ≤ 16384) ⌝ }
-    requires { ⌜ Held (now cached) (now held) × Kept (stateOf v (now cached) (now fetching)) 0 (now heads) ⌝ }
-    ensures { λ r. ⌜ ((after : List Reader) × (Posed (v .readers) (now (seats .exit)) after
-        × (soFar (stateOf (reseated v (r .slot) after) (now (cached .exit)) (now (fetching .exit))) (r .fetches) (r .reads)
-        ≡ turnsOf turns (stateOf v (now (cached .entry)) (now (fetching .entry))))
-        × Kept (stateOf (reseated v (r .slot) after) (now (cached .exit)) (now (fetching .exit))) turns (now (heads .exit)))) ⌝ }
+) -> Leg
+    requires { ⌜ Ready v (now seats) (now cached) (now fetching) (now heads) done × (done + turns ≤ 16384) × Held (now cached) (now held) ⌝ }
+    ensures { λ r. ⌜ Gone (stateOf v (now (cached .entry)) (now (fetching .entry))) done turns r
+        (now (seats .exit)) (now (cached .exit)) (now (fetching .exit)) (now (heads .exit)) ⌝ }
     ensures counted { λ _. ⌜ Held (now (cached .exit)) (now (held .exit)) ⌝ }
+    ensures all { λ r. ⌜ r .turns ≡ turns ⌝ }
 {
     let sizes = v.sizes;
     let weights = order::weights_of(v);
@@ -171,19 +177,126 @@ fn go_on(
     let mut reads: u16 = 0;
     let mut i: u64 = 0;
     while i < turns {
-        let t = order::terms_at(v.look_ahead, v.fetch_time, v.frames, slot, i);
-        let r = at_position(v.readers[slot as usize], seats[slot as usize]);
+        let t = order::terms_at(v.look_ahead, v.fetch_time, v.frames, slot, done + i);
+        let r = parts::at_position(v.readers[slot as usize], seats[slot as usize]);
         let q = turn(t, &sizes, &weights, seats, cached, fetching, held, heads, r);
         fetches += q.fetched;
         reads += q.read;
         slot = (slot + 1) % 16;
         i += 1;
     }
-    Went {
-        slot,
+    let view = view_after(v, slot, seats);
+    Leg {
+        view,
+        turns,
         fetches,
         reads,
     }
+}
+
+// Of so many turns those that go by before one meets F, at once. Readers of any file have moved: no head is known after them.
+fn pass_hits(
+    v: View,
+    seats: &mut [u16; 72],
+    cached: &[u64; 128],
+    heads: &mut [u64; 8],
+    most: u64,
+) -> Leg
+    requires { ⌜ ((fetching : List ℕ) × ((done : ℕ) × Ready v (now seats) (now cached) fetching (now heads) done)) × (most ≤ 16384) ⌝ }
+    ensures { λ r. ⌜ ((fetching : List ℕ) (done : ℕ) → Ready v (now (seats .entry)) (now (cached .entry)) fetching (now (heads .entry)) done
+        → Gone (stateOf v (now (cached .entry)) fetching) done most r (now (seats .exit)) (now (cached .entry)) fetching (now (heads .exit))) ⌝ }
+{
+    let turns = hits::turns_ahead(v, cached, most);
+    let reads = hits::pass_turns(v, seats, turns);
+    *heads = [0u64; 8];
+    let slot = ((v.turn as u64 + turns) % 16) as u8;
+    let view = view_after(v, slot, seats);
+    Leg {
+        view,
+        turns,
+        fetches: 0,
+        reads,
+    }
+}
+
+// A leg and one after it.
+fn and_then(a: Leg, b: Leg) -> Leg
+    requires { ⌜ (a .turns + b .turns ≤ 16384) × (a .fetches + b .fetches ≤ 16384) × (a .reads + b .reads ≤ 16384) ⌝ }
+    ensures { λ r. ⌜ r ≡ both a b ⌝ }
+{
+    let view = b.view;
+    Leg {
+        view,
+        turns: a.turns + b.turns,
+        fetches: a.fetches + b.fetches,
+        reads: a.reads + b.reads,
+    }
+}
+
+// Some of so many turns: a leg of them, and after one without F those that meet none.
+fn further(
+    v: View,
+    seats: &mut [u16; 72],
+    cached: &mut [u64; 128],
+    fetching: &mut [u64; 128],
+    held: &mut [u16; 8],
+    heads: &mut [u64; 8],
+    done: u64,
+    most: u64,
+) -> Leg
+    requires { ⌜ Ready v (now seats) (now cached) (now fetching) (now heads) done × (done + most ≤ 16384) × Held (now cached) (now held) ⌝ }
+    ensures { λ r. ⌜ Gone (stateOf v (now (cached .entry)) (now (fetching .entry))) done most r
+        (now (seats .exit)) (now (cached .exit)) (now (fetching .exit)) (now (heads .exit)) ⌝ }
+    ensures counted { λ _. ⌜ Held (now (cached .exit)) (now (held .exit)) ⌝ }
+    ensures some { λ r. ⌜ (0 < most → 0 < r .turns) ⌝ }
+{
+    let turns = parts::lesser(LEG, most);
+    let first = go_on(v, seats, cached, fetching, held, heads, done, turns);
+    if 0 < first.fetches {
+        return first;
+    }
+    let view = first.view;
+    let rest = pass_hits(view, seats, cached, heads, most - turns);
+    and_then(first, rest)
+}
+
+// So many turns, leg by leg.
+fn make_turns(
+    v: View,
+    cached: &mut [u64; 128],
+    fetching: &mut [u64; 128],
+    held: &mut [u16; 8],
+    turns: u64,
+) -> Leg
+    requires { ⌜ Valid (stateOf v (now cached) (now fetching)) × Quiet (now fetching) × Held (now cached) (now held) × (turns ≤ 16384) ⌝ }
+    ensures { λ r. ⌜ soFar (stateOf (r .view) (now (cached .exit)) (now (fetching .exit))) (r .fetches) (r .reads)
+        ≡ turnsOf turns (stateOf v (now (cached .entry)) (now (fetching .entry))) ⌝ }
+    ensures counted { λ _. ⌜ Held (now (cached .exit)) (now (held .exit)) ⌝ }
+{
+    let readers = v.readers;
+    let mut seats = order::seats_of(readers);
+    let mut heads: [u64; 8] = [0; 8];
+    let mut made = Leg {
+        view: v,
+        turns: 0,
+        fetches: 0,
+        reads: 0,
+    };
+    while made.turns < turns {
+        let view = made.view;
+        let next = further(
+            view,
+            &mut seats,
+            cached,
+            fetching,
+            held,
+            &mut heads,
+            made.turns,
+            turns - made.turns,
+        );
+        made = and_then(made, next);
+    }
+    made
 }
 
 pub fn run(
@@ -205,19 +318,13 @@ pub fn run(
     if bits::count(fetching, 0, 8192) != 0 {
         return calls::refuse(v, 10);
     }
-    let readers = v.readers;
-    let mut seats = order::seats_of(readers);
-    let mut heads: [u64; 8] = [0; 8];
-    let went = go_on(v, &mut seats, cached, fetching, held, &mut heads, turns);
-    let mut after = v;
-    after.turn = went.slot;
-    let moved = readers_at(readers, &seats);
-    after.readers = moved;
+    let made = make_turns(v, cached, fetching, held, turns);
+    let view = made.view;
     Outcome {
-        view: after,
+        view,
         answer: Answer::Ran {
-            fetches: went.fetches,
-            reads: went.reads,
+            fetches: made.fetches,
+            reads: made.reads,
         },
     }
 }

@@ -3,6 +3,7 @@ use mathlib.Core.Path.{_≡_, refl, sym, ap, _∙_, subst}
 use mathlib.Core.Bool.{Bool, true, false, _||_}
 use mathlib.Core.Logic.{_≢_}
 use Prim.Native.Nat.{ℕ, zero, suc, min, _+_, _*_, _≤_, _<_}
+use native.Mathlib.Decide.{ℕ-discrete}
 use native.Mathlib.Omega.{arith}
 use native.Mathlib.Nat.{suc-mul}
 use native.Mathlib.Numerals.{add-one}
@@ -74,6 +75,23 @@ total-none g = refl
 pub total-more : (g : ℕ → ℕ) (j n m : ℕ) → n ≡ total j g → m ≡ g j → n + m ≡ total (j + 1) g
 unfolding total
 total-more g j n m e f = rw (add-one j) (omega (arith, e, f))
+
+-- sums of the same, and with g more at one place
+total-same : (m : ℕ) (f h : ℕ → ℕ) → ((j : ℕ) → j < m → f j ≡ h j) → total m f ≡ total m h
+unfolding total
+total-same zero f h e = refl
+total-same (suc m) f h e = omega (arith, e m (omega arith), total-same m f h (λ j l. e j (omega arith)))
+
+pub total-one : (m u g : ℕ) (f h : ℕ → ℕ) → u < m → f u ≡ g + h u → ((j : ℕ) → j < m → j ≢ u → f j ≡ h j) → total m f ≡ g + total m h
+unfolding total
+total-one zero u g f h l own others = absurd (omega arith)
+total-one (suc m) u g f h l own others = by (ℕ-discrete u m) (λ k. total-one m u g f h k own (λ j i. others j (omega arith)))
+  where
+    by : Dec (u ≡ m) → (u < m → total m f ≡ g + total m h) → f m + total m f ≡ g + (h m + total m h)
+    by (yes e) _ =
+        let at : f m ≡ g + h m = subst (λ i. f i ≡ g + h i) e own in
+        omega (arith, at, total-same m f h (λ j k. others j (omega arith) (omega arith)))
+    by (no e) below = omega (arith, others m (omega arith) (λ z. e (sym z)), below (omega arith))
 
 -- sums go with what is summed
 pub total-mono : (m : ℕ) (f g : ℕ → ℕ) → ((j : ℕ) → f j ≤ g j) → total m f ≤ total m g

@@ -19,7 +19,7 @@ use Rattle.rules.proofs.orders.Local.{NotOf, LikeFile, SameSlot, not-se
 use Rattle.rules.specs.declared.State.{State}
 
 -- every seat but that of the turn falls by 1
-seat-falls : (u n j : ℕ) → u < 16 → j < 16 → n ≡ (u + 1) % 16 → j ≢ u → (j + 16 - u) % 16 ≡ (j + 16 - n) % 16 + 1
+pub seat-falls : (u n j : ℕ) → u < 16 → j < 16 → n ≡ (u + 1) % 16 → j ≢ u → (j + 16 - u) % 16 ≡ (j + 16 - n) % 16 + 1
 seat-falls u n j lu lj e ne = go (decLt u 15) (decLt j u)
   where
     go : Dec (u < 15) → Dec (j < u) → (j + 16 - u) % 16 ≡ (j + 16 - n) % 16 + 1

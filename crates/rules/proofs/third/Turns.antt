@@ -151,7 +151,7 @@ goes-short : (r : Reader) → T (goes r) → atEnd r ≡ false
 unfolding goes
 goes-short r h = is-false (atEnd r) (and-second (attached r) _ h)
 
-goes-not : (r : Reader) → T (attached r) → T (not (goes r)) → atEnd r ≡ true
+pub goes-not : (r : Reader) → T (attached r) → T (not (goes r)) → atEnd r ≡ true
 unfolding goes
 goes-not r a h = go (attached r) (atEnd r) a h
   where
@@ -194,7 +194,7 @@ module _ (s : State) (v : Valid s) (closed : (k : ℕ) → T (inFetch s k) → �
     placed : Placed s (nowAt s)
     placed = placed-at s v (s .turn) here
 
-    inside : nowAt s .position < nowAt s .last
+    pub inside : nowAt s .position < nowAt s .last
     inside = let ne = eqb-false (nowAt s .position) (nowAt s .last) short in omega (arith, placed .position-in)
 
     pub low : keyNow s < 8192

@@ -1,13 +1,8 @@
--- 11 and 10 are refused; else the turns are made, and the readers put where the array has them.
+-- 11 and 10 are refused; else the turns are made.
 use mathlib.Core.Path.{_≡_, refl}
 use native.Mathlib.Omega.{arith}
 use borrow.Author.Needs.{needs}
-use lib.ListN.{getD-replicate}
-use Rattle.rules.proofs.calls.Valids.{placed-at}
-use Rattle.rules.proofs.calls.Kept.{turns-kept}
-use Rattle.heads.proofs.Keeping.{kept-none}
-use Rattle.run.proofs.Seatings.{moved-all}
-use Rattle.run.proofs.Rounds.{with-third, run-many, run-open, run-done, none-open, sixteen-after}
+use Rattle.run.proofs.Rounds.{with-third, run-many, run-open, run-done, none-open}
 use Rattle.run.proofs.run.Statement.{statement}
 use Rattle.run.proofs.run.Tie as tie
 
@@ -38,43 +33,25 @@ returns-2 c =
     with-third _ _ _ _ _ (at-start .pre .1)
     (rw (c .refuse2 .ensures) (run-open _ (at-start .pre .0) _ (else-1 .if1 .left) _ (after-count .count .ensures) _ (then-2 .if2 .taken) refl))
 
-seats-of-requires : tie.Need-seats-of-requires
-seats-of-requires c κs =
-    let else-2 = c .before in
-    let at-start = else-2 .before .before .before .before in
-    λ j h. placed-at _ (at-start .pre .0) j h .file-high
-
-go-on-requires : tie.Need-go-on-requires
-go-on-requires c κs =
-    let after-seats-of = c .before .before .before .before .before in
-    let else-2 = after-seats-of .before .before in
-    let after-count = else-2 .before in
-    let else-1 = after-count .before .before in
-    let at-start = else-1 .before in
-    let v = at-start .pre .0 in (
-      (v, none-open _ v _ (else-1 .if1 .left) _ (after-count .count .ensures) (closed else-2), after-seats-of .seats-of .ensures, else-1 .if1 .left),
-      (at-start .pre .1, kept-none _ _ _ refl (λ f. getD-replicate 8 f 0 0)),
-    )
-
-readers-at-requires : tie.Need-readers-at-requires
-readers-at-requires c κs = search needs
-
-returns-3 : tie.Need-returns-3
-returns-3 c =
-    let after-go-on = c .before .before in
-    let after-seats-of = after-go-on .before .before .before .before .before .before in
-    let else-2 = after-seats-of .before .before in
+make-turns-requires : tie.Need-make-turns-requires
+make-turns-requires c κs =
+    let else-2 = c .before .before .before in
     let after-count = else-2 .before in
     let else-1 = after-count .before .before in
     let at-start = else-1 .before in
     let v = at-start .pre .0 in
-    let went = after-go-on .go-on .ensures in
-    let after = went .0 .1 in
-    let kept = turns-kept (at-start .args .turns) _ v in
-    let moved = c .readers-at .ensures in
-    let e = moved-all _ _ (c .readers-at .result) (went .0 .0) (moved .0) (moved .1) (sixteen-after _ _ _ _ _ (after .1) kept) (after .0) in
-    with-third _ _ _ _ _ (went .1)
-    (run-done _ v _ (else-1 .if1 .left) _ (after-count .count .ensures) _ _ _ _ (closed else-2) (after .1) (rw e refl))
+    (v, none-open _ v _ (else-1 .if1 .left) _ (after-count .count .ensures) (closed else-2), at-start .pre .1, else-1 .if1 .left)
+
+returns-3 : tie.Need-returns-3
+returns-3 c =
+    let after-make-turns = c .before in
+    let else-2 = after-make-turns .before .before .before .before in
+    let after-count = else-2 .before in
+    let else-1 = after-count .before .before in
+    let at-start = else-1 .before in
+    let made = after-make-turns .make-turns .ensures in
+    with-third _ _ _ _ _ (made .1)
+    (run-done _ (at-start .pre .0) _ (else-1 .if1 .left) _ (after-count .count .ensures) _ _ _ _ (closed else-2) (made .0) refl)
 
 pub run-spec : {M : Type 1} → statement M
 run-spec =
@@ -85,7 +62,5 @@ run-spec =
     count-requires
     refuse-requires-2
     returns-2
-    seats-of-requires
-    go-on-requires
-    readers-at-requires
+    make-turns-requires
     returns-3)

@@ -1,0 +1,67 @@
+-- All pages up to the last are cached, or the turns end with the reader's own one that comes to the first that is not.
+use Prim.Native.Nat.{min, _+_, _-_, _/_, _<_}
+use native.Mathlib.Omega.{arith}
+use borrow.Author.Needs.{needs}
+use Rattle.hits.proofs.Slots.{stretch-bounds, stretch-cached, own-few}
+use Rattle.hits.proofs.turns_before.Statement.{statement}
+use Rattle.hits.proofs.turns_before.Tie as tie
+
+sub-left : tie.Need-sub-left
+sub-left c = search needs
+
+cast-left : tie.Need-cast-left
+cast-left c = search needs
+
+next-key-requires : tie.Need-next-key-requires
+next-key-requires c κs = search needs
+
+next-bit-requires : tie.Need-next-bit-requires
+next-bit-requires c κs = search needs
+
+sub-stretch : tie.Need-sub-stretch
+sub-stretch c = omega (arith, stretch-bounds _ _ _ _ (c .next-bit .ensures) .0)
+
+returns : tie.Need-returns
+returns c =
+    let after-next-bit = c .before in
+    let key = after-next-bit .before .next-key .ensures in
+    let e = after-next-bit .next-bit .ensures in
+    (omega arith, λ n l i h. rw (← key) (stretch-cached _ _ _ _ e i (omega (arith, h, c .if1 .taken))))
+
+mul-lesser : tie.Need-mul-lesser
+mul-lesser c = omega (arith, stretch-bounds _ _ _ _ (c .before .next-bit .ensures) .1)
+
+add-lesser : tie.Need-add-lesser
+add-lesser c = omega (arith, stretch-bounds _ _ _ _ (c .before .next-bit .ensures) .1, c .before .before .before .before .pre .1)
+
+lesser-requires : tie.Need-lesser-requires
+lesser-requires c κs = search needs
+
+returns-2 : tie.Need-returns-2
+returns-2 c =
+    let else-1 = c .before in
+    let after-next-bit = else-1 .before in
+    let after-next-key = after-next-bit .before in
+    let at-start = after-next-key .before .before in
+    let e = after-next-bit .next-bit .ensures in
+    let stretch = after-next-bit .next-bit .result - after-next-key .next-key .result in (
+      omega (arith, c .lesser .ensures),
+      λ n l i h.
+          let few = own-few n (at-start .args .distance) stretch (omega (arith, l, c .lesser .ensures)) in
+          rw (← after-next-key .next-key .ensures) (stretch-cached _ _ _ _ e i (omega (arith, h, few))),
+    )
+
+pub turns-before-spec : {M : Type 1} → statement M
+turns-before-spec =
+    tie.close
+    (tie.spec
+    sub-left
+    cast-left
+    next-key-requires
+    next-bit-requires
+    sub-stretch
+    returns
+    mul-lesser
+    add-lesser
+    lesser-requires
+    returns-2)
