@@ -1,6 +1,6 @@
 -- So many turns that meet no F, made at once. One turn moves its own reader by one page, or by none, and every other seat distance falls by 1: so what is left
 -- to read in one turn less is what was, without that page. Assumes nothing.
-use Prim.Native.Nat.{ℕ, zero, suc, min, _+_, _-_, _*_, _/_, _%_, _≤_, _<_}
+use Prim.Native.Nat.{ℕ, zero, suc, min, _+_, _-_, _/_, _%_, _<_}
 use mathlib.Core.Path.{_≡_, refl, sym, ap, subst, _∙_}
 use mathlib.Core.Bool.{not}
 use mathlib.Core.List.{List, [], _∷_}

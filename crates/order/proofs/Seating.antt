@@ -185,9 +185,9 @@ seat-same readers others f zero e = refl
 seat-same readers others f (suc n) e = rw (e n (omega arith), seat-same readers others f n (λ j l. e j (omega arith))) refl
 
 -- the array with the positions of others that are alike
-module _ (readers others : List Reader) (seats next : List ℕ) (a : Seated readers 16 seats) (alike : (j : ℕ) → j < 16 → Alike (readerIn others j) (readerIn readers j))
-    (long : length next ≡ 72) (placed : (j : ℕ) → j < 16 → getD next j 0 ≡ readerIn others j .position)
-    (rest : (i : ℕ) → 16 ≤ i → getD next i 0 ≡ getD seats i 0) where
+module _ (readers others : List Reader) (seats next : List ℕ) (a : Seated readers 16 seats)
+    (alike : (j : ℕ) → j < 16 → Alike (readerIn others j) (readerIn readers j)) (long : length next ≡ 72)
+    (placed : (j : ℕ) → j < 16 → getD next j 0 ≡ readerIn others j .position) (rest : (i : ℕ) → 16 ≤ i → getD next i 0 ≡ getD seats i 0) where
   files-alike : (f j : ℕ) → j < 16 → readsFile f (readerIn others j) ≡ readsFile f (readerIn readers j)
   files-alike f j l = rw (alike j l .here, alike j l .file-same) refl
 

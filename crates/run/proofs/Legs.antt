@@ -1,8 +1,8 @@
--- Legs of a Run: turns made one by one, turns passed at once, and one leg after the other. Assumes nothing.
+-- Legs of a Run, one after the other, and turns passed at once. Assumes nothing.
 use Prim.Native.Nat.{ℕ, _+_, _%_, _≤_, _<_}
 use mathlib.Core.Path.{_≡_, refl, sym, ap, ap₂, subst, _∙_}
 use mathlib.Core.List.{List}
-use native.Mathlib.Nat.{zero-add, add-assoc}
+use native.Mathlib.Nat.{zero-add}
 use native.Mathlib.Omega.{arith}
 use lib.ListN.{getD, length}
 use Rattle.rules.specs.Lists.{total}
@@ -11,22 +11,20 @@ use Rattle.rules.specs.Valid.{Valid}
 use Rattle.rules.specs.Views.{stateOf}
 use Rattle.rules.specs.Run.{Turns, turnsOf}
 use Rattle.rules.specs.declared.State.{State}
-use Rattle.rules.specs.declared.Reader.{Reader}
 use Rattle.rules.specs.declared.View.{View}
 use Rattle.rules.proofs.calls.Kept.{turns-kept}
 use Rattle.parts.specs.Positions.{movedTo}
 use Rattle.order.specs.Seats.{Seated}
 use Rattle.order.proofs.Seating.{Alike, seated-alike}
-use Rattle.heads.specs.Heads.{Kept}
 use Rattle.heads.proofs.Keeping.{kept-none}
 use Rattle.hits.specs.Hits.{readsOf, Clear, Onward, Advanced}
 use Rattle.hits.proofs.Passes.{hits-made}
-use Rattle.run.specs.declared.Leg.{Leg}
-use Rattle.run.specs.Places.{reseated, Posed, Following, Quiet}
-use Rattle.run.specs.Tallies.{soFar}
-use Rattle.run.specs.Legs.{Ready, Gone, both}
-use Rattle.run.proofs.Rounds.{turns-none, turns-then, turns-few}
-use Rattle.run.proofs.Seatings.{following-is}
+use Rattle.turns.specs.declared.Leg.{Leg}
+use Rattle.turns.specs.Places.{reseated, Following}
+use Rattle.turns.specs.Tallies.{soFar}
+use Rattle.turns.specs.Legs.{Ready, Gone}
+use Rattle.turns.proofs.Rounds.{turns-none, turns-then, turns-few}
+use Rattle.run.specs.Both.{both}
 
 -- the state after some turns of a valid one is valid
 valid-after : (s t : State) (fetches reads n : ℕ) → Valid s → soFar t fetches reads ≡ turnsOf n s → Valid t
@@ -68,25 +66,6 @@ gone-then s done most part more d a b seats cached fetching heads seats′ cache
       subst (Ready (b .view) seats′ cached′ fetching′ heads′) x (h .ready);
   within = omega (arith, l, h .within);
 }
-
--- ---- turns one by one
-
--- the heads kept after one more
-pub kept-again : (s : State) (done i : ℕ) (heads : List ℕ) → Kept s (done + i + 1) heads → Kept s (done + (i + 1)) heads
-kept-again s done i heads k = subst (λ n. Kept s n heads) (add-assoc done i 1) k
-
--- the view after them is that of the loop
-pub gone-made : (v w : View) (slot : ℕ) (after : List Reader) (done turns fetches reads : ℕ) (cached fetching seats cached′ fetching′ heads′ : List ℕ)
-    → Following v slot seats w → length after ≡ 16 → Posed (v .readers) seats after → Valid (stateOf (reseated v slot after) cached′ fetching′) → Quiet fetching′
-    → soFar (stateOf (reseated v slot after) cached′ fetching′) fetches reads ≡ turnsOf turns (stateOf v cached fetching)
-    → Kept (stateOf (reseated v slot after) cached′ fetching′) (done + turns) heads′
-    → Gone (stateOf v cached fetching) done turns (record { view = w; turns = turns; fetches = fetches; reads = reads }) seats cached′ fetching′ heads′
-gone-made v w slot after done turns fetches reads cached fetching seats cached′ fetching′ heads′ f sixteen p valid quiet told kept =
-    rw (following-is v w slot seats after f sixteen p) (record {
-      told = told;
-      ready = record { valid = valid; quiet = quiet; seated = p .seated; kept = kept };
-      within = omega arith;
-    })
 
 -- ---- turns passed at once
 

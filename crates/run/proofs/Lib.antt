@@ -1,7 +1,3 @@
--- What Run rests on: the answer of a turn, the readers and their array, turns one after the other, a turn as its code reads it, and legs of turns.
-pub mod Answers
-pub mod Seatings
-pub mod Rounds
-pub mod Turnings
-pub mod Keepings
+-- What Run rests on: its reply, and legs one after the other.
+pub mod Replies
 pub mod Legs

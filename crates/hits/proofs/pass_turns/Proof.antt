@@ -36,7 +36,10 @@ few c =
 its : (c : tie.After-struct-known Inv-loop μ-loop) →
     let at-loop = in-loop c .before in
     c .before .pages-read .result ≡ readsOf (at-loop .before .args .t1) (at-loop .before .args .turns) (at-loop .loop .slot)
-its c = rw (← c .before .before .seat .ensures) (c .before .pages-read .ensures)
+its c =
+    let after-pages-read = c .before in
+    let after-seat = after-pages-read .before in
+    rw (← after-seat .seat .ensures) (after-pages-read .pages-read .ensures)
 
 loop-holds : tie.Need-loop-holds Inv-loop μ-loop
 loop-holds c = (omega arith, omega arith, total-none _, advanced-none _ _ _ (c .pre .1 .0))

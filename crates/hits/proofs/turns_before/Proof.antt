@@ -1,5 +1,5 @@
 -- All pages up to the last are cached, or the turns end with the reader's own one that comes to the first that is not.
-use Prim.Native.Nat.{min, _+_, _-_, _/_, _<_}
+use Prim.Native.Nat.{_-_}
 use native.Mathlib.Omega.{arith}
 use borrow.Author.Needs.{needs}
 use Rattle.hits.proofs.Slots.{stretch-bounds, stretch-cached, own-few}
@@ -32,7 +32,10 @@ mul-lesser : tie.Need-mul-lesser
 mul-lesser c = omega (arith, stretch-bounds _ _ _ _ (c .before .next-bit .ensures) .1)
 
 add-lesser : tie.Need-add-lesser
-add-lesser c = omega (arith, stretch-bounds _ _ _ _ (c .before .next-bit .ensures) .1, c .before .before .before .before .pre .1)
+add-lesser c =
+    let after-next-bit = c .before in
+    let at-start = after-next-bit .before .before .before in
+    omega (arith, stretch-bounds _ _ _ _ (after-next-bit .next-bit .ensures) .1, at-start .pre .1)
 
 lesser-requires : tie.Need-lesser-requires
 lesser-requires c κs = search needs

@@ -10,7 +10,7 @@ use Rattle.rules.specs.Run.{turnsOf}
 use Rattle.rules.proofs.calls.Valids.{placed-at}
 use Rattle.parts.specs.Held.{Held}
 use Rattle.heads.proofs.Keeping.{kept-none}
-use Rattle.run.specs.Legs.{Gone}
+use Rattle.turns.specs.Legs.{Gone}
 use Rattle.run.proofs.Legs.{gone-none, gone-then, leg-few, ready-now}
 use Rattle.run.proofs.make_turns.Statement.{statement}
 use Rattle.run.proofs.make_turns.Tie as tie
@@ -89,7 +89,8 @@ loop-again c =
 returns : tie.Need-returns Inv-loop μ-loop
 returns c =
     let at-loop = c .before .before in
-    let a = at-loop .before .before .before .args in
+    let at-start = at-loop .before .before .before in
+    let a = at-start .args in
     let l = at-loop .loop in
     let e : l .made .turns ≡ a .turns = omega (arith, l .inv .0 .within, c .if1 .left) in
     (l .inv .0 .told ∙ ap (λ n. turnsOf n (stateOf (a .v) (a .cached .now) (a .fetching .now))) e, l .inv .1)

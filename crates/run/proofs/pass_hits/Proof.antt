@@ -30,7 +30,8 @@ returns c = λ fetching done r.
     let after-turns-ahead = after-pass-turns .before .before in
     let ahead = after-turns-ahead .turns-ahead .ensures in
     let passed = after-pass-turns .pass-turns .ensures in
-    gone-passed _ _ done _ _ _ _ _ _ fetching _ _ _ r (ahead .0) (ahead .1) (passed .1) (passed .0) refl (c .view-after .ensures) refl (λ f. getD-replicate 8 f 0 0)
+    gone-passed _ _ done _ _ _ _ _ _ fetching _ _ _ r (ahead .0) (ahead .1) (passed .1) (passed .0) refl (c .view-after .ensures) refl
+    (λ f. getD-replicate 8 f 0 0)
 
 pub pass-hits-spec : {M : Type 1} → statement M
 pass-hits-spec =

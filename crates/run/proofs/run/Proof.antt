@@ -2,7 +2,7 @@
 use mathlib.Core.Path.{_≡_, refl}
 use native.Mathlib.Omega.{arith}
 use borrow.Author.Needs.{needs}
-use Rattle.run.proofs.Rounds.{with-third, run-many, run-open, run-done, none-open}
+use Rattle.run.proofs.Replies.{with-third, run-many, run-open, run-done, none-open}
 use Rattle.run.proofs.run.Statement.{statement}
 use Rattle.run.proofs.run.Tie as tie
 

@@ -1,4 +1,4 @@
--- Some turns of a Run, and some more after them. Assumes nothing: these are definitions.
+-- A leg of a Run: some turns, after which more can follow. Assumes nothing: these are definitions.
 use Prim.Native.Nat.{ℕ, _+_, _≤_}
 use mathlib.Core.Path.{_≡_}
 use mathlib.Core.List.{List}
@@ -9,9 +9,9 @@ use Rattle.rules.specs.declared.State.{State}
 use Rattle.rules.specs.declared.View.{View}
 use Rattle.order.specs.Seats.{Seated}
 use Rattle.heads.specs.Heads.{Kept}
-use Rattle.run.specs.declared.Leg.{Leg}
-use Rattle.run.specs.Places.{Quiet}
-use Rattle.run.specs.Tallies.{soFar}
+use Rattle.turns.specs.declared.Leg.{Leg}
+use Rattle.turns.specs.Places.{Quiet}
+use Rattle.turns.specs.Tallies.{soFar}
 
 -- so it is between two turns, after so many: the state is valid, no page is in fetch, the array has the readers, and these heads are kept
 pub record Ready (v : View) (seats cached fetching heads : List ℕ) (done : ℕ) : Type 0 where
@@ -25,7 +25,3 @@ pub record Gone (s : State) (done most : ℕ) (r : Leg) (seats cached fetching h
   pub told : soFar (stateOf (r .view) cached fetching) (r .fetches) (r .reads) ≡ turnsOf (r .turns) s
   pub ready : Ready (r .view) seats cached fetching heads (done + r .turns)
   pub within : r .turns ≤ most
-
--- a leg and one after it
-abbrev pub both : Leg → Leg → Leg
-both a b = record { view = b .view; turns = a .turns + b .turns; fetches = a .fetches + b .fetches; reads = a .reads + b .reads }

@@ -34,8 +34,8 @@ use Rattle.heads.specs.Heads.{Kept, Forgot, NotRead}
 use Rattle.heads.proofs.Keeping.{head-same, head-passed, kept-over, not-read}
 use Rattle.calls.specs.Inner.{eased}
 use Rattle.parts.specs.Positions.{movedTo}
-use Rattle.run.specs.Places.{afterTurn, Turning}
-use Rattle.run.proofs.Turnings.{valid, waits}
+use Rattle.turns.specs.Places.{afterTurn, Turning}
+use Rattle.turns.proofs.Turnings.{valid, waits}
 
 -- a page of another file is not touched
 on-other : (words : List ℕ) (key v k : ℕ) → v < 2 → k ≢ key → on (putBit words key v) k ≡ on words k

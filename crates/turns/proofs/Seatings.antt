@@ -13,7 +13,7 @@ use Rattle.rules.specs.declared.View.{View}
 use Rattle.order.specs.Seats.{Seated}
 use Rattle.order.proofs.Seating.{seated-moved}
 use Rattle.parts.specs.Positions.{movedTo}
-use Rattle.run.specs.Places.{reseated, Posed, Following}
+use Rattle.turns.specs.Places.{reseated, Posed, Following}
 
 -- ---- the records put at their positions
 
@@ -39,8 +39,8 @@ moved-more readers seats n next q l a e = record {
 }
 
 -- all: the view after some turns has these readers
-pub following-is : (v w : View) (slot : ℕ) (seats : List ℕ) (after : List Reader) → Following v slot seats w → length after ≡ 16 → Posed (v .readers) seats after
-    → w ≡ reseated v slot after
+pub following-is : (v w : View) (slot : ℕ) (seats : List ℕ) (after : List Reader) → Following v slot seats w → length after ≡ 16
+    → Posed (v .readers) seats after → w ≡ reseated v slot after
 following-is v w slot seats after f e p = f .same ∙ ap (reseated v slot) readers
   where
     readers : w .readers ≡ after

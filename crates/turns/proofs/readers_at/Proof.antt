@@ -2,9 +2,9 @@
 use Prim.Native.Nat.{_-_, _≤_}
 use native.Mathlib.Omega.{arith}
 use borrow.Author.Needs.{needs}
-use Rattle.run.proofs.Seatings.{Moved, moved-none, moved-more}
-use Rattle.run.proofs.readers_at.Statement.{statement}
-use Rattle.run.proofs.readers_at.Tie as tie
+use Rattle.turns.proofs.Seatings.{Moved, moved-none, moved-more}
+use Rattle.turns.proofs.readers_at.Statement.{statement}
+use Rattle.turns.proofs.readers_at.Tie as tie
 
 abbrev Inv-loop : tie.InvT-loop
 Inv-loop seats next₀ j₀ next j = (j ≤ 16) × Moved next₀ seats j next

@@ -8,33 +8,29 @@ use native.Mathlib.Omega.{arith}
 use native.Mathlib.Nat.{zero-add, suc-add, add-assoc, add-zero}
 use lib.ListN.{getD, set, length}
 use lib.Seq.{getD-set-same}
-use lib.Dec.{T, ltb, eqb}
-use Rattle.bits.specs.Map.{putBit, on, ones}
-use Rattle.rules.specs.Pages.{cached, inFetch, fetchingPages}
+use lib.Dec.{T, ltb}
+use Rattle.bits.specs.Map.{putBit, on}
+use Rattle.rules.specs.Pages.{cached, inFetch}
 use Rattle.rules.specs.Readers.{noReader, readerAt, attached, byCondition, onward}
 use Rattle.rules.specs.Valid.{Valid}
 use Rattle.rules.specs.Calls.{reply, refused, withReaders, withReader, withFetching, withCached, without, readOf, arriveOf, dropped}
-use Rattle.rules.specs.Run.{fetchOpen, onFetch, hitPage, nextTurn, ended, readTurn, turnOf, Turn, Turns, turnsOf, runOf}
-use Rattle.rules.specs.Third.{ThirdStatement}
+use Rattle.rules.specs.Run.{onFetch, hitPage, nextTurn, ended, readTurn, turnOf, Turn, Turns, turnsOf}
 use Rattle.rules.specs.declared.State.{State}
 use Rattle.rules.specs.declared.Reader.{Reader}
 use Rattle.rules.specs.declared.Reply.{Reply}
 use Rattle.rules.specs.declared.Answer.{Answer}
-use Rattle.rules.specs.declared.Answer.the-variants.{Hit, Ran}
+use Rattle.rules.specs.declared.Answer.the-variants.{Hit}
 use Rattle.rules.specs.declared.Condition.{Condition}
 use Rattle.rules.specs.declared.Condition.the-variants.{Empty, Running, Waiting}
-use Rattle.rules.proofs.laws.Cases.{cond-yes, cond-no, cond-all, fetch-all, outcomes}
+use Rattle.rules.proofs.laws.Cases.{cond-no, cond-all, fetch-all, outcomes}
 use Rattle.rules.proofs.calls.Kept.{turn-kept}
-use Rattle.rules.proofs.third.Optimal.{third-of}
 use Rattle.rules.proofs.third.Moves.{nowAt, goesNow, keyNow}
-use Rattle.rules.proofs.third.Turns.{none-in-fetch, awaiting, read-by, read-stored, stored, emptied, emptied-same, fetch-turn}
-use Rattle.parts.specs.Held.{Held}
+use Rattle.rules.proofs.third.Turns.{awaiting, read-by, read-stored, stored, emptied, emptied-same, fetch-turn}
 use Rattle.calls.specs.Inner.{stepped, eased}
 use Rattle.calls.specs.declared.Step.{Step}
-use Rattle.calls.proofs.Frames.{pages-ones}
 use Rattle.parts.specs.Positions.{movedTo}
-use Rattle.run.specs.Tallies.{Tally, tally, soFar}
-use Rattle.run.proofs.Answers.{NoFetch, not-fetch, IsFetch, only-fetch, one-hit}
+use Rattle.turns.specs.Tallies.{Tally, tally, soFar}
+use Rattle.turns.proofs.Answers.{NoFetch, not-fetch, IsFetch, only-fetch, one-hit}
 
 -- ---- what Read says of the turn's record
 
@@ -241,42 +237,3 @@ turns-few (suc n) s =
 -- a turn leaves a valid state
 pub turn-valid : (s : State) → Valid s → (t : Tally) → t ≡ tally (turnOf s) → Valid (t .after)
 turn-valid s v t e = rw e (turn-kept s v)
-
--- ---- Run
-
--- what holds of a reply that is Run's: the third statement too; and of the counts
-pub with-third : (s : State) (n : ℕ) (r : Reply) (map held : List ℕ) → Held map held → r ≡ runOf s n
-    → (r ≡ runOf s n) × (ThirdStatement n s (r .answer) × Held map held)
-with-third s n r map held h e = (e, (third-of s n r e, h))
-
--- 11
-pub run-many : (s : State) (n : ℕ) (r : Reply) → 16384 < n → r ≡ refused s 11 → r ≡ runOf s n
-unfolding runOf
-run-many s n r h e = cond-yes (λ q. r ≡ q) (ltb 16384 n) _ _ (search outcomes) e
-
-module _ (s : State) (v : Valid s) (n : ℕ) (few : n ≤ 16384) (q : ℕ) (e : q ≡ ones (s .fetching) 0 8192) where
-  -- q counts the pages in fetch
-  in-fetch : length (fetchingPages s) ≡ q
-  unfolding fetchingPages
-  in-fetch = pages-ones s v (s .fetching) (v .fetching-in) ∙ sym e
-
-  -- none is
-  pub none-open : q ≡ 0 → (k : ℕ) → T (inFetch s k) → ⊥
-  unfolding fetchOpen
-  none-open h = let o : eqb q 0 ≡ true = search outcomes in none-in-fetch s v (rw (in-fetch, o) refl)
-
-  -- 10
-  pub run-open : (r : Reply) → (q ≡ 0 → ⊥) → r ≡ refused s 10 → r ≡ runOf s n
-  unfolding runOf fetchOpen
-  run-open r h k =
-      let o : eqb q 0 ≡ false = search outcomes in
-      cond-no (λ x. r ≡ x) (ltb 16384 n) _ _ (search outcomes) (cond-yes (λ x. r ≡ x) (not (eqb (length (fetchingPages s)) 0)) _ _ (rw (in-fetch, o)) k)
-
-  -- all turns are made
-  pub run-done : (t : State) (fetches reads : ℕ) (r : Reply) → q ≡ 0 → soFar t fetches reads ≡ turnsOf n s → r ≡ reply t (Ran fetches reads) → r ≡ runOf s n
-  unfolding runOf fetchOpen
-  run-done t fetches reads r h a k =
-      let o : eqb q 0 ≡ true = search outcomes in
-      cond-no (λ x. r ≡ x) (ltb 16384 n) _ _ (search outcomes)
-      (cond-no (λ x. r ≡ x) (not (eqb (length (fetchingPages s)) 0)) _ _ (rw (in-fetch, o))
-      (k ∙ ap (λ ts. reply (ts .after) (Ran (ts .fetches) (ts .reads))) a))

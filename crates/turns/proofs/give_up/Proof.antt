@@ -5,8 +5,8 @@ use borrow.Author.Needs.{needs}
 use Rattle.parts.proofs.Carried.{held-high}
 use Rattle.order.proofs.Leading.{weights-in}
 use Rattle.calls.proofs.Frames.{free-none, taken-victim}
-use Rattle.run.proofs.give_up.Statement.{statement}
-use Rattle.run.proofs.give_up.Tie as tie
+use Rattle.turns.proofs.give_up.Statement.{statement}
+use Rattle.turns.proofs.give_up.Tie as tie
 
 taken-requires : tie.Need-taken-requires
 taken-requires c κs = held-high _ _ (c .pre .1 .1)

@@ -31,7 +31,7 @@ use Rattle.order.specs.Searches.{under, stateUnder}
 use Rattle.order.proofs.Seating.{seated-moved}
 use Rattle.calls.specs.Inner.{Readable}
 use Rattle.calls.proofs.Slots.{readable}
-use Rattle.run.specs.Places.{reseated, Choosing, Turning}
+use Rattle.turns.specs.Places.{reseated, Choosing, Turning}
 
 module _ (t : Terms) (sizes weights seats map fetching heads : List ℕ) (r : Reader) (w : View)
     (g : Turning t sizes weights seats map fetching heads r w) where

@@ -11,8 +11,8 @@ use Rattle.rules.specs.declared.View.{View}
 use Rattle.order.specs.declared.Terms.{Terms}
 use Rattle.order.specs.Searches.{stateUnder}
 use Rattle.heads.specs.Heads.{Kept}
-use Rattle.run.specs.declared.Turned.{Turned}
-use Rattle.run.specs.Places.{afterTurn, Quiet}
+use Rattle.turns.specs.declared.Turned.{Turned}
+use Rattle.turns.specs.Places.{afterTurn, Quiet}
 
 -- the state after a turn, 1 if it met F, and 1 if it ended in H
 pub record Tally : Type 0 where

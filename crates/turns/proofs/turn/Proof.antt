@@ -8,13 +8,13 @@ use Rattle.rules.specs.declared.View.{View}
 use Rattle.order.specs.Searches.{under}
 use Rattle.calls.specs.Inner.{Readable}
 use Rattle.calls.proofs.Choices.{dropped-has}
-use Rattle.run.specs.Places.{Turning}
-use Rattle.run.proofs.Answers.{NoFetch, one-hit}
-use Rattle.run.proofs.Rounds.{read-moves, read-begins, turn-ends, fetch-made, fetch-left, fetch-quiet, turn-valid}
-use Rattle.run.proofs.Turnings.{valid, turn-readable, turn-file, waits, choosing-waits, key-low, key-clear}
-use Rattle.run.proofs.Keepings.{kept-moved, kept-fetched, kept-arrived}
-use Rattle.run.proofs.turn.Statement.{statement}
-use Rattle.run.proofs.turn.Tie as tie
+use Rattle.turns.specs.Places.{Turning}
+use Rattle.turns.proofs.Answers.{NoFetch, one-hit}
+use Rattle.turns.proofs.Rounds.{read-moves, read-begins, turn-ends, fetch-made, fetch-left, fetch-quiet, turn-valid}
+use Rattle.turns.proofs.Turnings.{valid, turn-readable, turn-file, waits, choosing-waits, key-low, key-clear}
+use Rattle.turns.proofs.Keepings.{kept-moved, kept-fetched, kept-arrived}
+use Rattle.turns.proofs.turn.Statement.{statement}
+use Rattle.turns.proofs.turn.Tie as tie
 
 -- a view as the turn reads it, and one there is
 abbrev Read : tie.Start → View → Type 0

@@ -1,7 +1,7 @@
 -- By the hits.
 use borrow.Author.Needs.{needs}
-use Rattle.run.proofs.ended.Statement.{statement}
-use Rattle.run.proofs.ended.Tie as tie
+use Rattle.turns.proofs.ended.Statement.{statement}
+use Rattle.turns.proofs.ended.Tie as tie
 
 hits-requires : tie.Need-hits-requires
 hits-requires c κs = search needs

@@ -1,8 +1,8 @@
 -- By the answer: 1 for a hit.
 use borrow.Author.Needs.{needs}
-use Rattle.run.proofs.Answers.{not-hit}
-use Rattle.run.proofs.hits.Statement.{statement}
-use Rattle.run.proofs.hits.Tie as tie
+use Rattle.turns.proofs.Answers.{not-hit}
+use Rattle.turns.proofs.hits.Statement.{statement}
+use Rattle.turns.proofs.hits.Tie as tie
 
 enum-told : tie.Need-enum-told
 enum-told c = search needs
