@@ -13,9 +13,9 @@ use Rattle.rules.specs.Valid.{Valid}
 use Rattle.rules.proofs.calls.Valids.{placed-at}
 use Rattle.rules.specs.declared.State.{State}
 use Rattle.order.specs.declared.Pick.{Pick}
-use Rattle.order.specs.Seats.{Seated, reached, nextReached}
+use Rattle.order.specs.Seats.{Seated, Linked, reached, nextReached}
 use Rattle.order.specs.Searches.{Ranked, Raised, Topped}
-use Rattle.order.proofs.Seating.{Linked, seat-is, chain-first, chain-here, chain-position, chain-is, chain-less, chain-next}
+use Rattle.order.proofs.Seating.{seat-is, chain-first, chain-here, chain-position, chain-is, chain-less, chain-next}
 use Rattle.order.proofs.Searching.{topped-whole, topped-slot, topped-down}
 
 -- at, if it is not the file's end, is a slot with a reader of the file, or none

@@ -1,12 +1,12 @@
 -- What a search for the head of an order keeps: the best page so far, with its number. Assumes nothing: these are definitions.
-use Prim.Native.Nat.{ℕ, min, _≤_, _<_}
+use Prim.Native.Nat.{ℕ, min, _+_, _*_, _≤_, _<_}
 use mathlib.Core.Path.{_≡_}
 use mathlib.Core.Bool.{Bool, cond}
 use mathlib.Core.List.{List}
 use lib.Dec.{T}
 use Rattle.rules.specs.Readers.{readerIn, readerAt, readsFile}
-use Rattle.rules.specs.UseTimes.{sees, never, useFor, useKey}
-use Rattle.rules.specs.Orders.{wanted}
+use Rattle.rules.specs.UseTimes.{before, sees, never, useFor, useKey}
+use Rattle.rules.specs.Orders.{wanted, place}
 use Rattle.rules.specs.Ranks.{rank, cachedAmong, Before, AtMost, NoneBelow}
 use Rattle.rules.specs.Valid.{Valid}
 use Rattle.rules.specs.Views.{stateOf}
@@ -15,7 +15,7 @@ use Rattle.rules.specs.declared.View.{View}
 use Rattle.rules.specs.declared.Reader.{Reader}
 use Rattle.order.specs.declared.Terms.{Terms}
 use Rattle.order.specs.declared.Pick.{Pick}
-use Rattle.order.specs.Seats.{Seated}
+use Rattle.order.specs.Seats.{Seated, Linked}
 
 -- ---- what a search reads of a view
 
@@ -57,6 +57,10 @@ pub record Sighted (t : Terms) (seats cached fetching : List ℕ) (v : View) : T
 abbrev pub Sight : Terms → List ℕ → List ℕ → List ℕ → Type 0
 Sight t seats cached fetching = (v : View) × Sighted t seats cached fetching v
 
+-- and at, counted from 1, is in it a slot with a reader of file f, or none
+abbrev pub SightAt : Terms → List ℕ → List ℕ → List ℕ → ℕ → ℕ → Type 0
+SightAt t seats cached fetching f at = (v : View) × Sighted t seats cached fetching v × Linked (v .readers) f at
+
 -- the array is that of some readers
 abbrev pub SeatsOf : List ℕ → Type 0
 SeatsOf seats = (readers : List Reader) × Seated readers 16 seats
@@ -66,6 +70,18 @@ SeatsOf seats = (readers : List Reader) × Seated readers 16 seats
 -- the number low, or slot j's use key for page k where the slot has the page in look-ahead and the key is less
 abbrev pub lower : State → ℕ → ℕ → ℕ → ℕ
 lower s k j low = cond (sees s (readerAt s j) k) (min (useFor s k j) low) low
+
+-- top is what some of the slots, those that are In, leave of page k's rank
+pub record Swept (s : State) (k : ℕ) (In : ℕ → Type 0) (top : ℕ) : Type 0 where
+  pub low : rank s k ≤ top
+  pub high : top ≤ 2 * never + place k
+  pub passed : (j : ℕ) → In j → j < 16 → T (before (readerAt s j) k) → top ≤ never + place k
+  pub used : (j : ℕ) → In j → j < 16 → T (sees s (readerAt s j) k) → top ≤ useFor s k j
+
+-- r is what the first n slots leave of page k's rank, or neither r nor the rank is above the floor
+pub record Left (s : State) (k floor n r : ℕ) : Type 0 where
+  pub least : rank s k ≤ r
+  pub exact : floor < r → Swept s k (λ j. j < n) r
 
 -- r is page k's rank, or neither is above the floor
 pub record Over (s : State) (k floor r : ℕ) : Type 0 where

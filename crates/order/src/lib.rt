@@ -8,7 +8,7 @@ use rules::View;
 ghost use mathlib.Core.Path.{_≡_};
 ghost use mathlib.Core.Bool.{Bool, true, cond, _&&_};
 ghost use mathlib.Core.List.{List, [], _∷_};
-ghost use Prim.Native.Nat.{ℕ, _+_, _-_, _*_, _%_, _<_, _≤_};
+ghost use Prim.Native.Nat.{ℕ, _+_, _-_, _*_, _/_, _%_, _<_, _≤_};
 ghost use lib.Dec.{T, leb, ltb, eqb};
 ghost use lib.ListN.{getD};
 ghost use Rattle.bits.specs.Map.{joined, nextBit};
@@ -23,8 +23,9 @@ ghost use Rattle.rules.specs.Views.{stateOf};
 ghost use Rattle.parts.specs.Held.{Held};
 ghost use Rattle.order.specs.Choices.{chosen, inSet};
 ghost use Rattle.order.specs.Leads.{leading, Weights, Weighed, Foremost};
-ghost use Rattle.order.specs.Seats.{Seated, reached, nextReached};
-ghost use Rattle.order.specs.Searches.{termsOf, stateUnder, Sits, Sighted, Sight, SeatsOf, lower, Over, Ranked, Raised, Topped, Highest, First, Soonest};
+ghost use Rattle.order.specs.Seats.{Seated, Linked, reached, nextReached};
+ghost use Rattle.order.specs.Searches.{termsOf, stateUnder, Sits, Sighted, Sight, SightAt, SeatsOf};
+ghost use Rattle.order.specs.Searches.{lower, Swept, Left, Over, Ranked, Raised, Topped, Highest, First, Soonest};
 ghost use Rattle.order.specs.Rears.{Least, Back, Free, Rear};
 
 // The key of the page chosen, if any.
@@ -264,25 +265,29 @@ fn is_ahead(position: u16, last: u16, page: usize) -> bool
     (position as usize) < page && page <= last as usize
 }
 
-// The rank of a page of its file, or, where that is no higher than the floor, a number that is no higher either: one pass over the file's readers,
-// from the last slot down, that stops as soon as the page cannot rank above the floor.
-fn rank_over<'a>(
+// What the readers of a part of a file's chain leave of a page's rank: those from slot `from` down to before slot `to`, both counted from 1. `known` is what
+// the slots up to `to` leave. Stops as soon as the page cannot rank above the floor.
+fn rank_among<'a>(
     t: Terms,
     seats: &[u16; 72],
     cached: &'a [u64; 128],
     fetching: &'a [u64; 128],
     key: usize,
     floor: u64,
+    from: usize,
+    to: usize,
+    known: u64,
 ) -> u64
-    requires { ⌜ (key < 8192) × Sight t (now seats) (now cached) (now fetching) ⌝ }
-    ensures { λ r. ⌜ ((v : View) → Sighted t (now (seats .entry)) (now (cached .entry)) (now (fetching .entry)) v
-        → Over (stateUnder t v (now (cached .entry)) (now (fetching .entry))) key floor r) ⌝ }
+    requires { ⌜ (key < 8192) × SightAt t (now seats) (now cached) (now fetching) (key / 1024) from ⌝ }
+    ensures { λ r. ⌜ ((v : View) → Sighted t (now (seats .entry)) (now (cached .entry)) (now (fetching .entry)) v → Linked (v .readers) (key / 1024) from
+        → Swept (stateUnder t v (now (cached .entry)) (now (fetching .entry))) key (λ j. j < to) known
+        → Left (stateUnder t v (now (cached .entry)) (now (fetching .entry))) key floor from r) ⌝ }
 {
     let page = key % 1024 + 1;
     let place = (page * 8 + key / 1024) as u64;
-    let mut top = 2 * NEVER + place;
-    let mut at = seats[48 + key / 1024] as usize;
-    while 0 < at {
+    let mut top = known;
+    let mut at = from;
+    while to < at {
         let slot = at - 1;
         let position = seats[slot];
         if is_ahead(position, seats[56 + slot], page) {
@@ -298,6 +303,31 @@ fn rank_over<'a>(
     top
 }
 
+// The rank of a page of its file, or, where that is no higher than the floor, a number that is no higher either. The file's readers are asked from slot `start`
+// down, then from the last slot down to it: a good start is a reader that comes to the page soon, since then few others have to be asked.
+fn rank_over<'a>(
+    t: Terms,
+    seats: &[u16; 72],
+    cached: &'a [u64; 128],
+    fetching: &'a [u64; 128],
+    key: usize,
+    floor: u64,
+    start: usize,
+) -> u64
+    requires { ⌜ (key < 8192) × SightAt t (now seats) (now cached) (now fetching) (key / 1024) start ⌝ }
+    ensures { λ r. ⌜ ((v : View) → Sighted t (now (seats .entry)) (now (cached .entry)) (now (fetching .entry)) v → Linked (v .readers) (key / 1024) start
+        → Over (stateUnder t v (now (cached .entry)) (now (fetching .entry))) key floor r) ⌝ }
+{
+    let page = key % 1024 + 1;
+    let most = 2 * NEVER + (page * 8 + key / 1024) as u64;
+    let below = rank_among(t, seats, cached, fetching, key, floor, start, 0, most);
+    if below <= floor {
+        return below;
+    }
+    let last = seats[48 + key / 1024] as usize;
+    rank_among(t, seats, cached, fetching, key, floor, last, start, below)
+}
+
 // The best page so far, or the last cached one of the file's first n pages, where there is one and its rank is higher.
 fn higher<'a>(
     t: Terms,
@@ -307,10 +337,11 @@ fn higher<'a>(
     file: usize,
     n: usize,
     best: Pick,
+    start: usize,
 ) -> Pick
-    requires { ⌜ (file < 8) × (n ≤ 1024) × Sight t (now seats) (now cached) (now fetching) ⌝ }
-    ensures { λ r. ⌜ ((v : View) → Sighted t (now (seats .entry)) (now (cached .entry)) (now (fetching .entry)) v → (files : ℕ → Bool) → files file ≡ true
-        → Ranked (stateUnder t v (now (cached .entry)) (now (fetching .entry))) files best
+    requires { ⌜ (file < 8) × (n ≤ 1024) × SightAt t (now seats) (now cached) (now fetching) file start ⌝ }
+    ensures { λ r. ⌜ ((v : View) → Sighted t (now (seats .entry)) (now (cached .entry)) (now (fetching .entry)) v → Linked (v .readers) file start
+        → (files : ℕ → Bool) → files file ≡ true → Ranked (stateUnder t v (now (cached .entry)) (now (fetching .entry))) files best
         → Raised (stateUnder t v (now (cached .entry)) (now (fetching .entry))) files file n best r) ⌝ }
 {
     let page = bits::last_set(cached, file * 1024, n);
@@ -318,7 +349,7 @@ fn higher<'a>(
         return best;
     }
     let key = file * 1024 + page - 1;
-    let rank = rank_over(t, seats, cached, fetching, key, best.value);
+    let rank = rank_over(t, seats, cached, fetching, key, best.value, start);
     if best.value < rank {
         let key = key as u16;
         return Pick { key, value: rank };
@@ -368,8 +399,8 @@ fn highest_of<'a>(
     let mut at: usize = 17;
     while 0 < at {
         let n = reach(seats, at) as usize;
-        best = higher(t, seats, cached, fetching, file, n, best);
         at = next_reach(seats, file, at) as usize;
+        best = higher(t, seats, cached, fetching, file, n, best, at);
     }
     best
 }

@@ -1,5 +1,6 @@
 -- There is no such page, its rank is higher, or the best stays.
-use Prim.Native.Nat.{_-_, _*_, _≤_}
+use mathlib.Core.Path.{_≡_}
+use Prim.Native.Nat.{_+_, _-_, _*_, _/_, _≤_}
 use native.Mathlib.Omega.{arith}
 use borrow.Author.Needs.{needs}
 use Rattle.bits.proofs.Finds.{last-is}
@@ -19,6 +20,16 @@ within c =
     let a = c .before .args in
     omega (arith, c .last-set .ensures, last-is (a .cached .now) (a .file * 1024) (a .n) .high)
 
+-- and so of the file
+of-file : (c : tie.Else1) →
+    let after-last-set = c .before in
+    let a = after-last-set .before .args in
+    (a .file * 1024 + after-last-set .last-set .result - 1) / 1024 ≡ a .file
+of-file c =
+    let after-last-set = c .before in
+    let at-start = after-last-set .before in
+    omega (arith, within after-last-set, at-start .pre .1, c .if1 .left)
+
 mul-last-set : tie.Need-mul-last-set
 mul-last-set c = search needs
 
@@ -26,7 +37,7 @@ last-set-requires : tie.Need-last-set-requires
 last-set-requires c κs = search needs
 
 returns : tie.Need-returns
-returns c = λ v g files o k.
+returns c = λ v g b files o k.
     let after-last-set = c .before in
     let s = after-last-set .before in
     raised-none (at s v) files (s .args .file) (s .args .n) (after-last-set .last-set .result) (s .pre .1) (after-last-set .last-set .ensures) (s .args .best) k
@@ -45,7 +56,7 @@ rank-over-requires : tie.Need-rank-over-requires
 rank-over-requires c κs =
     let after-last-set = c .before in
     let s = after-last-set .before in
-    (omega (arith, within after-last-set, s .pre .0, s .pre .1, c .if1 .left), s .pre .2)
+    (omega (arith, within after-last-set, s .pre .0, s .pre .1, c .if1 .left), rw (of-file c) (s .pre .2))
 
 cast-key : tie.Need-cast-key
 cast-key c =
@@ -54,21 +65,22 @@ cast-key c =
     omega (arith, within after-last-set)
 
 returns-2 : tie.Need-returns-2
-returns-2 c = λ v g files o k.
+returns-2 c = λ v g b files o k.
     let after-rank-over = c .before .before in
     let else-1 = after-rank-over .before in
     let after-last-set = else-1 .before in
     let s = after-last-set .before in
     raised-take (at s v) files (s .args .file) (s .args .n) (after-last-set .last-set .result) (s .pre .1) (after-last-set .last-set .ensures) (s .args .best)
-    (after-rank-over .rank-over .result) (after-rank-over .rank-over .ensures v g) o (else-1 .if1 .left) (c .if2 .taken)
+    (after-rank-over .rank-over .result) (after-rank-over .rank-over .ensures v g (rw (of-file else-1) b)) o (else-1 .if1 .left) (c .if2 .taken)
 
 returns-3 : tie.Need-returns-3
-returns-3 c = λ v g files o k.
+returns-3 c = λ v g b files o k.
     let after-rank-over = c .before .before in
-    let after-last-set = after-rank-over .before .before in
+    let else-1 = after-rank-over .before in
+    let after-last-set = else-1 .before in
     let s = after-last-set .before in
     raised-keep (at s v) files (s .args .file) (s .args .n) (after-last-set .last-set .result) (s .pre .1) (after-last-set .last-set .ensures) (s .args .best)
-    (after-rank-over .rank-over .result) (after-rank-over .rank-over .ensures v g) k (c .if2 .left)
+    (after-rank-over .rank-over .result) (after-rank-over .rank-over .ensures v g (rw (of-file else-1) b)) k (c .if2 .left)
 
 pub higher-spec : {M : Type 1} → statement M
 higher-spec =
