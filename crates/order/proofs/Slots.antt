@@ -1,19 +1,25 @@
 -- What one slot says of a page, as the code tests it: with no division. Assumes nothing.
 use mathlib.Core.Path.{_≡_, refl, sym, subst}
 use mathlib.Core.Bool.{Bool, true, false, cond, _&&_}
-use Prim.Native.Nat.{ℕ, min, _+_, _*_, _/_, _≤_, _<_}
-use native.Mathlib.Nat.{le-div-iff-mul-le, div-lt-iff-lt-mul}
+use mathlib.Core.List.{List}
+use Prim.Native.Nat.{ℕ, min, _+_, _-_, _*_, _/_, _%_, _≤_, _<_}
+use native.Mathlib.Nat.{mul-le-mul, le-div-iff-mul-le, div-lt-iff-lt-mul}
+use native.Mathlib.Decide.{decLt}
 use native.Mathlib.Omega.{arith}
 use borrow.Author.Tests.{le-leb, lt-leb, lt-ltb}
 use lib.Dec.{leb}
-use Rattle.rules.specs.Readers.{readerAt}
+use Rattle.rules.specs.Readers.{readerAt, readerIn}
 use Rattle.rules.specs.UseTimes.{before, steps, between, pruned, sees, timeFor, seat, never, useFor}
+use Rattle.rules.specs.Valid.{Valid}
 use Rattle.rules.proofs.laws.Tests.{is-true}
+use Rattle.rules.proofs.calls.Valids.{placed-at}
 use Rattle.rules.specs.Ranks.{Before}
 use Rattle.rules.proofs.orders.LookAheads.{is-before}
 use Rattle.rules.specs.declared.State.{State}
 use Rattle.rules.specs.declared.Reader.{Reader}
-use Rattle.order.specs.Searches.{lower}
+use Rattle.rules.specs.declared.View.{View}
+use Rattle.order.specs.declared.Terms.{Terms}
+use Rattle.order.specs.Searches.{stateUnder, Sits, lower}
 
 none : (a : Bool) → false ≡ (a && false)
 none true = refl
@@ -55,6 +61,31 @@ module _ (s : State) (r : Reader) (k : ℕ) where
         let m : ℕ = s .«look_ahead» / s .«fetch_time» in
         let l : between s r k + 1 ≤ m = le-div-iff-mul-le t .1 h in
         rw (is-true (before r k) (is-before r k b), within-K, lt-ltb 0 (s .«fetch_time») t, lt-leb m (between s r k) (omega arith)) refl
+
+    -- (q + 1) × T is at most L, and T is 0 or not
+    not-pruned : (between s r k + 1) * s .«fetch_time» ≤ s .«look_ahead» → sees s r k ≡ true
+    not-pruned h = by (decLt 0 (s .«fetch_time»))
+      where
+        by : Dec (0 < s .«fetch_time») → sees s r k ≡ true
+        by (yes t) = few t h
+        by (no t) = unpruned (omega arith)
+
+-- ---- the slot's reader, as the code has it
+
+-- the time with no page missing is small
+pub time-high : (k position pace : ℕ) → pace ≤ 65535 → (k % 1024 + 1 - position) * pace ≤ 1024 * 65535
+time-high k position pace y =
+    let x : k % 1024 + 1 - position ≤ 1024 = omega arith in
+    mul-le-mul x y
+
+-- it is as the rules have it
+pub sits-time : {v : View} {slot position pace k : ℕ} → Sits v slot position pace k
+    → (k % 1024 + 1 - position) * pace ≡ steps (readerIn (v .readers) slot) k * readerIn (v .readers) slot .pace
+sits-time h = rw (h .position-is, h .pace-is) refl
+
+pub sits-pace : (t : Terms) {v : View} {slot position pace k : ℕ} {cached fetching : List ℕ} → Sits v slot position pace k
+    → Valid (stateUnder t v cached fetching) → 1 ≤ readerIn (v .readers) slot .pace
+sits-pace t h w = placed-at _ w _ (h .ahead .here) .pace-low
 
 -- ---- the least number so far, and one slot's use key
 
@@ -99,7 +130,7 @@ module _ (s : State) (k j low : ℕ) where
     lower-free t h = rw (unpruned s (readerAt s j) k b w near t, t) (omega arith)
 
     -- the slot sees the page
-    pub lower-seen : (q : ℕ) → q ≡ between s (readerAt s j) k → 0 < s .«fetch_time» → (q + 1) * s .«fetch_time» ≤ s .«look_ahead»
+    pub lower-seen : (q : ℕ) → q ≡ between s (readerAt s j) k → (q + 1) * s .«fetch_time» ≤ s .«look_ahead»
         → min ((steps (readerAt s j) k * readerAt s j .pace + q * s .«fetch_time») * 16 + seat s j) low ≡ lower s k j low
     unfolding useFor timeFor
-    lower-seen q e t h = rw (e, few s (readerAt s j) k b w near t (subst (λ x. (x + 1) * s .«fetch_time» ≤ s .«look_ahead») e h)) refl
+    lower-seen q e h = rw (e, not-pruned s (readerAt s j) k b w near (subst (λ x. (x + 1) * s .«fetch_time» ≤ s .«look_ahead») e h)) refl

@@ -16,7 +16,7 @@ ghost use Rattle.rules.specs.declared.State.{State};
 ghost use Rattle.rules.specs.Lists.{head};
 ghost use Rattle.rules.specs.Readers.{readerIn, attached};
 ghost use Rattle.rules.specs.Valid.{Valid};
-ghost use Rattle.rules.specs.UseTimes.{missing};
+ghost use Rattle.rules.specs.UseTimes.{missing, between};
 ghost use Rattle.rules.specs.Orders.{fetchOrder, victim};
 ghost use Rattle.rules.specs.Ranks.{victimAmong, Presents};
 ghost use Rattle.rules.specs.Views.{stateOf};
@@ -126,6 +126,32 @@ fn lowered<'a>(
         return low;
     }
     parts::lesser((near + q * time) * 16 + distance, low)
+}
+
+// The same where every page between is present: q is 0, and with it the page is pruned just where T is above L.
+fn lowered_past_present(
+    t: Terms,
+    slot: usize,
+    position: u16,
+    pace: u16,
+    key: usize,
+    low: u64,
+) -> u64
+    requires { ⌜ (t .turn < 16) × (slot < 16) × (key < 8192) × (position ≤ key % 1024) ⌝ }
+    ensures { λ r. ⌜ ((v : View) (cached fetching : List ℕ) → Valid (stateUnder t v cached fetching) → Sits v slot position pace key
+        → between (stateUnder t v cached fetching) (readerIn (v .readers) slot) key ≡ 0
+        → r ≡ lower (stateUnder t v cached fetching) key slot low) ⌝ }
+{
+    let steps = key % 1024 + 1 - position as usize;
+    let time = (steps as u64) * (pace as u64);
+    let look = t.look_ahead as u64;
+    if look < time {
+        return low;
+    }
+    if look < t.fetch_time as u64 {
+        return low;
+    }
+    parts::lesser(time * 16 + parts::seat(t.turn, slot), low)
 }
 
 // What the searches read of the readers, in one array that can be lent. At `slot`: its record's position; at 16 + slot: the pace; at 32 + slot: the last
@@ -643,7 +669,7 @@ fn sooner<'a>(
     }
     let low = best.value;
     let t = terms_of(v);
-    let value = lowered(t, cached, fetching, slot, r.position, r.pace, key, low);
+    let value = lowered_past_present(t, slot, r.position, r.pace, key, low);
     if value < low {
         let key = key as u16;
         return Pick { key, value };

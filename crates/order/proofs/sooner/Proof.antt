@@ -17,6 +17,7 @@ use Rattle.rules.specs.declared.State.{State}
 use Rattle.rules.specs.declared.Reader.{Reader}
 use Rattle.rules.specs.Views.{stateOf}
 use Rattle.order.specs.Searches.{lower}
+use Rattle.order.proofs.Between.{first-between}
 use Rattle.order.proofs.Slots.{lower-least}
 use Rattle.order.proofs.Searching.{none-absent, first-absent, soonest-keep, soonest-take}
 use Rattle.order.proofs.sooner.Statement.{statement}
@@ -146,8 +147,8 @@ returns-2 c =
 terms-of-requires : tie.Need-terms-of-requires
 terms-of-requires c κs = search needs
 
-lowered-requires : tie.Need-lowered-requires
-lowered-requires c κs =
+lowered-past-present-requires : tie.Need-lowered-past-present-requires
+lowered-past-present-requires c κs =
     let else-2 = c .before in
     let after-last = else-2 .before .before in
     let s = start after-last in (
@@ -158,21 +159,22 @@ lowered-requires c κs =
     )
 
 -- the slot's use key is weighed against the least so far
-told : (c : tie.After-lowered) →
+told : (c : tie.After-lowered-past-present) →
     let after-next-absent = c .before .before .before in
     let s = start (after-next-absent .before) in
-    c .lowered .result ≡ lower (at s) (after-next-absent .next-absent .result) (s .args .slot) (s .args .best .value)
+    c .lowered-past-present .result ≡ lower (at s) (after-next-absent .next-absent .result) (s .args .slot) (s .args .best .value)
 told c =
     let after-terms-of = c .before in
     let else-2 = after-terms-of .before in
     let after-last = else-2 .before .before in
     let s = start after-last in
-    (rw (after-terms-of .terms-of .ensures) at (c .lowered .ensures)) (s .args .v) (s .pre .0)
-    record {
+    (rw (after-terms-of .terms-of .ensures) at (c .lowered-past-present .ensures)) (s .args .v) (s .args .cached .now) (s .args .fetching .now) (s .pre .0)
+    (record {
       ahead = rw (sym (slot-reader after-last)) (ahead else-2);
       position-is = ap (λ q. q .position) (slot-reader after-last);
       pace-is = ap (λ q. q .pace) (slot-reader after-last);
-    }
+    })
+    (rw (sym (slot-reader after-last)) (first-between (at s) (reader after-last) (else-2 .before .next-absent .result) (lacks else-2)))
 
 cast-key : tie.Need-cast-key
 cast-key c =
@@ -187,7 +189,7 @@ returns-3 c =
     let after-last = after-next-absent .before in
     let s = start after-last in
     soonest-take (at s) (s .args .slot) (s .args .best) (s .pre .1 .1 .0) (after-next-absent .next-absent .result)
-    (after-lowered .lowered .result) (s .pre .1 .0) (rw (sym (slot-reader after-last)) (lacks else-2))
+    (after-lowered .lowered-past-present .result) (s .pre .1 .0) (rw (sym (slot-reader after-last)) (lacks else-2))
     (told after-lowered) (c .if3 .taken)
 
 returns-4 : tie.Need-returns-4
@@ -224,7 +226,7 @@ sooner-spec =
     add-if2
     returns-2
     terms-of-requires
-    lowered-requires
+    lowered-past-present-requires
     cast-key
     returns-3
     returns-4)
