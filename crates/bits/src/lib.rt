@@ -150,7 +150,7 @@ pub fn count_either<'a>(a: &'a [u64; 128], b: &'a [u64; 128], from: usize, n: us
 }
 
 // The first digit of w from digit s on that is 1, or 64.
-fn next_one(w: u64, s: usize) -> usize
+pub fn next_one(w: u64, s: usize) -> usize
     requires { ⌜ s < 64 ⌝ }
     ensures { λ r. ⌜ r ≡ nextBit (w ∷ []) 1 s (64 - s) ⌝ }
 {
@@ -191,7 +191,7 @@ pub fn next_bit(words: &[u64; 128], v: u64, from: usize, n: usize) -> usize
 }
 
 // How far the last set one of the m lowest digits of w ends, or 0: the others are shifted out.
-fn last_one(w: u64, m: usize) -> usize
+pub fn last_one(w: u64, m: usize) -> usize
     requires { ⌜ (0 < m) × (m ≤ 64) ⌝ }
     ensures { λ r. ⌜ r ≡ lastBit (w ∷ []) 0 m ⌝ }
 {

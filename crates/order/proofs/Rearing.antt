@@ -29,8 +29,10 @@ use Rattle.rules.specs.declared.State.{State}
 use Rattle.rules.specs.declared.Reader.{Reader}
 use Rattle.order.specs.declared.Pick.{Pick}
 use Rattle.order.specs.Seats.{lastSeat}
+use Rattle.order.specs.Choices.{NoFile}
 use Rattle.order.specs.Searches.{Ranked}
 use Rattle.order.specs.Rears.{Ahead, Least, Back, Free, Rear}
+use Rattle.order.proofs.Sets.{below}
 use Rattle.order.proofs.Seating.{seat-is}
 
 -- ---- the least position
@@ -154,12 +156,12 @@ module _ (s : State) (w : Valid s) (files : ℕ → Bool) where
   unfolding ahead
   some-ahead k h = some-at 16 (λ j. before (readerIn (s .readers) j) k) h
 
-  -- a search starts with none
-  pub rear-none : Rear s files 0 (record { key = 0; value = 0 })
-  rear-none = record {
+  -- a search starts before the first file of the set
+  pub rear-none : (n : ℕ) → NoFile files 0 n → Rear s files n (record { key = 0; value = 0 })
+  rear-none n past = record {
     page = record { held = λ h. absurd (omega arith); its = λ h. absurd (omega arith) };
     deep = λ h. absurd (omega arith);
-    most = λ k l. absurd (omega arith);
+    most = λ k l h. absurd (past (fileOf k) (omega arith) l (and-second (cached s k) _ h));
   }
 
   module _ (n : ℕ) (p : Pick) (a : Rear s files n p) where
@@ -215,9 +217,13 @@ module _ (s : State) (w : Valid s) (files : ℕ → Bool) where
           clear (inl x) = absurd (free (omega arith) (some-ahead (keyOf n page) x))
           clear (inr x) = x
 
-  -- all files
-  pub rear-all : (n : ℕ) (p : Pick) → n ≡ 8 → Rear s files n p → Rear s files 8 p
-  rear-all n p e a = rw e at a
+  -- it ends after the last one
+  pub rear-all : (n : ℕ) (p : Pick) → NoFile files n 8 → Rear s files n p → Rear s files 8 p
+  rear-all n p rest a = record {
+    page = a .page;
+    deep = a .deep;
+    most = λ k l h. a .most k (below files n rest (fileOf k) l (and-second (cached s k) _ h)) h;
+  }
 
   -- the page kept is the one to give up
   pub rear-victim : (p : Pick) → Rear s files 8 p → 0 < p .value → victimAmong files s ≡ some (p .key)

@@ -41,9 +41,10 @@ use Rattle.rules.specs.declared.State.{State}
 use Rattle.rules.specs.declared.Reader.{Reader}
 use Rattle.parts.specs.Held.{Held}
 use Rattle.parts.proofs.Carried.{held-some}
-use Rattle.order.specs.Choices.{inSet}
+use Rattle.order.specs.Choices.{inSet, NoFile}
 use Rattle.order.specs.Searches.{lower, Over, Ranked, Raised, Topped, Highest, Soonest}
 use Rattle.order.specs.declared.Pick.{Pick}
+use Rattle.order.proofs.Sets.{below}
 use Rattle.order.proofs.Slots.{lower-least}
 use Rattle.bits.proofs.Joins.{joined-clear}
 
@@ -115,12 +116,12 @@ module _ (s : State) (files : ℕ → Bool) where
         by i l u h (yes m) = absurd (empty i l m h)
         by i l u h (no m) = a .by-slot i (omega arith) u h
 
-  -- a search starts with none of the files
-  pub highest-none : Highest s files 0 (record { key = 0; value = 0 })
-  highest-none = record {
+  -- a search starts before the first file of the set
+  pub highest-none : (n : ℕ) → NoFile files 0 n → Highest s files n (record { key = 0; value = 0 })
+  highest-none n past = record {
     page = record { held = λ h. absurd (omega arith); its = λ h. absurd (omega arith) };
-    by-file = λ f l. absurd (omega arith);
-    by-slot = λ f j l. absurd (omega arith);
+    by-file = λ f l o. absurd (past f (omega arith) l o);
+    by-slot = λ f j l o. absurd (past f (omega arith) l o);
   }
 
   module _ (n : ℕ) (p : Pick) (a : Highest s files n p) where
@@ -144,9 +145,13 @@ module _ (s : State) (files : ℕ → Bool) where
           (λ f m o u h. a .by-slot f j m o u h) (λ h. absurd (failed _ e h)) f l;
     }
 
-  -- all files
-  pub highest-all : (n : ℕ) (p : Pick) → n ≡ 8 → Highest s files n p → Highest s files 8 p
-  highest-all n p e a = rw e at a
+  -- it ends after the last one
+  pub highest-all : (n : ℕ) (p : Pick) → NoFile files n 8 → Highest s files n p → Highest s files 8 p
+  highest-all n p rest a = record {
+    page = a .page;
+    by-file = λ f l o. a .by-file f (below files n rest f l o) o;
+    by-slot = λ f j l o. a .by-slot f j (below files n rest f l o) o;
+  }
 
   module _ (w : Valid s) (p : Pick) (a : Highest s files 8 p) where
     above : NoneAbove s files 8 16 (p .value)

@@ -21,7 +21,7 @@ ghost use Rattle.rules.specs.Orders.{fetchOrder, victim};
 ghost use Rattle.rules.specs.Ranks.{victimAmong, Presents};
 ghost use Rattle.rules.specs.Views.{stateOf};
 ghost use Rattle.parts.specs.Held.{Held};
-ghost use Rattle.order.specs.Choices.{chosen, inSet};
+ghost use Rattle.order.specs.Choices.{chosen, inSet, NoFile};
 ghost use Rattle.order.specs.Leads.{leading, Weights, Weighed, Foremost};
 ghost use Rattle.order.specs.Seats.{Seated, Linked, reached, nextReached};
 ghost use Rattle.order.specs.Searches.{termsOf, stateUnder, Sits, Sighted, Sight, SightAt, SeatsOf};
@@ -178,6 +178,22 @@ pub fn seats_of(readers: [Reader; 16]) -> [u16; 72]
     seats
 }
 
+// ---- sets of files
+
+// The first file of a set; a number past all files where there is none.
+fn first_file(files: u64) -> usize
+    ensures { λ r. ⌜ NoFile (inSet files) 0 r ⌝ }
+{
+    bits::next_one(files, 0)
+}
+
+// Where the files of a set end: after its last one; 0 where there is none.
+fn end_of_files(files: u64) -> usize
+    ensures { λ r. ⌜ (r ≤ 8) × NoFile (inSet files) r 8 ⌝ }
+{
+    bits::last_one(files, 8)
+}
+
 // ---- the page to give up, where a page is ahead of no reader
 
 // The lesser of `least` and a reader's position, where the page is not past the reader's last.
@@ -272,8 +288,9 @@ fn furthest_behind(sizes: &[u16; 8], seats: &[u16; 72], cached: &[u64; 128], fil
         → now (sizes .entry) ≡ v .sizes → Rear (stateOf v (now (cached .entry)) fetching) (inSet files) 8 r) ⌝ }
 {
     let mut best = Pick { key: 0, value: 0 };
-    let mut file: usize = 0;
-    while file < 8 {
+    let mut file = first_file(files);
+    let end = end_of_files(files);
+    while file < end {
         if bits::has_digit(files, file) {
             best = further_behind(seats, cached, file, sizes[file], best);
         }
@@ -444,8 +461,9 @@ fn highest<'a>(
         → Highest (stateUnder t v (now (cached .entry)) (now (fetching .entry))) (inSet files) 8 r) ⌝ }
 {
     let mut best = Pick { key: 0, value: 0 };
-    let mut file: usize = 0;
-    while file < 8 {
+    let mut file = first_file(files);
+    let end = end_of_files(files);
+    while file < end {
         if bits::has_digit(files, file) {
             best = highest_of(t, seats, cached, fetching, file, best);
         }

@@ -1,5 +1,5 @@
--- Invariant: no candidate of the files passed that is of the set ranks higher than the best (`Highest`). Measure: the files that are left.
-use Prim.Native.Nat.{_-_, _≤_}
+-- Invariant: no candidate of the files passed that is of the set ranks higher than the best (`Highest`). Measure: the files left up to the set's last.
+use Prim.Native.Nat.{_-_, _<_}
 use mathlib.Core.Path.{sym, _∙_}
 use mathlib.Core.Logic.{⊎-elim}
 use native.Mathlib.Omega.{arith}
@@ -12,49 +12,65 @@ use Rattle.order.proofs.highest.Statement.{statement}
 use Rattle.order.proofs.highest.Tie as tie
 
 abbrev Inv-loop : tie.InvT-loop
-Inv-loop t seats cached fetching files best₀ file₀ best file =
-    (file ≤ 8) × ((v : View) → Sighted t seats cached fetching v → Highest (stateUnder t v cached fetching) (inSet files) file best)
+Inv-loop t seats cached fetching files best₀ file₀ end best file =
+    (v : View) → Sighted t seats cached fetching v → Highest (stateUnder t v cached fetching) (inSet files) file best
 
 abbrev μ-loop : tie.MeasureT-loop
-μ-loop t seats cached fetching files best₀ file₀ best file = 8 - file
+μ-loop t seats cached fetching files best₀ file₀ end best file = end - file
+
+-- the turn's file is one
+low : (c : tie.In-loop Inv-loop μ-loop) →
+    let at-loop = c .before in
+    at-loop .loop .file < 8
+low c =
+    let after-end = c .before .before in
+    omega (arith, c .loop-test .taken, after-end .end-of-files .ensures .0)
+
+first-file-requires : tie.Need-first-file-requires Inv-loop μ-loop
+first-file-requires c κs = search needs
+
+end-of-files-requires : tie.Need-end-of-files-requires Inv-loop μ-loop
+end-of-files-requires c κs = search needs
 
 loop-holds : tie.Need-loop-holds Inv-loop μ-loop
-loop-holds c = (omega arith, λ v g. highest-none _ _)
+loop-holds c = λ v g.
+    let after-first = c .before in
+    highest-none _ _ _ (after-first .first-file .ensures)
 
 has-digit-requires : tie.Need-has-digit-requires Inv-loop μ-loop
-has-digit-requires c κs = search needs
+has-digit-requires c κs = omega (arith, low c)
 
 highest-of-requires : tie.Need-highest-of-requires Inv-loop μ-loop
 highest-of-requires c κs =
-    let at-loop-test = c .before .before in
-    let at-start = at-loop-test .before .before in
-    (omega (arith, at-loop-test .loop-test .taken), at-start .pre)
+    let in-loop = c .before .before in
+    let at-start = in-loop .before .before .before .before in
+    (low in-loop, at-start .pre)
 
 add-file : tie.Need-add-file Inv-loop μ-loop
-add-file c = search needs
+add-file c =
+    let in-loop = c .before .before in
+    omega (arith, low in-loop)
 
 loop-less : tie.Need-loop-less Inv-loop μ-loop
 loop-less c = search needs
 
 loop-again : tie.Need-loop-again Inv-loop μ-loop
-loop-again c =
+loop-again c = λ v g.
     let after-has-digit = c .before in
-    let at-loop-test = after-has-digit .before in
-    let at-loop = at-loop-test .before in
-    let l = at-loop .loop in (
-      omega (arith, at-loop-test .loop-test .taken),
-      λ v g.
-          ⊎-elim
-          (λ w. rw (w .2) (highest-more _ _ (l .file) (l .best) (l .inv .1 v g) _
-          (w .1 .ensures v g _ (sym (after-has-digit .has-digit .ensures) ∙ w .0 .taken) (l .inv .1 v g .page))))
-          (λ w. rw (w .1) (highest-skip _ _ (l .file) (l .best) (l .inv .1 v g) (sym (after-has-digit .has-digit .ensures) ∙ w .0 .left)))
-          (c .if1 .came),
-    )
+    let at-loop = after-has-digit .before .before in
+    let l = at-loop .loop in
+    ⊎-elim
+    (λ w. rw (w .2) (highest-more _ _ (l .file) (l .best) (l .inv v g) _
+    (w .1 .ensures v g _ (sym (after-has-digit .has-digit .ensures) ∙ w .0 .taken) (l .inv v g .page))))
+    (λ w. rw (w .1) (highest-skip _ _ (l .file) (l .best) (l .inv v g) (sym (after-has-digit .has-digit .ensures) ∙ w .0 .left)))
+    (c .if1 .came)
 
 returns : tie.Need-returns Inv-loop μ-loop
 returns c = λ v g.
-    let l = c .before .loop in
-    highest-all _ _ (l .file) (l .best) (omega (arith, l .inv .0, c .loop-test .left)) (l .inv .1 v g)
+    let at-loop = c .before in
+    let after-end = at-loop .before in
+    let l = at-loop .loop in
+    highest-all _ _ (l .file) (l .best) (λ f m. after-end .end-of-files .ensures .1 f (omega (arith, c .loop-test .left))) (l .inv v g)
 
 pub highest-spec : {M : Type 1} → statement M
 highest-spec =
@@ -62,6 +78,8 @@ highest-spec =
     (tie.spec
     Inv-loop
     μ-loop
+    first-file-requires
+    end-of-files-requires
     loop-holds
     has-digit-requires
     highest-of-requires
