@@ -62,7 +62,7 @@ module _ (s : State) (k : ℕ) where
   swept-none = record { low = rank-high s k; high = omega arith; passed = λ j l. absurd (omega arith); used = λ j l. absurd (omega arith) }
 
   module _ (In : ℕ → Type 0) (top : ℕ) (a : Swept s k In top) where
-    -- other slots, of which those that have the page before them are of the same ones
+    -- other slots, if those of them that have the page before them are In
     pub swept-other : (Out : ℕ → Type 0) → ((j : ℕ) → Out j → T (before (readerAt s j) k) → In j) → Swept s k Out top
     swept-other Out has = record {
       low = a .low;

@@ -423,8 +423,8 @@ fn next_reach(seats: &[u16; 72], file: usize, at: usize) -> u16
 }
 
 // The best page after a look at a file. Of its cached pages with no reader between, only the last can be of the highest rank. So the last of all is looked at,
-// and the last at or before each position of its readers. The file's end is a place in the chain: so `higher` is called at one place, and the compiler puts it
-// there.
+// and the last at or before each position of its readers; for its rank the readers are asked from the next in the chain on. The file's end is a place in the
+// chain: so `higher` is called at one place, and the compiler puts it there.
 fn highest_of<'a>(
     t: Terms,
     seats: &[u16; 72],
