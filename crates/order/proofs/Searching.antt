@@ -58,7 +58,7 @@ module _ (s : State) (files : ℕ → Bool) where
 
     module _ (value : ℕ) (o : Over s (f * 1024 + page - 1) (p .value) value) where
       most : (b : ℕ) → value ≤ b → AtMost s b f n
-      most b l _ = omega (arith, o .least, ap (λ i. rank s (f * 1024 + i - 1)) e)
+      most b l _ = omega (arith, o .bound, ap (λ i. rank s (f * 1024 + i - 1)) e)
 
       -- a candidate that is kept
       pub raised-take : files f ≡ true → (page ≡ 0 → ⊥) → p .value < value → Raised s files f n p (record { key = f * 1024 + page - 1; value = value })

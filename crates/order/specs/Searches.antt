@@ -80,12 +80,12 @@ pub record Swept (s : State) (k : ℕ) (In : ℕ → Type 0) (top : ℕ) : Type 
 
 -- r is what the first n slots leave of page k's rank, or neither r nor the rank is above the floor
 pub record Left (s : State) (k floor n r : ℕ) : Type 0 where
-  pub least : rank s k ≤ r
+  pub bound : rank s k ≤ r
   pub exact : floor < r → Swept s k (λ j. j < n) r
 
 -- r is page k's rank, or neither is above the floor
 pub record Over (s : State) (k floor r : ℕ) : Type 0 where
-  pub least : rank s k ≤ r
+  pub bound : rank s k ≤ r
   pub exact : floor < r → r ≡ rank s k
 
 -- the page kept, if any, is cached, of the set, and has this rank

@@ -148,10 +148,14 @@ fn lowered_past_present(
     if look < time {
         return low;
     }
+    let used = time * 16 + parts::seat(t.turn, slot);
+    if low <= used {
+        return low;
+    }
     if look < t.fetch_time as u64 {
         return low;
     }
-    parts::lesser(time * 16 + parts::seat(t.turn, slot), low)
+    used
 }
 
 // What the searches read of the readers, in one array that can be lent. At `slot`: its record's position; at 16 + slot: the pace; at 32 + slot: the last

@@ -247,7 +247,7 @@ lowered-requires c κs =
     )
 
 returns : tie.Need-returns Inv-loop μ-loop
-returns c = λ v g b w. record { least = lower-is (c .before) v g b w .low; exact = λ h. absurd (omega (arith, c .if2 .taken)) }
+returns c = λ v g b w. record { bound = lower-is (c .before) v g b w .low; exact = λ h. absurd (omega (arith, c .if2 .taken)) }
 
 add-at : tie.Need-add-at Inv-loop μ-loop
 add-at c = search needs
@@ -294,7 +294,7 @@ returns-2 c = λ v g b w.
     let a = at-start .args in
     let l = at-loop .loop in
     let r = l .inv .3 v g b .1 w in
-    record { least = r .low; exact = λ _. walk-all (at at-start v) (a .key) (a .from) (a .to) (l .top) (l .at) (c .loop-test .left) r }
+    record { bound = r .low; exact = λ _. walk-all (at at-start v) (a .key) (a .from) (a .to) (l .top) (l .at) (c .loop-test .left) r }
 
 pub rank-among-spec : {M : Type 1} → statement M
 rank-among-spec =

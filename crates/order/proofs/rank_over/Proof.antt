@@ -54,7 +54,7 @@ rank-among-requires : tie.Need-rank-among-requires
 rank-among-requires c κs = search needs
 
 returns : tie.Need-returns
-returns c = λ v g l. record { least = up-to (c .before) v g l .least; exact = λ h. absurd (omega (arith, c .if1 .taken)) }
+returns c = λ v g l. record { bound = up-to (c .before) v g l .bound; exact = λ h. absurd (omega (arith, c .if1 .taken)) }
 
 add-last : tie.Need-add-last
 add-last c = search needs
@@ -86,7 +86,7 @@ returns-2 c = λ v g l.
     let S = at at-start v in
     let r = c .rank-among2 .ensures v g (linked at-start v g) (up-to after-rank-among v g l .exact (omega (arith, else-1 .if1 .left))) in
     record {
-      least = r .least;
+      bound = r .bound;
       exact = λ h.
           swept-all S (a .key) (λ j. j < last at-start) (c .rank-among2 .result) (r .exact h) (g .valid .look-high) (λ j u b.
           omega (arith, g .seated .last (a .key / 1024) (omega (arith, at-start .pre .0)), before-seat S (a .key) 16 j u b));
