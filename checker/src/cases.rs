@@ -1,12 +1,14 @@
 //! What a call meets that its answer alone does not tell: where a reader starts
-//! and ends, what its pace is measured by, what pages in fetch change, and what the
-//! 1993 rule decides.
+//! and ends, what its pace is measured by, what pages in fetch change, what the
+//! 1993 rule decides, and how a Run goes on without a fetch.
 
 mod link;
+mod rows;
 mod weights;
 
 pub use link::{by_cached_map, listed_on_the_link, on_the_link, order_by_cached_map};
 pub use link::{LINK_CASES, LIST_LINK_CASES};
+pub use rows::{rows, ROW_CASES};
 pub use weights::{by_1989, by_weight, choices, counted, CHOICES, WEIGHT_CASES};
 
 use crate::call::Call;

@@ -11,6 +11,6 @@ mod weights;
 pub use broken::long_line;
 pub use calls::{any_call, calls_at_bounds};
 pub use questions::any_questions;
-pub use states::{any_state, link_state, long_run_state};
+pub use states::{any_state, link_state, long_run_state, row_state};
 pub use streams::{reads, Mood, Stream};
 pub use weights::{weigh, weight_state};

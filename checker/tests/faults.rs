@@ -10,6 +10,8 @@ mod measure;
 mod older;
 #[path = "faults/questions.rs"]
 mod questions;
+#[path = "faults/rows.rs"]
+mod rows;
 #[path = "faults/setup.rs"]
 mod setup;
 #[path = "faults/weights.rs"]
@@ -39,6 +41,7 @@ use lists::LISTS;
 use measure::{marks_lost_by, older_taken, MEASURES};
 use older::{BYTES, PROBES, UPGRADES};
 use questions::QUESTIONS;
+use rows::ROWS;
 use setup::{FIRSTS_BY_RULE, SETUPS};
 use std::collections::BTreeSet;
 use std::ops::Range;
@@ -171,6 +174,14 @@ fn a_page_in_fetch_counted_wrongly_is_found() {
     for program in [listed_by_cached, in_fetch_listed] {
         let found = found(|report, dice| streams::on_the_link(report, &program, dice, 5));
         assert!(found, "{program:?}");
+    }
+}
+
+#[test]
+fn a_run_that_goes_wrong_without_a_fetch_is_found() {
+    for entry in ROWS {
+        let found = found(|report, dice| calls::rows(report, entry, dice, 20));
+        assert!(found, "{entry:?}");
     }
 }
 

@@ -2,7 +2,7 @@
 //! and answers, which swift has not.
 
 use checker::call::{Call, Entry, Order};
-use checker::cases::{CASES, LINK_CASES, MEASURE_CASES, WEIGHT_CASES};
+use checker::cases::{CASES, LINK_CASES, MEASURE_CASES, ROW_CASES, WEIGHT_CASES};
 use checker::model::{self, Page, State};
 use checker::quick::{entry, list, question, when_read};
 use checker::random::Dice;
@@ -29,6 +29,7 @@ fn every_call(entry: Entry) {
     let (mut report, mut dice) = (Report::default(), Dice::new(6));
     calls::random_calls(&mut report, entry, &mut dice, 600);
     calls::on_the_link(&mut report, entry, &mut dice, 400);
+    calls::rows(&mut report, entry, &mut dice, 300);
     calls::by_weight(&mut report, entry, &mut dice, 600);
     for trial in named::all() {
         trial.by_entry(&mut report, entry);
@@ -40,7 +41,7 @@ fn every_call(entry: Entry) {
     damage::lengths(&mut report, entry, &mut dice);
     fields::changed(&mut report, entry, &mut dice, 4_000);
     let calls = [CALL_OUTCOMES, CASES, MEASURE_CASES, LINK_CASES].concat();
-    let outcomes = [&calls[..], WEIGHT_CASES, FIELD_OUTCOMES].concat();
+    let outcomes = [&calls[..], ROW_CASES, WEIGHT_CASES, FIELD_OUTCOMES].concat();
     report.check_every_outcome_met(&outcomes);
     println!("{}", report.outcomes(&outcomes));
     assert_eq!(report.failed(), 0);

@@ -9,7 +9,7 @@
 //! One round is the default run; more rounds go on with the same dice. The last
 //! line is `entries: N passed, 0 failed`, or the exit status is not 0.
 
-use checker::cases::{CASES, LINK_CASES, MEASURE_CASES, WEIGHT_CASES};
+use checker::cases::{CASES, LINK_CASES, MEASURE_CASES, ROW_CASES, WEIGHT_CASES};
 use checker::ffi::{entry, first_image, first_image_by_rule, setup, upgrade_image};
 use checker::ffi::{list, probe, when_read};
 use checker::model::run_program;
@@ -44,6 +44,7 @@ fn main() -> ExitCode {
         CASES,
         MEASURE_CASES,
         LINK_CASES,
+        ROW_CASES,
         WEIGHT_CASES,
     ]
     .concat();
@@ -94,6 +95,9 @@ fn round(report: &mut Report, dice: &mut Dice) {
     });
     report.part("calls that pages in fetch decide", |report| {
         calls::on_the_link(report, entry, dice, 3_000);
+    });
+    report.part("runs that go on without a fetch", |report| {
+        calls::rows(report, entry, dice, 2_000);
     });
     report.part("calls that the 1993 rule decides", |report| {
         calls::by_weight(report, entry, dice, 3_000);

@@ -102,6 +102,37 @@ pub fn long_run_state(dice: &mut Dice, frames: u64, reach: u64) -> State {
     state
 }
 
+/// A state from which a Run goes on without a fetch for long: of some files nearly every
+/// page is cached, and readers are about in them, some with a last page of their own. No
+/// page is in fetch.
+pub fn row_state(dice: &mut Dice) -> State {
+    let mut state = State::idle();
+    weigh(dice, &mut state);
+    state.turn = dice.below(SLOTS);
+    let pace = any_pace(dice);
+    state.look_ahead = pace * dice.between(1, 60);
+    state.fetch_time = dice.pick(&[0, 0, 1, pace]);
+    for size in &mut state.sizes[..dice.pick(&[1, 2, 4])] {
+        *size = dice.between(20, 200);
+    }
+    for _ in 0..dice.between(1, 20) {
+        let file = dice.pick(&state.files());
+        let last = dice.between(1, state.size(file));
+        let position = dice.below(last + 1) / dice.pick(&[1, 4]);
+        let reader = Reader::running(file, pace, position, last);
+        state.readers.insert(dice.below(SLOTS), reader);
+    }
+    let one_missing_in = dice.pick(&[8, 60, 400]);
+    for file in state.files() {
+        let pages = (1..=state.size(file)).map(|number| Page { file, number });
+        state
+            .cached
+            .extend(pages.filter(|_| !dice.once_in(one_missing_in)));
+    }
+    state.frames = (state.cached.len() as u64 + dice.below(2)).max(1);
+    state
+}
+
 /// Sizes for some files; the others keep 0. Seldom there is no file at all.
 fn choose_sizes(dice: &mut Dice, state: &mut State) {
     let small = dice.once_in(3);

@@ -2,11 +2,12 @@
 
 use super::{hold, Report};
 use crate::call::{Call, Entry};
+use crate::cases;
 use crate::limits::{FILES, MOST_TURNS, SLOTS};
 use crate::model::{Page, Rule, State};
 use crate::random::Dice;
 use crate::scene::{
-    any_call, any_state, calls_at_bounds, link_state, long_run_state, weight_state,
+    any_call, any_state, calls_at_bounds, link_state, long_run_state, row_state, weight_state,
 };
 
 /// Calls made one after the other from each random state.
@@ -39,6 +40,18 @@ pub fn on_the_link(report: &mut Report, entry: Entry, dice: &mut Dice, states: u
         }
         let turns = dice.between(1, 40);
         hold(report, entry, &left, Call::Run { turns });
+    }
+}
+
+/// Runs that go on without a fetch for long, from so many states.
+pub fn rows(report: &mut Report, entry: Entry, dice: &mut Dice, states: u64) {
+    for _ in 0..states {
+        let state = row_state(dice);
+        let turns = dice.between(1, 900);
+        for (name, case) in cases::rows(&state, turns) {
+            report.note(name, case.to_string());
+        }
+        hold(report, entry, &state.image(), Call::Run { turns });
     }
 }
 
