@@ -1,5 +1,6 @@
 // Each file's head over the turns of a Run: the page of the file that goes first. It is looked up when a page has to go, and stays known until a reader of the
-// file has its turn or a page of it moves. A head is one number, above the key what it ranks by, so that the higher goes first; 0 where it is not known.
+// file has its turn, a page of it moves, or turns are passed at once. A head is one number, above the key what it ranks by, so that the higher goes first; 0
+// where it is not known.
 
 use order::Choice;
 use order::Pick;
@@ -78,7 +79,7 @@ pub fn forget_arrived(heads: &mut [u64; 8], key: usize, gone: Choice)
 // ---- the page to give up
 
 // A page and its rank after so many turns as one number, which stays while nothing of the page's file moves. The use key of a page in a look-ahead falls by 1
-// with every turn of another file's reader, so the turns made are added to it.
+// with every turn of a slot that does not read its file, so the turns made are added to it.
 fn packed(head: Pick, done: u64) -> u64
     requires { ⌜ (done ≤ 16384) × (head .value < 200000000) ⌝ }
     ensures { λ r. ⌜ r ≡ packed done head ⌝ }

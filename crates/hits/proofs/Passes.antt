@@ -22,6 +22,7 @@ use Rattle.rules.specs.Calls.{withReaders, withTurn}
 use Rattle.rules.specs.Run.{Turn, Turns, nextTurn, turnOf, turnsOf}
 use Rattle.rules.specs.declared.State.{State}
 use Rattle.rules.specs.declared.Reader.{Reader}
+use Rattle.rules.specs.declared.View.{View}
 use Rattle.rules.specs.declared.Condition.{Condition}
 use Rattle.rules.specs.declared.Condition.the-variants.{Empty, Running, Waiting}
 use Rattle.rules.proofs.laws.Tests.{side, sixteen}
@@ -31,7 +32,12 @@ use Rattle.rules.proofs.orders.Passing.{seat-falls}
 use Rattle.rules.proofs.third.Moves.{nowAt, goesNow, keyNow}
 use Rattle.rules.proofs.third.Turns.{turned, goes-not, idle-turn, inside, hit-turn}
 use Rattle.parts.specs.Positions.{movedTo}
-use Rattle.hits.specs.Hits.{pagesRead, readsOf, Clear, Onward}
+use Rattle.hits.specs.Hits.{pagesRead, readsOf, Clear}
+
+-- the readers after these turns, each so many pages on
+pub record MovedBy (v : View) (n : ℕ) (after : List Reader) : Type 0 where
+  pub sixteen : length after ≡ 16
+  pub each : (j : ℕ) → j < 16 → readerIn after j ≡ movedTo (readerIn (v .readers) j .position + readsOf v n j) (readerIn (v .readers) j)
 
 -- ---- a slot's own turns
 
@@ -152,8 +158,8 @@ module _ (n : ℕ) (s : State) (v : Valid s) (g : ℕ) (hits : List ℕ) (next :
       by (yes e) = subst (λ j. i < readsOf (viewOf t) n j → T (on (s .cached) (nextKey (readerIn next j) + i))) (sym e) (own-clear i) h
       by (no e) = rw (q .others j e) (c j l i (subst (λ m. i < m) (sym (reads-other j l e)) h))
 
-  onward-next : (after : List Reader) → Onward (viewOf s) (suc n) after → Onward (viewOf t) n after
-  onward-next after o = record { sixteen = o .sixteen; each = λ j l. by j l (ℕ-discrete j (s .turn)) }
+  moved-next : (after : List Reader) → MovedBy (viewOf s) (suc n) after → MovedBy (viewOf t) n after
+  moved-next after o = record { sixteen = o .sixteen; each = λ j l. by j l (ℕ-discrete j (s .turn)) }
     where
       d : ℕ → ℕ
       d j = (j + 16 - (s .turn + 1) % 16) % 16
@@ -186,7 +192,7 @@ allHits n s after = record {
   reads = total 16 (readsOf (viewOf s) n);
 }
 
-hits-none : (s : State) → Valid s → (after : List Reader) → Onward (viewOf s) 0 after → allHits 0 s after ≡ turnsOf 0 s
+hits-none : (s : State) → Valid s → (after : List Reader) → MovedBy (viewOf s) 0 after → allHits 0 s after ≡ turnsOf 0 s
 unfolding turnsOf
 hits-none s v after o = rw (same, turn, none) refl
   where
@@ -208,7 +214,7 @@ turn-after : (u n : ℕ) → ((u + 1) % 16 + n) % 16 ≡ (u + suc n) % 16
 turn-after u n = omega arith
 
 pub hits-made : (n : ℕ) (s : State) → Valid s → ((k : ℕ) → T (inFetch s k) → ⊥) → Clear (viewOf s) (s .cached) 16 n
-    → (after : List Reader) → Onward (viewOf s) n after → allHits n s after ≡ turnsOf n s
+    → (after : List Reader) → MovedBy (viewOf s) n after → allHits n s after ≡ turnsOf n s
 unfolding turnsOf
 hits-made zero s v closed c after o = hits-none s v after o
 hits-made (suc n) s v closed c after o =
@@ -216,17 +222,17 @@ hits-made (suc n) s v closed c after o =
   where
     -- the turn, then the others
     step : (g : ℕ) (hits : List ℕ) (next : List Reader) → Quick s g hits next
-        → ((t : State) → Valid t → ((k : ℕ) → T (inFetch t k) → ⊥) → Clear (viewOf t) (t .cached) 16 n → Onward (viewOf t) n after
+        → ((t : State) → Valid t → ((k : ℕ) → T (inFetch t k) → ⊥) → Clear (viewOf t) (t .cached) 16 n → MovedBy (viewOf t) n after
         → allHits n t after ≡ turnsOf n t)
         → allHits (suc n) s after ≡ turnsOf (suc n) s
     step g hits next q more =
         let t : State = withReaders (nextTurn s) next in
         let w : Valid t = subst (λ (x : Turn). Valid (x .after)) (q .told) (turn-kept s v) in
-        let m = more t w closed (clear-next n s v g hits next q c) (onward-next n s v g hits next q after o) in
+        let m = more t w closed (clear-next n s v g hits next q c) (moved-next n s v g hits next q after o) in
         rw (q .told, ← m, turn-after (s .turn) n, total-next n s v g hits next q, q .one) refl
 
     go : T (goesNow s) ⊎ T (not (goesNow s))
-        → ((t : State) → Valid t → ((k : ℕ) → T (inFetch t k) → ⊥) → Clear (viewOf t) (t .cached) 16 n → Onward (viewOf t) n after
+        → ((t : State) → Valid t → ((k : ℕ) → T (inFetch t k) → ⊥) → Clear (viewOf t) (t .cached) 16 n → MovedBy (viewOf t) n after
         → allHits n t after ≡ turnsOf n t)
         → allHits (suc n) s after ≡ turnsOf (suc n) s
     go (inr off) more = step 0 [] (s .readers) (quick-idle s v closed off) more

@@ -1,4 +1,5 @@
--- Turns of a Run that meet no F, many at once: what each reader reads in them, and where it is then. Assumes nothing: these are definitions.
+-- Turns of a Run that meet no F, many at once: what each reader reads in them, and where it is then. Between two turns of a Run no page is in fetch, so every
+-- reader runs. Assumes nothing: these are definitions.
 use Prim.Native.Nat.{ℕ, min, _+_, _-_, _/_, _%_, _≤_, _<_}
 use mathlib.Core.Path.{_≡_}
 use mathlib.Core.List.{List}
@@ -8,7 +9,6 @@ use Rattle.bits.specs.Map.{on}
 use Rattle.rules.specs.Readers.{readerIn, nextKey}
 use Rattle.rules.specs.declared.Reader.{Reader}
 use Rattle.rules.specs.declared.View.{View}
-use Rattle.parts.specs.Positions.{movedTo}
 
 -- how many pages a reader at this seat distance reads in n turns, none of which meets F: one at each turn of its own, which is every sixteenth, up to its last
 -- page. The record of an empty slot is all 0, so that it reads none
@@ -26,11 +26,6 @@ AllCached cached r n = (i : ℕ) → i < n → T (on cached (nextKey r + i))
 -- so are those that the first m slots read in n turns; where m is 16, none of these turns meets F
 abbrev pub Clear : View → List ℕ → ℕ → ℕ → Type 0
 Clear v cached m n = (j : ℕ) → j < m → AllCached cached (readerIn (v .readers) j) (readsOf v n j)
-
--- the readers after these turns, each so many pages on
-pub record Onward (v : View) (n : ℕ) (after : List Reader) : Type 0 where
-  pub sixteen : length after ≡ 16
-  pub each : (j : ℕ) → j < 16 → readerIn after j ≡ movedTo (readerIn (v .readers) j .position + readsOf v n j) (readerIn (v .readers) j)
 
 -- the array of the readers with the positions of the first m slots after these turns
 pub record Advanced (v : View) (n m : ℕ) (seats seats′ : List ℕ) : Type 0 where

@@ -34,7 +34,7 @@ use Rattle.parts.specs.Files.{Weighable}
 use Rattle.parts.specs.Held.{Held}
 use Rattle.parts.proofs.Weights.{weighable, weighed-in}
 use Rattle.order.specs.Choices.{inSet}
-use Rattle.order.specs.Leads.{leading, pagesIn, weightsOf, Weights, Weighed, numberIn, Led, Foremost}
+use Rattle.order.specs.Leads.{leading, pagesIn, weightsOf, Weights, Weighed, numberIn, Foremost}
 use Rattle.order.specs.declared.Lead.{Lead}
 
 -- ---- the weights in one array
@@ -83,6 +83,13 @@ module _ (frames sum w f pages number : ℕ) (p : Lead) where
       where
         number′ : ℕ
         number′ = standing frames sum w f pages
+
+-- the file that leads, if any, which a number above 0 says, has cached pages and this number, and none of the first n files with cached pages has a higher one
+pub record Led (frames : ℕ) (weights held : List ℕ) (n : ℕ) (p : Lead) : Type 0 where
+  pub low : p .file < 8
+  pub pages : 0 < p .number → 0 < pagesIn held (p .file)
+  pub its : 0 < p .number → numberIn frames weights held (p .file) ≡ p .number
+  pub top : (f : ℕ) → f < n → 0 < pagesIn held f → (0 < p .number) × (numberIn frames weights held f ≤ p .number)
 
 -- by these frames, weights and counts; the sum of the weights is above 0
 module _ (frames : ℕ) (weights held : List ℕ) (some : 0 < getD weights 8 0) where

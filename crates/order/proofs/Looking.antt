@@ -1,17 +1,19 @@
 -- A look at a file: its end first, then the positions of its readers, from the last slot down. Assumes nothing.
 use mathlib.Core.Path.{_≡_, refl}
-use mathlib.Core.Bool.{Bool}
+use mathlib.Core.Bool.{Bool, cond}
 use mathlib.Core.List.{List}
 use mathlib.Core.Logic.{_≢_}
 use Prim.Native.Nat.{ℕ, _+_, _-_, _≤_, _<_}
 use native.Mathlib.Decide.{ℕ-discrete}
 use native.Mathlib.Omega.{arith}
 use borrow.Author.Tests.{eq-eqb, ne-eqb}
+use lib.Dec.{eqb}
 use lib.ListN.{getD}
 use Rattle.rules.specs.Readers.{readerIn}
 use Rattle.rules.specs.Valid.{Valid}
 use Rattle.rules.proofs.calls.Valids.{placed-at}
 use Rattle.rules.specs.declared.State.{State}
+use Rattle.rules.specs.declared.Reader.{Reader}
 use Rattle.order.specs.declared.Pick.{Pick}
 use Rattle.order.specs.Seats.{Seated, Linked, reached, nextReached}
 use Rattle.order.specs.Searches.{Ranked, Raised, Topped}
@@ -58,6 +60,15 @@ module _ (s : State) (w : Valid s) (seats : List ℕ) (a : Seated (s .readers) 1
       by : Dec (at ≡ 17) → nextReached seats f at < at
       by (yes e) = rw (eq-eqb at 17 e) (omega (arith, e, chain-first (s .readers) seats a f low .high))
       by (no e) = rw (next-is e) (chain-less (s .readers) seats a f at more (l e))
+
+-- the slot passed last is one of the chain too
+pub passed-linked : (readers : List Reader) (f at slot : ℕ) → (at ≢ 17 → Linked readers f at) → Linked readers f slot
+    → Linked readers f (cond (eqb at 17) slot at)
+passed-linked readers f at slot l p = by (ℕ-discrete at 17)
+  where
+    by : Dec (at ≡ 17) → Linked readers f (cond (eqb at 17) slot at)
+    by (yes e) = rw (eq-eqb at 17 e) p
+    by (no e) = rw (ne-eqb at 17 e) (l e)
 
 -- so far: at the end nothing was looked at, and then all down to the slot
 pub record Looked (s : State) (files : ℕ → Bool) (f at : ℕ) (p q : Pick) : Type 0 where

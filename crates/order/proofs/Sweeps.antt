@@ -1,9 +1,11 @@
 -- A pass over the slots finds a page's rank. Assumes nothing.
-use mathlib.Core.Path.{_≡_}
+use mathlib.Core.Path.{_≡_, refl}
 use mathlib.Core.Bool.{not}
+use mathlib.Core.List.{List}
 use mathlib.Core.Logic.{_⊎_, inl, inr}
-use Prim.Native.Nat.{ℕ, min, _+_, _-_, _*_, _≤_, _<_}
+use Prim.Native.Nat.{ℕ, zero, suc, min, _+_, _-_, _*_, _≤_, _<_}
 use native.Mathlib.Decide.{ℕ-discrete, decLt, decLe}
+use native.Mathlib.Numerals.{add-one}
 use native.Mathlib.Omega.{arith}
 use borrow.Author.Tests.{eq-eqb}
 use lib.Dec.{T}
@@ -19,7 +21,7 @@ use Rattle.rules.specs.Ranks.{rank}
 use Rattle.rules.proofs.orders.Ranks.{seen-small, rank-behind, rank-unseen, rank-seen}
 use Rattle.rules.specs.declared.State.{State}
 use Rattle.rules.specs.declared.Reader.{Reader}
-use Rattle.order.specs.Seats.{lastSeat}
+use Rattle.order.specs.Seats.{lastSeat, Linked}
 use Rattle.order.specs.Searches.{lower, Swept}
 use Rattle.order.proofs.Seating.{seat-is}
 
@@ -163,3 +165,40 @@ module _ (s : State) (k : ℕ) where
         by : (j : ℕ) → j < from → Dec (j < to) → Walked from to at j
         by j u (yes h) = inl h
         by j u (no h) = inr (omega arith, u)
+
+-- ---- the two parts
+
+-- where a part begins, and how many slots those before it have asked: up to `start`, then all up to the last with a reader of the file
+abbrev pub begins : ℕ → ℕ → ℕ → ℕ
+begins zero start last = start
+begins (suc n) start last = last
+
+abbrev pub asked : ℕ → ℕ → ℕ → ℕ
+asked zero start last = 0
+asked (suc zero) start last = start
+asked (suc (suc n)) start last = last
+
+-- a part asks up to where it begins
+pub asked-next : (part start last : ℕ) → part < 2 → asked (part + 1) start last ≡ begins part start last
+asked-next part start last l = rw (add-one part) (go part l)
+  where
+    go : (part : ℕ) → part < 2 → asked (suc part) start last ≡ begins part start last
+    go zero l = refl
+    go (suc zero) l = refl
+    go (suc (suc n)) l = absurd (omega arith)
+
+-- the next one begins at the last slot, and goes on down to `start`
+pub begins-next : (part start last : ℕ) → last ≡ begins (part + 1) start last
+begins-next part start last = rw (add-one part) refl
+
+pub asked-start : (part start last : ℕ) → part + 1 < 2 → start ≡ asked (part + 1) start last
+asked-start part start last l = let e : part + 1 ≡ 1 = omega arith in rw e refl
+
+-- it begins at a slot of the chain, if both are
+pub begins-linked : (readers : List Reader) (f part start last : ℕ) → Linked readers f start → Linked readers f last → Linked readers f (begins part start last)
+begins-linked readers f zero start last a b = a
+begins-linked readers f (suc n) start last a b = b
+
+-- after two all are asked
+pub asked-all : (part start last : ℕ) → part ≡ 2 → asked part start last ≡ last
+asked-all part start last e = rw e refl

@@ -42,13 +42,6 @@ pub record Weighed (weights : List ℕ) : Type 0 where
 abbrev pub numberIn : ℕ → List ℕ → List ℕ → ℕ → ℕ
 numberIn frames weights held f = standing frames (getD weights 8 0) (getD weights f 0) f (pagesIn held f)
 
--- the file that leads, if any, which a number above 0 says, has cached pages and this number, and none of the first n files with cached pages has a higher one
-pub record Led (frames : ℕ) (weights held : List ℕ) (n : ℕ) (p : Lead) : Type 0 where
-  pub low : p .file < 8
-  pub pages : 0 < p .number → 0 < pagesIn held (p .file)
-  pub its : 0 < p .number → numberIn frames weights held (p .file) ≡ p .number
-  pub top : (f : ℕ) → f < n → 0 < pagesIn held f → (0 < p .number) × (numberIn frames weights held f ≤ p .number)
-
 -- no file with cached pages has a higher number, and if any has cached pages, this one has
 pub record Foremost (frames : ℕ) (weights held : List ℕ) (file : ℕ) : Type 0 where
   pub low : file < 8

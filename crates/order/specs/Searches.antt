@@ -57,7 +57,7 @@ pub record Sighted (t : Terms) (seats cached fetching : List ℕ) (v : View) : T
 abbrev pub Sight : Terms → List ℕ → List ℕ → List ℕ → Type 0
 Sight t seats cached fetching = (v : View) × Sighted t seats cached fetching v
 
--- and at, counted from 1, is in it a slot with a reader of file f, or none
+-- and `at`, counted from 1, is in it a slot with a reader of file f, or none
 abbrev pub SightAt : Terms → List ℕ → List ℕ → List ℕ → ℕ → ℕ → Type 0
 SightAt t seats cached fetching f at = (v : View) × Sighted t seats cached fetching v × Linked (v .readers) f at
 
@@ -71,7 +71,7 @@ SeatsOf seats = (readers : List Reader) × Seated readers 16 seats
 abbrev pub lower : State → ℕ → ℕ → ℕ → ℕ
 lower s k j low = cond (sees s (readerAt s j) k) (min (useFor s k j) low) low
 
--- top is what some of the slots, those that are In, leave of page k's rank
+-- top is no lower than page k's rank, and no higher than what some of the slots, those that are In, leave of it
 pub record Swept (s : State) (k : ℕ) (In : ℕ → Type 0) (top : ℕ) : Type 0 where
   pub low : rank s k ≤ top
   pub high : top ≤ 2 * never + place k

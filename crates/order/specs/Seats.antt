@@ -23,7 +23,7 @@ pub record Seated (readers : List Reader) (n : ℕ) (seats : List ℕ) : Type 0 
   pub next : (j : ℕ) → j < n → T (attached (readerIn readers j)) → getD seats (32 + j) 0 ≡ lastSeat readers (readerIn readers j .file) j
   pub last : (f : ℕ) → f < 8 → getD seats (48 + f) 0 ≡ lastSeat readers f n
 
--- at, counted from 1, is a slot with a reader of file f, or none
+-- `at`, counted from 1, is a slot with a reader of file f, or none
 pub record Linked (readers : List Reader) (f at : ℕ) : Type 0 where
   pub high : at ≤ 16
   pub sits : 0 < at → T (readsFile f (readerIn readers (at - 1)))

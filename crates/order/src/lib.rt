@@ -350,8 +350,9 @@ fn rank_among<'a>(
     top
 }
 
-// The rank of a page of its file, or, where that is no higher than the floor, a number that is no higher either. The file's readers are asked from slot `start`
-// down, then from the last slot down to it: a good start is a reader that comes to the page soon, since then few others have to be asked.
+// The rank of a page, or, where that is no higher than the floor, a number that is no higher either. The file's readers are asked in two parts, from slot
+// `start` down, then from the last slot down to it, so that a good start, a reader that comes to the page soon, leaves few others to be asked. It is a loop, so
+// that `rank_among` is called at one place, and the compiler puts it there.
 fn rank_over<'a>(
     t: Terms,
     seats: &[u16; 72],
@@ -366,13 +367,18 @@ fn rank_over<'a>(
         → Over (stateUnder t v (now (cached .entry)) (now (fetching .entry))) key floor r) ⌝ }
 {
     let page = key % 1024 + 1;
-    let most = 2 * NEVER + (page * 8 + key / 1024) as u64;
-    let below = rank_among(t, seats, cached, fetching, key, floor, start, 0, most);
-    if below <= floor {
-        return below;
-    }
     let last = seats[48 + key / 1024] as usize;
-    rank_among(t, seats, cached, fetching, key, floor, last, start, below)
+    let mut top = 2 * NEVER + (page * 8 + key / 1024) as u64;
+    let mut from = start;
+    let mut to: usize = 0;
+    let mut part: usize = 0;
+    while part < 2 && floor < top {
+        top = rank_among(t, seats, cached, fetching, key, floor, from, to, top);
+        from = last;
+        to = start;
+        part += 1;
+    }
+    top
 }
 
 // The best page so far, or the last cached one of the file's first n pages, where there is one and its rank is higher.
@@ -426,9 +432,20 @@ fn next_reach(seats: &[u16; 72], file: usize, at: usize) -> u16
     seats[31 + at]
 }
 
+// The slot that a look has passed last: this place, or where it is the file's end, the one so far.
+fn slot_passed(at: usize, slot: usize) -> usize
+    ensures { λ r. ⌜ r ≡ cond (eqb at 17) slot at ⌝ }
+{
+    if at == 17 {
+        return slot;
+    }
+    at
+}
+
 // The best page after a look at a file. Of its cached pages with no reader between, only the last can be of the highest rank. So the last of all is looked at,
-// and the last at or before each position of its readers; for its rank the readers are asked from the next in the chain on. The file's end is a place in the
-// chain: so `higher` is called at one place, and the compiler puts it there.
+// and the last at or before each position of its readers. For its rank the readers are asked from the slot passed before on: where tablets dock in the order of
+// their slots, its reader is the next to come to the page. The file's end is a place in the chain: so `higher` is called at one place, and the compiler puts it
+// there.
 fn highest_of<'a>(
     t: Terms,
     seats: &[u16; 72],
@@ -443,11 +460,13 @@ fn highest_of<'a>(
         → Topped (stateUnder t v (now (cached .entry)) (now (fetching .entry))) files file 0 first r) ⌝ }
 {
     let mut best = first;
+    let mut start = seats[48 + file] as usize;
     let mut at: usize = 17;
     while 0 < at {
         let n = reach(seats, at) as usize;
+        best = higher(t, seats, cached, fetching, file, n, best, start);
+        start = slot_passed(at, start);
         at = next_reach(seats, file, at) as usize;
-        best = higher(t, seats, cached, fetching, file, n, best, at);
     }
     best
 }

@@ -1,4 +1,4 @@
-// Run, leg by leg: some turns one after the other, and after a leg without F those that meet none, at once.
+// Run, leg by leg: some turns one by one and, if these met no F, those after them that meet none, at once.
 
 use rules::Answer;
 use rules::Outcome;
@@ -14,13 +14,13 @@ ghost use Rattle.rules.specs.Third.{ThirdStatement};
 ghost use Rattle.parts.specs.Held.{Held};
 ghost use Rattle.turns.specs.Places.{Quiet};
 ghost use Rattle.turns.specs.Tallies.{soFar};
-ghost use Rattle.turns.specs.Legs.{Ready, Gone};
-ghost use Rattle.run.specs.Both.{both};
+ghost use Rattle.turns.specs.Legs.{Ready, IsLeg};
+ghost use Rattle.run.specs.Legs.{andThen};
 
-// A leg is two rounds at most. A search for turns that meet no F costs about as much as a round of hits, so it is tried only after turns without F.
-const LEG: u64 = 32;
+// So many turns are made one by one, two rounds, before turns that meet no F are looked for: that costs about as much as a round of hits.
+const ONE_BY_ONE: u64 = 32;
 
-// Of so many turns those that go by before one meets F, at once. Readers of any file have moved: no head is known after them.
+// Of so many turns those that go by before one meets F, at once. Readers of any file may have moved: no head is known after them.
 fn pass_hits(
     v: View,
     seats: &mut [u16; 72],
@@ -30,7 +30,7 @@ fn pass_hits(
 ) -> Leg
     requires { ⌜ ((fetching : List ℕ) × ((done : ℕ) × Ready v (now seats) (now cached) fetching (now heads) done)) × (most ≤ 16384) ⌝ }
     ensures { λ r. ⌜ ((fetching : List ℕ) (done : ℕ) → Ready v (now (seats .entry)) (now (cached .entry)) fetching (now (heads .entry)) done
-        → Gone (stateOf v (now (cached .entry)) fetching) done most r (now (seats .exit)) (now (cached .entry)) fetching (now (heads .exit))) ⌝ }
+        → IsLeg (stateOf v (now (cached .entry)) fetching) done most r (now (seats .exit)) (now (cached .entry)) fetching (now (heads .exit))) ⌝ }
 {
     let turns = hits::turns_ahead(v, cached, most);
     let reads = hits::pass_turns(v, seats, turns);
@@ -48,7 +48,7 @@ fn pass_hits(
 // A leg and one after it.
 fn and_then(a: Leg, b: Leg) -> Leg
     requires { ⌜ (a .turns + b .turns ≤ 16384) × (a .fetches + b .fetches ≤ 16384) × (a .reads + b .reads ≤ 16384) ⌝ }
-    ensures { λ r. ⌜ r ≡ both a b ⌝ }
+    ensures { λ r. ⌜ r ≡ andThen a b ⌝ }
 {
     let view = b.view;
     Leg {
@@ -59,7 +59,7 @@ fn and_then(a: Leg, b: Leg) -> Leg
     }
 }
 
-// Some of so many turns: a leg of them, and after one without F those that meet none.
+// Some of so many turns: the first of them one by one and, if these met no F, those after them that meet none.
 fn further(
     v: View,
     seats: &mut [u16; 72],
@@ -71,12 +71,12 @@ fn further(
     most: u64,
 ) -> Leg
     requires { ⌜ Ready v (now seats) (now cached) (now fetching) (now heads) done × (done + most ≤ 16384) × Held (now cached) (now held) ⌝ }
-    ensures { λ r. ⌜ Gone (stateOf v (now (cached .entry)) (now (fetching .entry))) done most r
+    ensures { λ r. ⌜ IsLeg (stateOf v (now (cached .entry)) (now (fetching .entry))) done most r
         (now (seats .exit)) (now (cached .exit)) (now (fetching .exit)) (now (heads .exit)) ⌝ }
     ensures counted { λ _. ⌜ Held (now (cached .exit)) (now (held .exit)) ⌝ }
     ensures some { λ r. ⌜ (0 < most → 0 < r .turns) ⌝ }
 {
-    let turns = parts::lesser(LEG, most);
+    let turns = parts::lesser(ONE_BY_ONE, most);
     let first = turns::go_on(v, seats, cached, fetching, held, heads, done, turns);
     if 0 < first.fetches {
         return first;

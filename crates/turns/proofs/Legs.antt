@@ -17,11 +17,11 @@ use Rattle.order.specs.Leads.{Weights}
 use Rattle.order.specs.Searches.{termsOf}
 use Rattle.heads.specs.Heads.{Kept}
 use Rattle.turns.specs.declared.Turned.{Turned}
-use Rattle.turns.specs.Places.{reseated, Posed, Following, Quiet, Turning}
+use Rattle.turns.specs.Places.{reseated, Following, Quiet, Turning}
 use Rattle.turns.specs.Tallies.{Made, soFar}
-use Rattle.turns.specs.Legs.{Ready, Gone}
+use Rattle.turns.specs.Legs.{Ready, IsLeg}
 use Rattle.turns.proofs.Rounds.{turns-none, turns-more, turns-few, turn-valid}
-use Rattle.turns.proofs.Seatings.{following-is, posed-first, posed-made}
+use Rattle.turns.proofs.Seatings.{Posed, following-is, posed-first, posed-made}
 
 -- n turns from s on, after others that were done before: it is this slot's turn then, and so many fetches and reads were made
 pub record Underway (v : View) (s : State) (done slot n fetches reads : ℕ) (seats cached fetching heads : List ℕ) : Type 0 where
@@ -86,9 +86,9 @@ module _ (v : View) (s : State) (done slot n fetches reads : ℕ) (seats cached 
 
   -- all of them: the view after them is as the array has the readers
   pub underway-all : (w : View) (turns : ℕ) → n ≡ turns → Following v slot seats w
-      → Gone s done turns (record { view = w; turns = turns; fetches = fetches; reads = reads }) seats cached fetching heads
+      → IsLeg s done turns (record { view = w; turns = turns; fetches = fetches; reads = reads }) seats cached fetching heads
   underway-all w turns e f =
-      subst (λ w. Gone s done turns (record { view = w; turns = turns; fetches = fetches; reads = reads }) seats cached fetching heads)
+      subst (λ w. IsLeg s done turns (record { view = w; turns = turns; fetches = fetches; reads = reads }) seats cached fetching heads)
       (sym (following-is v w slot seats (u .after) f (u .valid .sixteen) (u .posed))) (record {
         told = u .told ∙ ap (λ i. turnsOf i s) e;
         ready = record {

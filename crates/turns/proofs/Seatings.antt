@@ -13,7 +13,12 @@ use Rattle.rules.specs.declared.View.{View}
 use Rattle.order.specs.Seats.{Seated}
 use Rattle.order.proofs.Seating.{seated-moved}
 use Rattle.parts.specs.Positions.{movedTo}
-use Rattle.turns.specs.Places.{reseated, Posed, Following}
+use Rattle.turns.specs.Places.{reseated, Following}
+
+-- `after` are these readers, each at the position that the array has for its slot, and the array is that of `after`
+pub record Posed (readers : List Reader) (seats : List ℕ) (after : List Reader) : Type 0 where
+  pub moved : (j : ℕ) → j < 16 → readerIn after j ≡ movedTo (getD seats j 0) (readerIn readers j)
+  pub seated : Seated after 16 seats
 
 -- ---- the records put at their positions
 

@@ -20,8 +20,8 @@ pub record Ready (v : View) (seats cached fetching heads : List ℕ) (done : ℕ
   pub seated : Seated (v .readers) 16 seats
   pub kept : Kept (stateOf v cached fetching) done heads
 
--- of so many turns at most those of the leg were made from s on: it has the view after them, the fetches and the reads, and more can follow
-pub record Gone (s : State) (done most : ℕ) (r : Leg) (seats cached fetching heads : List ℕ) : Type 0 where
+-- a leg from s on, of so many turns at most: it has the view after them, the fetches and the reads, and more turns can follow
+pub record IsLeg (s : State) (done most : ℕ) (r : Leg) (seats cached fetching heads : List ℕ) : Type 0 where
   pub told : soFar (stateOf (r .view) cached fetching) (r .fetches) (r .reads) ≡ turnsOf (r .turns) s
   pub ready : Ready (r .view) seats cached fetching heads (done + r .turns)
   pub within : r .turns ≤ most

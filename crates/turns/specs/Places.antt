@@ -1,4 +1,5 @@
--- A Run as its loop holds it: the view that it began with, the turn, and the readers' positions in one array. Assumes nothing: these are definitions.
+-- A leg of a Run as its loop holds it: the view that it began with, the turn, and the readers' positions in one array. Assumes nothing: these are
+-- definitions.
 use Prim.Native.Nat.{ℕ, _+_, _%_, _<_}
 use mathlib.Core.Path.{_≡_}
 use mathlib.Core.List.{List}
@@ -10,7 +11,6 @@ use Rattle.rules.specs.declared.Reader.{Reader}
 use Rattle.rules.specs.declared.View.{View}
 use Rattle.parts.specs.Positions.{movedTo}
 use Rattle.order.specs.declared.Terms.{Terms}
-use Rattle.order.specs.Seats.{Seated}
 use Rattle.order.specs.Leads.{Weights}
 use Rattle.order.specs.Searches.{under, stateUnder, Sighted}
 use Rattle.heads.specs.Heads.{Kept}
@@ -33,11 +33,6 @@ reseated v turn readers = record {
 -- the view after a turn whose reader, r, is then at position p
 abbrev pub afterTurn : Terms → View → Reader → ℕ → View
 afterTurn t w r p = reseated (under t w) ((t .turn + 1) % 16) (set (w .readers) (t .turn) (movedTo p r))
-
--- `after` are these readers, each at the position that the array has for its slot, and the array is that of `after`
-pub record Posed (readers : List Reader) (seats : List ℕ) (after : List Reader) : Type 0 where
-  pub moved : (j : ℕ) → j < 16 → readerIn after j ≡ movedTo (getD seats j 0) (readerIn readers j)
-  pub seated : Seated after 16 seats
 
 -- r is the view after some turns: it is this slot's turn, and each reader is at the position that the array has for its slot
 pub record Following (v : View) (slot : ℕ) (seats : List ℕ) (r : View) : Type 0 where

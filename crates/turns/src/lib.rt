@@ -21,7 +21,7 @@ ghost use Rattle.heads.specs.Heads.{Kept};
 ghost use Rattle.parts.specs.Positions.{movedTo};
 ghost use Rattle.turns.specs.Places.{Following, Choosing, Turning};
 ghost use Rattle.turns.specs.Tallies.{Single, Made};
-ghost use Rattle.turns.specs.Legs.{Ready, Gone};
+ghost use Rattle.turns.specs.Legs.{Ready, IsLeg};
 
 // What a turn did: 1 if it met F, and 1 if it ended in H.
 pub struct Turned {
@@ -38,7 +38,7 @@ pub struct Leg {
 }
 
 // 1 if the answer is H.
-fn hits(answer: Answer) -> u16
+fn one_if_hit(answer: Answer) -> u16
     ensures { λ r. ⌜ r ≡ length (hitPage answer) ⌝ }
 {
     match answer {
@@ -51,7 +51,7 @@ fn hits(answer: Answer) -> u16
 fn ended(answer: Answer, fetched: u16) -> Turned
     ensures { λ r. ⌜ r ≡ record { fetched = fetched; read = length (hitPage answer) } ⌝ }
 {
-    let read = hits(answer);
+    let read = one_if_hit(answer);
     Turned { fetched, read }
 }
 
@@ -158,7 +158,7 @@ pub fn go_on(
     turns: u64,
 ) -> Leg
     requires { ⌜ Ready v (now seats) (now cached) (now fetching) (now heads) done × (done + turns ≤ 16384) × Held (now cached) (now held) ⌝ }
-    ensures { λ r. ⌜ Gone (stateOf v (now (cached .entry)) (now (fetching .entry))) done turns r
+    ensures { λ r. ⌜ IsLeg (stateOf v (now (cached .entry)) (now (fetching .entry))) done turns r
         (now (seats .exit)) (now (cached .exit)) (now (fetching .exit)) (now (heads .exit)) ⌝ }
     ensures counted { λ _. ⌜ Held (now (cached .exit)) (now (held .exit)) ⌝ }
     ensures all { λ r. ⌜ r .turns ≡ turns ⌝ }

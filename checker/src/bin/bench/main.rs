@@ -81,6 +81,7 @@ fn machine() -> String {
 /// Every call, with 1,024 frames unless said.
 fn calls() -> Vec<Case> {
     let mut cases = arrivals(&[(10_240, 0), (2_000_000, 0), (10_240, 1), (2_000_000, 100)]);
+    cases.extend([0, 1].map(arrive_turned_round));
     let image = busy(FULL).image();
     let measure = Call::Measure {
         slot: 9,
@@ -108,6 +109,21 @@ fn calls() -> Vec<Case> {
     cases.extend(runs(2_000_000, 100));
     cases.extend([run_of_hits(), run_of_paces(0), run_of_paces(50)]);
     cases
+}
+
+/// An arrival that steals, on one file, with the readers the other way round in their
+/// slots: the one in the lowest, who docked first, is furthest ahead.
+fn arrive_turned_round(fetch_time: u64) -> Case {
+    let mut state = busy(Quay {
+        files: 1,
+        frames: 768,
+        fetch_time,
+        ..FULL
+    });
+    let readers: Vec<Reader> = state.readers.into_values().rev().collect();
+    state.readers = (0..).zip(readers).collect();
+    let name = format!("Arrive that steals, 16 readers on one file, the first slot furthest ahead, L 10240, T {fetch_time}");
+    arrive(name, state)
 }
 
 /// An arrival for which a page goes that no reader still has before it: the reader in slot
@@ -301,9 +317,10 @@ fn opened(mut state: State) -> State {
     state
 }
 
-/// Arrive of the page that slot 0 waits for.
+/// Arrive of the page that a reader waits for.
 fn arrive(name: String, state: State) -> Case {
-    let Page { file, number: page } = state.readers[&0].next_page();
+    let waiting = state.readers.values().find(|reader| reader.waiting);
+    let Page { file, number: page } = waiting.expect("one waits").next_page();
     let (image, call) = (state.image(), Call::Arrive { file, page });
     Case { name, image, call }
 }

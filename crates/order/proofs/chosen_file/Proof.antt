@@ -2,8 +2,7 @@
 use Prim.Native.Nat.{_-_, _≤_}
 use native.Mathlib.Omega.{arith}
 use borrow.Author.Needs.{needs}
-use Rattle.order.specs.Leads.{Led}
-use Rattle.order.proofs.Leading.{led-none, led-more, led-all}
+use Rattle.order.proofs.Leading.{Led, led-none, led-more, led-all}
 use Rattle.order.proofs.chosen_file.Statement.{statement}
 use Rattle.order.proofs.chosen_file.Tie as tie
 

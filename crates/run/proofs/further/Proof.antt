@@ -3,7 +3,7 @@ use Prim.Native.Nat.{_+_, _≤_}
 use mathlib.Core.Path.{refl}
 use native.Mathlib.Omega.{arith}
 use borrow.Author.Needs.{needs}
-use Rattle.run.proofs.Legs.{gone-within, gone-then, leg-few}
+use Rattle.run.proofs.Legs.{leg-within, leg-then, leg-few}
 use Rattle.run.proofs.further.Statement.{statement}
 use Rattle.run.proofs.further.Tie as tie
 
@@ -19,7 +19,7 @@ returns c =
     let after-lesser = after-go-on .before .before .before .before .before .before in
     let went = after-go-on .go-on .ensures in
     let short = after-lesser .lesser .ensures in
-    (gone-within _ _ _ _ _ _ _ _ _ (omega (arith, short)) (went .0), (went .1 .0, λ h. omega (arith, h, went .1 .1, short)))
+    (leg-within _ _ _ _ _ _ _ _ _ (omega (arith, short)) (went .0), (went .1 .0, λ h. omega (arith, h, went .1 .1, short)))
 
 sub-pass-hits : tie.Need-sub-pass-hits
 sub-pass-hits c = search needs
@@ -55,7 +55,7 @@ returns-2 c =
     let short = after-lesser .lesser .ensures in
     let rest = after-pass-hits .pass-hits .ensures _ _ (went .0 .ready) in
     let e = c .and-then .ensures in (
-      rw e (gone-then _ _ _ _ _ _ _ _ _ _ _ _ _ _ _ _ (went .0) refl (omega (arith, went .1 .1, short)) rest),
+      rw e (leg-then _ _ _ _ _ _ _ _ _ _ _ _ _ _ _ _ (went .0) refl (omega (arith, went .1 .1, short)) rest),
       (went .1 .0, λ h. rw e (omega (arith, h, went .1 .1, short))),
     )
 

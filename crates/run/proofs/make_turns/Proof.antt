@@ -1,4 +1,4 @@
--- Invariant: the legs so far, as one, were gone from the start on (`Gone`), and the files' counts are those of the map. Measure: the turns that are left.
+-- Invariant: the legs so far, as one, were gone from the start on (`IsLeg`), and the files' counts are those of the map. Measure: the turns that are left.
 use Prim.Native.Nat.{_+_, _-_, _≤_}
 use mathlib.Core.Path.{_≡_, refl, sym, ap, _∙_}
 use native.Mathlib.Nat.{zero-add}
@@ -10,14 +10,14 @@ use Rattle.rules.specs.Run.{turnsOf}
 use Rattle.rules.proofs.calls.Valids.{placed-at}
 use Rattle.parts.specs.Held.{Held}
 use Rattle.heads.proofs.Keeping.{kept-none}
-use Rattle.turns.specs.Legs.{Gone}
-use Rattle.run.proofs.Legs.{gone-none, gone-then, leg-few, ready-now}
+use Rattle.turns.specs.Legs.{IsLeg}
+use Rattle.run.proofs.Legs.{leg-none, leg-then, leg-few, ready-now}
 use Rattle.run.proofs.make_turns.Statement.{statement}
 use Rattle.run.proofs.make_turns.Tie as tie
 
 abbrev Inv-loop : tie.InvT-loop
 Inv-loop cached₀ fetching₀ held₀ turns seats₀ heads₀ made₀ cached fetching held seats heads made =
-    Gone (stateOf (made₀ .view) cached₀ fetching₀) 0 turns made seats cached fetching heads × Held cached held
+    IsLeg (stateOf (made₀ .view) cached₀ fetching₀) 0 turns made seats cached fetching heads × Held cached held
 
 abbrev μ-loop : tie.MeasureT-loop
 μ-loop cached₀ fetching₀ held₀ turns seats₀ heads₀ made₀ cached fetching held seats heads made = turns - made .turns
@@ -37,7 +37,7 @@ seats-of-requires c κs =
 loop-holds : tie.Need-loop-holds Inv-loop μ-loop
 loop-holds c =
     let at-start = c .before .before in (
-      gone-none _ _ _ _ _ _ (record {
+      leg-none _ _ _ _ _ _ (record {
         valid = at-start .pre .0;
         quiet = at-start .pre .1;
         seated = c .seats-of .ensures;
@@ -82,7 +82,7 @@ loop-again c =
     let l = looping after-further .before .loop in
     let went = after-further .further .ensures in (
       rw (c .and-then .ensures)
-          (gone-then _ 0 _ _ _ (l .made .turns) _ _ _ _ _ _ _ _ _ _ (l .inv .0) (sym (zero-add (l .made .turns))) (omega (arith, l .inv .0 .within)) (went .0)),
+          (leg-then _ 0 _ _ _ (l .made .turns) _ _ _ _ _ _ _ _ _ _ (l .inv .0) (sym (zero-add (l .made .turns))) (omega (arith, l .inv .0 .within)) (went .0)),
       went .1 .0,
     )
 

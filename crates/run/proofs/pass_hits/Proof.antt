@@ -2,7 +2,7 @@
 use mathlib.Core.Path.{refl}
 use borrow.Author.Needs.{needs}
 use lib.ListN.{getD-replicate}
-use Rattle.run.proofs.Legs.{gone-passed}
+use Rattle.run.proofs.Legs.{leg-passed}
 use Rattle.run.proofs.pass_hits.Statement.{statement}
 use Rattle.run.proofs.pass_hits.Tie as tie
 
@@ -30,7 +30,7 @@ returns c = λ fetching done r.
     let after-turns-ahead = after-pass-turns .before .before in
     let ahead = after-turns-ahead .turns-ahead .ensures in
     let passed = after-pass-turns .pass-turns .ensures in
-    gone-passed _ _ done _ _ _ _ _ _ fetching _ _ _ r (ahead .0) (ahead .1) (passed .1) (passed .0) refl (c .view-after .ensures) refl
+    leg-passed _ _ done _ _ _ _ _ _ fetching _ _ _ r (ahead .0) (ahead .1) (passed .1) (passed .0) refl (c .view-after .ensures) refl
     (λ f. getD-replicate 8 f 0 0)
 
 pub pass-hits-spec : {M : Type 1} → statement M

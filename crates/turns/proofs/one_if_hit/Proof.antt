@@ -1,8 +1,8 @@
 -- By the answer: 1 for a hit.
 use borrow.Author.Needs.{needs}
 use Rattle.turns.proofs.Answers.{not-hit}
-use Rattle.turns.proofs.hits.Statement.{statement}
-use Rattle.turns.proofs.hits.Tie as tie
+use Rattle.turns.proofs.one_if_hit.Statement.{statement}
+use Rattle.turns.proofs.one_if_hit.Tie as tie
 
 enum-told : tie.Need-enum-told
 enum-told c = search needs
@@ -13,5 +13,5 @@ returns c = search needs
 returns-2 : tie.Need-returns-2
 returns-2 c = search (not-hit, needs)
 
-pub hits-spec : {M : Type 1} → statement M
-hits-spec = tie.close (tie.spec enum-told returns returns-2)
+pub one-if-hit-spec : {M : Type 1} → statement M
+one-if-hit-spec = tie.close (tie.spec enum-told returns returns-2)
