@@ -17,8 +17,9 @@ ghost use Rattle.turns.specs.Tallies.{soFar};
 ghost use Rattle.turns.specs.Legs.{Ready, IsLeg};
 ghost use Rattle.run.specs.Legs.{andThen};
 
-// So many turns are made one by one, two rounds, before turns that meet no F are looked for: that costs about as much as a round of hits.
-const ONE_BY_ONE: u64 = 32;
+// So many turns are made one by one, six rounds, before turns that meet no F are looked for: to look costs about as much as a round of hits, and a new view
+// for each leg a little too.
+const ONE_BY_ONE: u64 = 96;
 
 // Of so many turns those that go by before one meets F, at once. Readers of any file may have moved: no head is known after them.
 fn pass_hits(
@@ -78,7 +79,7 @@ fn further(
 {
     let turns = parts::lesser(ONE_BY_ONE, most);
     let first = turns::go_on(v, seats, cached, fetching, held, heads, done, turns);
-    if 0 < first.fetches {
+    if turns == most || 0 < first.fetches {
         return first;
     }
     let view = first.view;

@@ -15,7 +15,7 @@ go-on-requires c κs = search needs
 
 returns : tie.Need-returns
 returns c =
-    let after-go-on = c .before .before in
+    let after-go-on = c .before in
     let after-lesser = after-go-on .before .before .before .before .before .before in
     let went = after-go-on .go-on .ensures in
     let short = after-lesser .lesser .ensures in
@@ -26,15 +26,17 @@ sub-pass-hits c = search needs
 
 pass-hits-requires : tie.Need-pass-hits-requires
 pass-hits-requires c κs =
-    let else-1 = c .before .before .before .before in
-    let after-go-on = else-1 .before .before in
+    let else-2 = c .before .before .before .before in
+    let else-1 = else-2 .before .before in
+    let after-go-on = else-1 .before in
     let at-start = after-go-on .before .before .before .before .before .before .before in
     ((_, (_, after-go-on .go-on .ensures .0 .ready)), omega (arith, at-start .pre .1))
 
 and-then-requires : tie.Need-and-then-requires
 and-then-requires c κs =
-    let else-1 = c .before .before .before .before .before in
-    let after-go-on = else-1 .before .before in
+    let else-2 = c .before .before .before .before .before in
+    let else-1 = else-2 .before .before in
+    let after-go-on = else-1 .before in
     let after-lesser = after-go-on .before .before .before .before .before .before in
     let at-start = after-lesser .before in
     let went = after-go-on .go-on .ensures in
@@ -48,8 +50,9 @@ and-then-requires c κs =
 returns-2 : tie.Need-returns-2
 returns-2 c =
     let after-pass-hits = c .before in
-    let else-1 = after-pass-hits .before .before .before .before .before in
-    let after-go-on = else-1 .before .before in
+    let else-2 = after-pass-hits .before .before .before .before .before in
+    let else-1 = else-2 .before .before in
+    let after-go-on = else-1 .before in
     let after-lesser = after-go-on .before .before .before .before .before .before in
     let went = after-go-on .go-on .ensures in
     let short = after-lesser .lesser .ensures in
