@@ -17,9 +17,16 @@ ghost use Rattle.turns.specs.Tallies.{soFar};
 ghost use Rattle.turns.specs.Legs.{Ready, IsLeg};
 ghost use Rattle.run.specs.Legs.{andThen};
 
-// So many turns are made one by one, six rounds, before turns that meet no F are looked for: to look costs about as much as a round of hits, and a new view
-// for each leg a little too.
-const ONE_BY_ONE: u64 = 96;
+// How many turns are made one by one before turns that meet no F are looked for: to look costs about as much as a round of hits, and a new view for each leg a
+// little too. So it is two rounds in a Run that has met no F so far, and sixteen in one that has.
+fn one_by_one(fetches: u16) -> u64
+    ensures { λ r. ⌜ 0 < r ⌝ }
+{
+    if fetches == 0 {
+        return 32;
+    }
+    256
+}
 
 // Of so many turns those that go by before one meets F, at once. Readers of any file may have moved: no head is known after them.
 fn pass_hits(
@@ -60,7 +67,7 @@ fn and_then(a: Leg, b: Leg) -> Leg
     }
 }
 
-// Some of so many turns: the first of them one by one and, if these met no F, those after them that meet none.
+// Some of so many turns: as many as `step` says one by one and, if these met no F, those after them that meet none.
 fn further(
     v: View,
     seats: &mut [u16; 72],
@@ -70,14 +77,15 @@ fn further(
     heads: &mut [u64; 8],
     done: u64,
     most: u64,
+    step: u64,
 ) -> Leg
-    requires { ⌜ Ready v (now seats) (now cached) (now fetching) (now heads) done × (done + most ≤ 16384) × Held (now cached) (now held) ⌝ }
+    requires { ⌜ Ready v (now seats) (now cached) (now fetching) (now heads) done × (done + most ≤ 16384) × Held (now cached) (now held) × (0 < step) ⌝ }
     ensures { λ r. ⌜ IsLeg (stateOf v (now (cached .entry)) (now (fetching .entry))) done most r
         (now (seats .exit)) (now (cached .exit)) (now (fetching .exit)) (now (heads .exit)) ⌝ }
     ensures counted { λ _. ⌜ Held (now (cached .exit)) (now (held .exit)) ⌝ }
     ensures some { λ r. ⌜ (0 < most → 0 < r .turns) ⌝ }
 {
-    let turns = parts::lesser(ONE_BY_ONE, most);
+    let turns = parts::lesser(step, most);
     let first = turns::go_on(v, seats, cached, fetching, held, heads, done, turns);
     if turns == most || 0 < first.fetches {
         return first;
@@ -120,6 +128,7 @@ fn make_turns(
             &mut heads,
             made.turns,
             turns - made.turns,
+            one_by_one(made.fetches),
         );
         made = and_then(made, next);
     }

@@ -25,7 +25,7 @@ abbrev μ-loop : tie.MeasureT-loop
 -- a leg more, back to the loop's test
 abbrev looping : tie.After-further Inv-loop μ-loop → tie.After-struct-known Inv-loop μ-loop
 looping c =
-    let after-seats = c .before .before .before .before .before .before in
+    let after-seats = c .before .before .before .before .before .before .before in
     let then-1 = after-seats .before .before in
     then-1 .before
 
@@ -49,14 +49,17 @@ loop-holds c =
 sub-further : tie.Need-sub-further Inv-loop μ-loop
 sub-further c = search needs
 
+one-by-one-requires : tie.Need-one-by-one-requires Inv-loop μ-loop
+one-by-one-requires c κs = search needs
+
 further-requires : tie.Need-further-requires Inv-loop μ-loop
 further-requires c κs =
-    let after-seats = c .before .before .before .before .before in
+    let after-seats = c .before .before .before .before .before .before in
     let then-1 = after-seats .before .before in
     let at-loop = then-1 .before .before in
     let at-start = at-loop .before .before .before in
     let l = at-loop .loop in
-    (ready-now _ _ _ _ _ _ _ (l .inv .0), omega (arith, l .inv .0 .within, at-start .pre .3), l .inv .1)
+    (ready-now _ _ _ _ _ _ _ (l .inv .0), omega (arith, l .inv .0 .within, at-start .pre .3), l .inv .1, c .one-by-one .ensures)
 
 and-then-requires : tie.Need-and-then-requires Inv-loop μ-loop
 and-then-requires c κs =
@@ -72,7 +75,7 @@ and-then-requires c κs =
 loop-less : tie.Need-loop-less Inv-loop μ-loop
 loop-less c =
     let after-further = c .before in
-    let then-1 = after-further .before .before .before .before .before .before .before .before in
+    let then-1 = after-further .before .before .before .before .before .before .before .before .before in
     let some = after-further .further .ensures .1 .1 (omega (arith, then-1 .if1 .taken)) in
     rw (c .and-then .ensures) (omega (arith, some, then-1 .if1 .taken))
 
@@ -104,6 +107,7 @@ make-turns-spec =
     seats-of-requires
     loop-holds
     sub-further
+    one-by-one-requires
     further-requires
     and-then-requires
     loop-less
