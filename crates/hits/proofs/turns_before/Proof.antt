@@ -1,5 +1,5 @@
 -- All pages up to the last are cached, or the turns end with the reader's own one that comes to the first that is not.
-use Prim.Native.Nat.{_-_}
+use Prim.Native.Nat.{ℕ, _+_, _-_, _/_, _≤_}
 use native.Mathlib.Omega.{arith}
 use borrow.Author.Needs.{needs}
 use Rattle.hits.proofs.Slots.{stretch-bounds, stretch-cached, own-few}
@@ -40,18 +40,27 @@ add-lesser c =
 lesser-requires : tie.Need-lesser-requires
 lesser-requires c κs = search needs
 
+-- no more of the turns are its own than pages lie before the one that is not cached
+few : (c : tie.After-lesser) →
+    let after-next-bit = c .before .before in
+    let after-next-key = after-next-bit .before in
+    let at-start = after-next-key .before .before in
+    (n : ℕ) → n ≤ c .lesser .result → (n + 15 - at-start .args .distance) / 16 ≤ after-next-bit .next-bit .result - after-next-key .next-key .result
+few c n l =
+    let after-next-bit = c .before .before in
+    let after-next-key = after-next-bit .before in
+    let at-start = after-next-key .before .before in
+    let stretch = after-next-bit .next-bit .result - after-next-key .next-key .result in
+    own-few n (at-start .args .distance) stretch (omega (arith, l, c .lesser .ensures))
+
 returns-2 : tie.Need-returns-2
 returns-2 c =
     let else-1 = c .before in
     let after-next-bit = else-1 .before in
     let after-next-key = after-next-bit .before in
-    let at-start = after-next-key .before .before in
-    let e = after-next-bit .next-bit .ensures in
-    let stretch = after-next-bit .next-bit .result - after-next-key .next-key .result in (
+    let e = after-next-bit .next-bit .ensures in (
       omega (arith, c .lesser .ensures),
-      λ n l i h.
-          let few = own-few n (at-start .args .distance) stretch (omega (arith, l, c .lesser .ensures)) in
-          rw (← after-next-key .next-key .ensures) (stretch-cached _ _ _ _ e i (omega (arith, h, few))),
+      λ n l i h. rw (← after-next-key .next-key .ensures) (stretch-cached _ _ _ _ e i (omega (arith, h, few c n l))),
     )
 
 pub turns-before-spec : {M : Type 1} → statement M
