@@ -81,7 +81,7 @@ fn machine() -> String {
 /// Every call, with 1,024 frames unless said.
 fn calls() -> Vec<Case> {
     let mut cases = arrivals(&[(10_240, 0), (2_000_000, 0), (10_240, 1), (2_000_000, 100)]);
-    cases.extend([0, 1].map(arrive_turned_round));
+    cases.extend(reseated());
     let image = busy(FULL).image();
     let measure = Call::Measure {
         slot: 9,
@@ -111,19 +111,34 @@ fn calls() -> Vec<Case> {
     cases
 }
 
-/// An arrival that steals, on one file, with the readers the other way round in their
-/// slots: the one in the lowest, who docked first, is furthest ahead.
-fn arrive_turned_round(fetch_time: u64) -> Case {
-    let mut state = busy(Quay {
-        files: 1,
-        frames: 768,
-        fetch_time,
-        ..FULL
-    });
-    let readers: Vec<Reader> = state.readers.into_values().rev().collect();
-    state.readers = (0..).zip(readers).collect();
-    let name = format!("Arrive that steals, 16 readers on one file, the first slot furthest ahead, L 10240, T {fetch_time}");
-    arrive(name, state)
+/// In words, and the slot that the reader of each slot gets.
+type Seating = (&'static str, fn(u64) -> u64);
+
+/// Arrivals that steal, on one file, with the readers in other slots: the one in the
+/// first, who docked first, is furthest ahead; or they are in no order.
+fn reseated() -> Vec<Case> {
+    let seatings: [Seating; 2] = [
+        ("the first slot furthest ahead", |slot| 15 - slot),
+        ("slots in no order", |slot| slot * 7 % 16),
+    ];
+    let mut cases = Vec::new();
+    for (seating, slot_of) in seatings {
+        for fetch_time in [0, 1] {
+            let mut state = busy(Quay {
+                files: 1,
+                frames: 768,
+                fetch_time,
+                ..FULL
+            });
+            let readers = state.readers.into_iter();
+            state.readers = readers.map(|(slot, it)| (slot_of(slot), it)).collect();
+            let name = format!(
+                "Arrive that steals, 16 readers on one file, {seating}, L 10240, T {fetch_time}"
+            );
+            cases.push(arrive(name, state));
+        }
+    }
+    cases
 }
 
 /// An arrival for which a page goes that no reader still has before it: the reader in slot
