@@ -18,7 +18,7 @@ use Rattle.rules.proofs.laws.Cases.{passed, failed}
 use Rattle.rules.proofs.orders.Distinct.{Stretch, behind, unseen, in-use, stretch, rank-positive, rank-far, head-is, among-none}
 use Rattle.rules.specs.declared.State.{State}
 use Rattle.order.specs.declared.Pick.{Pick}
-use Rattle.order.specs.Choices.{inSet}
+use Rattle.files.specs.Sets.{inSet}
 use Rattle.order.specs.Searches.{First}
 use Rattle.heads.specs.Heads.{alone, lasting, packed, HeadIs, Kept}
 use Rattle.heads.proofs.Keeping.{alone-file, lasting-near, lasting-far, kept-put}

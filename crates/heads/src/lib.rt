@@ -18,7 +18,8 @@ ghost use lib.ListN.{length};
 ghost use Rattle.rules.specs.Pages.{fileOf};
 ghost use Rattle.rules.specs.Readers.{attached};
 ghost use Rattle.rules.specs.Ranks.{victimAmong};
-ghost use Rattle.order.specs.Choices.{chosen, inSet};
+ghost use Rattle.files.specs.Sets.{inSet};
+ghost use Rattle.order.specs.Choices.{chosen};
 ghost use Rattle.order.specs.Searches.{stateUnder};
 ghost use Rattle.heads.specs.Heads.{alone, packed, HeadIs, Kept, Forgot, NotRead, SightedAll};
 
@@ -114,7 +115,7 @@ fn head_kept<'a>(
     if 0 < kept {
         return kept;
     }
-    let files = order::set_of(file);
+    let files = files::set_of(file);
     let first = order::first_among(t, sizes, seats, cached, fetching, files);
     let found = packed(first, t.done);
     heads[file] = found;

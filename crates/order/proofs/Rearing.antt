@@ -29,10 +29,10 @@ use Rattle.rules.specs.declared.State.{State}
 use Rattle.rules.specs.declared.Reader.{Reader}
 use Rattle.order.specs.declared.Pick.{Pick}
 use Rattle.order.specs.Seats.{lastSeat}
-use Rattle.order.specs.Choices.{NoFile}
+use Rattle.files.specs.Sets.{NoFile}
 use Rattle.order.specs.Searches.{Ranked}
 use Rattle.order.specs.Rears.{Ahead, Least, Back, Free, Rear}
-use Rattle.order.proofs.Sets.{below}
+use Rattle.files.proofs.Sets.{below}
 use Rattle.order.proofs.Seating.{seat-is}
 
 -- ---- the least position

@@ -1,14 +1,12 @@
 -- The searches for the heads of the two orders, page by page. Assumes nothing.
 use mathlib.Core.Path.{_≡_, refl, sym, ap, ap₂, _∙_, subst}
 use mathlib.Core.Bool.{Bool, true, false, not, _&&_}
-use mathlib.Core.List.{List}
 use mathlib.Core.Option.{none, some}
 use Prim.Native.Nat.{ℕ, zero, suc, _+_, _-_, _*_, _≤_, _<_}
 use native.Mathlib.Decide.{ℕ-discrete, decLt}
 use native.Mathlib.Omega.{arith}
 use borrow.Author.Tests.{eq-eqb}
 use lib.Dec.{T, eqb, eqb→eq}
-use lib.ListN.{getD}
 use Rattle.bits.specs.Map.{bit, joined, nextBit}
 use Rattle.bits.proofs.Bits.{bit-le}
 use Rattle.bits.proofs.Finds.{Next, next-is, last-is}
@@ -17,12 +15,11 @@ use Rattle.rules.specs.Pages.{fileOf, cached}
 use Rattle.rules.specs.Readers.{readerAt, attached, readsFile}
 use Rattle.rules.specs.Valid.{Valid}
 use Rattle.rules.specs.UseTimes.{before, never, useFor}
-use Rattle.rules.specs.Orders.{absent, fetchOrder, victim}
+use Rattle.rules.specs.Orders.{absent, fetchOrder}
 use Rattle.rules.proofs.laws.Tests.{and-both}
 use Rattle.rules.proofs.laws.Below.{one-more}
 use Rattle.rules.proofs.laws.Cases.{passed, failed}
 use Rattle.rules.proofs.calls.Valids.{placed-at}
-use Rattle.rules.proofs.orders.Victims.{among-all}
 use Rattle.rules.proofs.orders.LookAheads.{before-is, is-before, use-least}
 use Rattle.rules.specs.Ranks.{rank, cachedAmong, victimAmong, lastCached, AtMost, FirstAbsent, NoneBelow, AtLeast, Before}
 use Rattle.rules.proofs.orders.Candidates.{
@@ -39,12 +36,10 @@ use Rattle.rules.proofs.orders.Candidates.{
 }
 use Rattle.rules.specs.declared.State.{State}
 use Rattle.rules.specs.declared.Reader.{Reader}
-use Rattle.parts.specs.Held.{Held}
-use Rattle.parts.proofs.Carried.{held-some}
-use Rattle.order.specs.Choices.{inSet, NoFile}
+use Rattle.files.specs.Sets.{NoFile}
 use Rattle.order.specs.Searches.{lower, Over, Ranked, Raised, Topped, Highest, Soonest}
 use Rattle.order.specs.declared.Pick.{Pick}
-use Rattle.order.proofs.Sets.{below}
+use Rattle.files.proofs.Sets.{below}
 use Rattle.order.proofs.Slots.{lower-least}
 use Rattle.bits.proofs.Joins.{joined-clear}
 
@@ -169,16 +164,6 @@ module _ (s : State) (files : ℕ → Bool) where
     -- none is kept, and there is none
     pub highest-nothing : p .value ≡ 0 → victimAmong files s ≡ none
     highest-nothing e = no-candidate s w files 16 (subst (NoneAbove s files 8 16) e above)
-
--- under the 1989 rule the page to give up is that of the files with cached pages
-pub victim-of-held : (s : State) → Valid s → s .rule ≡ 0 → (held : List ℕ) → Held (s .cached) held → (files : ℕ)
-    → ((f : ℕ) → f < 8 → 0 < getD held f 0 → T (inSet files f)) → victimAmong (inSet files) s ≡ victim s
-victim-of-held s w e held h files has = among-all s w e (inSet files) (λ k c. in-set k c (w .cached-in k c .low))
-  where
-    in-set : (k : ℕ) → T (cached s k) → k < 8192 → T (inSet files (fileOf k))
-    in-set k c l =
-        has (fileOf k) (omega arith)
-        (held-some (s .cached) held h k l (omega (arith, w .cached-map .all)) (eqb→eq (bit (s .cached) k) 1 c))
 
 -- ---- the next fetch
 

@@ -1,6 +1,5 @@
 -- What the contracts of the two orders speak of: the page chosen, the file chosen, the readers' array, what a search keeps.
 pub mod Choices
-pub mod Leads
 pub mod Seats
 pub mod Searches
 pub mod Rears

@@ -13,7 +13,7 @@ use Rattle.rules.specs.declared.State.{State}
 use Rattle.rules.specs.declared.Reader.{Reader}
 use Rattle.rules.specs.declared.View.{View}
 use Rattle.parts.specs.Positions.{movedTo}
-use Rattle.order.specs.Leads.{Weights}
+use Rattle.files.specs.Leads.{Weights}
 use Rattle.order.specs.Searches.{termsOf}
 use Rattle.heads.specs.Heads.{Kept}
 use Rattle.turns.specs.declared.Turned.{Turned}

@@ -26,7 +26,7 @@ use Rattle.rules.proofs.third.Moves.{nowAt, goesNow, keyNow}
 use Rattle.rules.proofs.third.Turns.{awaiting, goes-here, low, asked}
 use Rattle.order.specs.declared.Terms.{Terms}
 use Rattle.order.specs.Seats.{Seated}
-use Rattle.order.specs.Leads.{Weights}
+use Rattle.files.specs.Leads.{Weights}
 use Rattle.order.specs.Searches.{under, stateUnder}
 use Rattle.order.proofs.Seating.{seated-moved}
 use Rattle.calls.specs.Inner.{Readable}

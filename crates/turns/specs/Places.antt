@@ -11,7 +11,7 @@ use Rattle.rules.specs.declared.Reader.{Reader}
 use Rattle.rules.specs.declared.View.{View}
 use Rattle.parts.specs.Positions.{movedTo}
 use Rattle.order.specs.declared.Terms.{Terms}
-use Rattle.order.specs.Leads.{Weights}
+use Rattle.files.specs.Leads.{Weights}
 use Rattle.order.specs.Searches.{under, stateUnder, Sighted}
 use Rattle.heads.specs.Heads.{Kept}
 

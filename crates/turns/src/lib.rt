@@ -76,7 +76,7 @@ fn give_up<'a>(
     if parts::taken(held) < t.frames as u32 {
         return Choice::Nothing;
     }
-    let files = order::files_open(t.frames, weights, held);
+    let files = files::files_open(t.frames, weights, held);
     heads::victim_kept(t, sizes, seats, cached, fetching, heads, files)
 }
 
@@ -164,7 +164,7 @@ pub fn go_on(
     ensures all { λ r. ⌜ r .turns ≡ turns ⌝ }
 {
     let sizes = v.sizes;
-    let weights = order::weights_of(v);
+    let weights = files::weights_of(v);
     let mut slot = v.turn;
     let mut fetches: u16 = 0;
     let mut reads: u16 = 0;

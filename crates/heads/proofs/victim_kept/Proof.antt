@@ -5,7 +5,7 @@ use mathlib.Core.Logic.{⊎-elim}
 use native.Mathlib.Omega.{arith}
 use borrow.Author.Needs.{needs}
 use Rattle.rules.specs.declared.View.{View}
-use Rattle.order.specs.Choices.{inSet}
+use Rattle.files.specs.Sets.{inSet}
 use Rattle.order.specs.Searches.{stateUnder}
 use Rattle.heads.specs.Heads.{HeadIs, Kept, SightedAll}
 use Rattle.heads.proofs.Besting.{best-none, best-more, best-skip, best-all, best-victim, best-nothing}

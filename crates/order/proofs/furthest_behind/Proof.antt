@@ -9,7 +9,7 @@ use lib.ListN.{getD}
 use Rattle.rules.specs.Valid.{Valid}
 use Rattle.rules.specs.Views.{stateOf}
 use Rattle.rules.specs.declared.View.{View}
-use Rattle.order.specs.Choices.{inSet}
+use Rattle.files.specs.Sets.{inSet}
 use Rattle.order.specs.Seats.{Seated}
 use Rattle.order.specs.Rears.{Rear}
 use Rattle.order.proofs.Rearing.{rear-none, rear-skip, rear-all}

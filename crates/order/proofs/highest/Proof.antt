@@ -5,7 +5,7 @@ use mathlib.Core.Logic.{⊎-elim}
 use native.Mathlib.Omega.{arith}
 use borrow.Author.Needs.{needs}
 use Rattle.rules.specs.declared.View.{View}
-use Rattle.order.specs.Choices.{inSet}
+use Rattle.files.specs.Sets.{inSet}
 use Rattle.order.specs.Searches.{stateUnder, Sighted, Highest}
 use Rattle.order.proofs.Searching.{highest-none, highest-more, highest-skip, highest-all}
 use Rattle.order.proofs.highest.Statement.{statement}

@@ -4,7 +4,7 @@ use borrow.Author.Needs.{needs}
 use Rattle.rules.proofs.calls.Valids.{placed-at}
 use Rattle.parts.proofs.Carried.{held-high}
 use Rattle.order.specs.Searches.{Sighted}
-use Rattle.order.proofs.Leading.{weights-in}
+use Rattle.files.proofs.Leading.{weights-in}
 use Rattle.order.proofs.victim.Statement.{statement}
 use Rattle.order.proofs.victim.Tie as tie
 

@@ -3,7 +3,7 @@ use mathlib.Core.Path.{refl, _∙_}
 use native.Mathlib.Omega.{arith}
 use borrow.Author.Needs.{needs}
 use Rattle.parts.proofs.Carried.{held-high}
-use Rattle.order.proofs.Leading.{weights-in}
+use Rattle.files.proofs.Leading.{weights-in}
 use Rattle.calls.proofs.Frames.{free-none, taken-victim}
 use Rattle.turns.proofs.give_up.Statement.{statement}
 use Rattle.turns.proofs.give_up.Tie as tie

@@ -1,8 +1,8 @@
 -- The first digit of the set.
 use borrow.Author.Needs.{needs}
-use Rattle.order.proofs.Sets.{set-first}
-use Rattle.order.proofs.first_file.Statement.{statement}
-use Rattle.order.proofs.first_file.Tie as tie
+use Rattle.files.proofs.Sets.{set-first}
+use Rattle.files.proofs.first_file.Statement.{statement}
+use Rattle.files.proofs.first_file.Tie as tie
 
 next-one-requires : tie.Need-next-one-requires
 next-one-requires c κs = search needs

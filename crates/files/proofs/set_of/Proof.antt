@@ -1,8 +1,8 @@
 -- A 1 shifted by a file's number.
 use borrow.Author.Needs.{needs}
-use Rattle.order.proofs.Leading.{set-of-one}
-use Rattle.order.proofs.set_of.Statement.{statement}
-use Rattle.order.proofs.set_of.Tie as tie
+use Rattle.files.proofs.Leading.{set-of-one}
+use Rattle.files.proofs.set_of.Statement.{statement}
+use Rattle.files.proofs.set_of.Tie as tie
 
 shl-result : tie.Need-shl-result
 shl-result c = search needs

@@ -9,7 +9,7 @@ use lib.Dec.{T, eqb→eq}
 use Rattle.bits.specs.Map.{digit, bit, nextBit, lastBit}
 use Rattle.bits.proofs.Bits.{bit-word}
 use Rattle.bits.proofs.Finds.{next-is, last-is}
-use Rattle.order.specs.Choices.{inSet, NoFile}
+use Rattle.files.specs.Sets.{inSet, NoFile}
 
 -- a file of the set is below n, where none from n on is
 pub below : (files : ℕ → Bool) (n : ℕ) → NoFile files n 8 → (f : ℕ) → f < 8 → T (files f) → f < n

@@ -9,7 +9,7 @@ use lib.Dec.{ltb}
 use Rattle.rules.specs.Orders.{weightSum, standing}
 use Rattle.rules.specs.declared.View.{View}
 use Rattle.parts.specs.Files.{weightIn}
-use Rattle.order.specs.declared.Lead.{Lead}
+use Rattle.files.specs.declared.Lead.{Lead}
 
 -- the file that leads after a look at file f, which has so many cached pages: it leads if it has some and its number is higher. The sum is `weightSum`, which
 -- is never 0, so that any cached page makes a number above 0

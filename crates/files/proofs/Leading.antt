@@ -33,9 +33,9 @@ use Rattle.rules.proofs.orders.Victims.{low-1989, held-ones, victim-chosen}
 use Rattle.parts.specs.Files.{Weighable}
 use Rattle.parts.specs.Held.{Held}
 use Rattle.parts.proofs.Weights.{weighable, weighed-in}
-use Rattle.order.specs.Choices.{inSet}
-use Rattle.order.specs.Leads.{leading, pagesIn, weightsOf, Weights, Weighed, numberIn, Foremost}
-use Rattle.order.specs.declared.Lead.{Lead}
+use Rattle.files.specs.Sets.{inSet}
+use Rattle.files.specs.Leads.{leading, pagesIn, weightsOf, Weights, Weighed, numberIn, Foremost}
+use Rattle.files.specs.declared.Lead.{Lead}
 
 -- ---- the weights in one array
 

@@ -5,9 +5,9 @@ use borrow.Author.Needs.{needs}
 use lib.Dec.{T}
 use lib.ListN.{getD}
 use Rattle.rules.proofs.laws.Below.{one-more}
-use Rattle.order.specs.Choices.{inSet}
-use Rattle.order.proofs.files_held.Statement.{statement}
-use Rattle.order.proofs.files_held.Tie as tie
+use Rattle.files.specs.Sets.{inSet}
+use Rattle.files.proofs.files_held.Statement.{statement}
+use Rattle.files.proofs.files_held.Tie as tie
 
 abbrev Inv-loop : tie.InvT-loop
 Inv-loop held set₀ file₀ set file = (file ≤ 8) × ((f : ℕ) → f < file → 0 < getD held f 0 → T (inSet set f))

@@ -4,9 +4,9 @@ use mathlib.Core.Path.{_≡_, refl}
 use native.Mathlib.Omega.{arith}
 use borrow.Author.Needs.{needs}
 use Rattle.rules.specs.declared.View.{View}
-use Rattle.order.proofs.Leading.{Filled, filled-more}
-use Rattle.order.proofs.weights_of.Statement.{statement}
-use Rattle.order.proofs.weights_of.Tie as tie
+use Rattle.files.proofs.Leading.{Filled, filled-more}
+use Rattle.files.proofs.weights_of.Statement.{statement}
+use Rattle.files.proofs.weights_of.Tie as tie
 
 abbrev Inv-loop : tie.InvT-loop
 Inv-loop weights₀ expected attaches sizes file₀ weights file =

@@ -1,8 +1,8 @@
 -- Past the last digit of the set that is a file.
 use borrow.Author.Needs.{needs}
-use Rattle.order.proofs.Sets.{set-last}
-use Rattle.order.proofs.end_of_files.Statement.{statement}
-use Rattle.order.proofs.end_of_files.Tie as tie
+use Rattle.files.proofs.Sets.{set-last}
+use Rattle.files.proofs.end_of_files.Statement.{statement}
+use Rattle.files.proofs.end_of_files.Tie as tie
 
 last-one-requires : tie.Need-last-one-requires
 last-one-requires c κs = search needs

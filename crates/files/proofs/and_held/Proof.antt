@@ -1,9 +1,9 @@
 -- By whether the file has cached pages.
 use native.Mathlib.Omega.{arith}
 use borrow.Author.Needs.{needs}
-use Rattle.order.proofs.Leading.{set-grown}
-use Rattle.order.proofs.and_held.Statement.{statement}
-use Rattle.order.proofs.and_held.Tie as tie
+use Rattle.files.proofs.Leading.{set-grown}
+use Rattle.files.proofs.and_held.Statement.{statement}
+use Rattle.files.proofs.and_held.Tie as tie
 
 with-digit-requires : tie.Need-with-digit-requires
 with-digit-requires c κs = search needs

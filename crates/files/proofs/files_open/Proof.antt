@@ -1,10 +1,10 @@
 -- No weights: the set of the files with cached pages. Else that of the file chosen.
 use native.Mathlib.Omega.{arith}
 use borrow.Author.Needs.{needs}
-use Rattle.order.proofs.Searching.{victim-of-held}
-use Rattle.order.proofs.Leading.{no-rule, victim-of-one}
-use Rattle.order.proofs.files_open.Statement.{statement}
-use Rattle.order.proofs.files_open.Tie as tie
+use Rattle.files.proofs.Holding.{victim-of-held}
+use Rattle.files.proofs.Leading.{no-rule, victim-of-one}
+use Rattle.files.proofs.files_open.Statement.{statement}
+use Rattle.files.proofs.files_open.Tie as tie
 
 element-copy-out-if1 : tie.Need-element-copy-out-if1
 element-copy-out-if1 c = search needs

@@ -1,8 +1,8 @@
 -- A file without cached pages does not lead, and one with them leads by a higher number.
 use borrow.Author.Needs.{needs}
-use Rattle.order.proofs.Leading.{leads, follows, no-pages}
-use Rattle.order.proofs.fuller.Statement.{statement}
-use Rattle.order.proofs.fuller.Tie as tie
+use Rattle.files.proofs.Leading.{leads, follows, no-pages}
+use Rattle.files.proofs.fuller.Statement.{statement}
+use Rattle.files.proofs.fuller.Tie as tie
 
 returns : tie.Need-returns
 returns c = no-pages _ _ _ _ _ 0 _ (c .if1 .taken)

@@ -2,9 +2,9 @@
 use Prim.Native.Nat.{_-_, _≤_}
 use native.Mathlib.Omega.{arith}
 use borrow.Author.Needs.{needs}
-use Rattle.order.proofs.Leading.{Led, led-none, led-more, led-all}
-use Rattle.order.proofs.chosen_file.Statement.{statement}
-use Rattle.order.proofs.chosen_file.Tie as tie
+use Rattle.files.proofs.Leading.{Led, led-none, led-more, led-all}
+use Rattle.files.proofs.chosen_file.Statement.{statement}
+use Rattle.files.proofs.chosen_file.Tie as tie
 
 abbrev Inv-loop : tie.InvT-loop
 Inv-loop frames weights held best₀ file₀ best file = (file ≤ 8) × Led frames weights held file best
