@@ -20,10 +20,10 @@ use Rattle.rules.proofs.laws.Tests.{is-true}
 use Rattle.rules.proofs.orders.Distinct.{wanted-page, fetch-wanted}
 use Rattle.rules.proofs.orders.Victims.{victim-cached}
 use Rattle.rules.proofs.calls.Landings.{dropped-some}
-use Rattle.order.specs.Choices.{chosen}
-use Rattle.order.proofs.Chosen.{chosen-key}
-use Rattle.order.specs.declared.Choice.{Choice}
-use Rattle.order.specs.declared.Choice.the-variants.{Key, Nothing}
+use Rattle.uses.specs.Choices.{chosen}
+use Rattle.uses.proofs.Chosen.{chosen-key}
+use Rattle.uses.specs.declared.Choice.{Choice}
+use Rattle.uses.specs.declared.Choice.the-variants.{Key, Nothing}
 use Rattle.calls.specs.declared.Fetched.{Fetched}
 use Rattle.calls.specs.declared.Fetched.the-variants.{Open}
 use Rattle.calls.specs.Inner.{openFetch, CachedIn, eased, landedIn, arrivalOf}

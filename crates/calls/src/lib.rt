@@ -1,11 +1,11 @@
 // Setup, Read on one record, Lost, Arrive, Steal, Prefetch, each as its rule has it. The state's two maps are lent; the rest, a view, is passed and returned.
 
-use order::Choice;
 use rules::Answer;
 use rules::Condition;
 use rules::Outcome;
 use rules::Reader;
 use rules::View;
+use uses::Choice;
 ghost use mathlib.Core.Path.{_≡_};
 ghost use mathlib.Core.Bool.{true};
 ghost use mathlib.Core.List.{List, [], map};
@@ -32,7 +32,7 @@ ghost use Rattle.rules.specs.Calls.{
   prefetchOf,
 };
 ghost use Rattle.parts.specs.Held.{Held};
-ghost use Rattle.order.specs.Choices.{chosen};
+ghost use Rattle.uses.specs.Choices.{chosen};
 ghost use Rattle.calls.specs.Inner.{outcomeOf, refusal, Readable, stepped, openFetch, CachedIn, eased, landedIn, arrivalOf};
 
 // What Arrive and Lost find of a page: the key of one that is in fetch, or the number of the refusal.

@@ -17,7 +17,7 @@ use Rattle.rules.proofs.laws.Tests.{and-both, and-first, and-second}
 use Rattle.rules.proofs.laws.Cases.{passed, failed}
 use Rattle.rules.proofs.orders.Distinct.{Stretch, behind, unseen, in-use, stretch, rank-positive, rank-far, head-is, among-none}
 use Rattle.rules.specs.declared.State.{State}
-use Rattle.order.specs.declared.Pick.{Pick}
+use Rattle.uses.specs.declared.Pick.{Pick}
 use Rattle.files.specs.Sets.{inSet}
 use Rattle.order.specs.Searches.{First}
 use Rattle.heads.specs.Heads.{alone, lasting, packed, HeadIs, Kept}

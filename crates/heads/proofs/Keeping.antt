@@ -22,10 +22,10 @@ use Rattle.rules.proofs.orders.Local.{SameFile, rank-local}
 use Rattle.rules.proofs.orders.Passing.{PassedFile, rank-passed}
 use Rattle.rules.specs.declared.State.{State}
 use Rattle.rules.specs.declared.Reader.{Reader}
-use Rattle.order.specs.declared.Choice.{Choice}
-use Rattle.order.specs.declared.Choice.the-variants.{Key, Nothing}
-use Rattle.order.specs.Choices.{chosen}
-use Rattle.order.proofs.Chosen.{chosen-key}
+use Rattle.uses.specs.declared.Choice.{Choice}
+use Rattle.uses.specs.declared.Choice.the-variants.{Key, Nothing}
+use Rattle.uses.specs.Choices.{chosen}
+use Rattle.uses.proofs.Chosen.{chosen-key}
 use Rattle.heads.specs.Heads.{alone, lasting, HeadIs, Kept, Forgot, NotRead}
 
 -- a page of a file's own set is of the file

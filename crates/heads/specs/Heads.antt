@@ -12,9 +12,9 @@ use Rattle.rules.specs.Ranks.{rank, cachedAmong}
 use Rattle.rules.specs.declared.State.{State}
 use Rattle.rules.specs.declared.Reader.{Reader}
 use Rattle.rules.specs.declared.View.{View}
-use Rattle.order.specs.declared.Pick.{Pick}
-use Rattle.order.specs.declared.Terms.{Terms}
-use Rattle.order.specs.Searches.{Sighted}
+use Rattle.uses.specs.declared.Pick.{Pick}
+use Rattle.uses.specs.declared.Terms.{Terms}
+use Rattle.uses.specs.Sights.{Sighted}
 
 -- the set of one file
 abbrev pub alone : ℕ → ℕ → Bool

@@ -2,12 +2,12 @@
 // file has its turn, a page of it moves, or turns are passed at once. A head is one number, above the key what it ranks by, so that the higher goes first; 0
 // where it is not known.
 
-use order::Choice;
-use order::Pick;
-use order::Terms;
 use parts::NEVER;
 use rules::Reader;
 use rules::View;
+use uses::Choice;
+use uses::Pick;
+use uses::Terms;
 ghost use mathlib.Core.Path.{_≡_};
 ghost use mathlib.Core.Bool.{cond};
 ghost use mathlib.Core.Logic.{_≢_};
@@ -19,8 +19,8 @@ ghost use Rattle.rules.specs.Pages.{fileOf};
 ghost use Rattle.rules.specs.Readers.{attached};
 ghost use Rattle.rules.specs.Ranks.{victimAmong};
 ghost use Rattle.files.specs.Sets.{inSet};
-ghost use Rattle.order.specs.Choices.{chosen};
-ghost use Rattle.order.specs.Searches.{stateUnder};
+ghost use Rattle.uses.specs.Choices.{chosen};
+ghost use Rattle.uses.specs.Sights.{stateUnder};
 ghost use Rattle.heads.specs.Heads.{alone, packed, HeadIs, Kept, Forgot, NotRead, SightedAll};
 
 // The head of a file without cached pages.

@@ -10,8 +10,9 @@ use Rattle.rules.specs.Valid.{Valid}
 use Rattle.rules.specs.Ranks.{rank, cachedAmong, victimAmong}
 use Rattle.rules.proofs.orders.Distinct.{rank-positive, among-top, among-none, head-is}
 use Rattle.rules.specs.declared.State.{State}
-use Rattle.order.specs.declared.Pick.{Pick}
-use Rattle.order.specs.Searches.{Ranked, Highest, First}
+use Rattle.uses.specs.declared.Pick.{Pick}
+use Rattle.uses.specs.Sights.{Ranked}
+use Rattle.order.specs.Searches.{Highest, First}
 use Rattle.order.specs.Rears.{Rear}
 use Rattle.order.proofs.Searching.{highest-victim, highest-nothing}
 use Rattle.order.proofs.Rearing.{rear-victim}

@@ -1,9 +1,5 @@
 -- What the code of the two orders rests on: sets of files, one slot's use key, the readers' array, all slots', pages behind all readers, the searches for the
 -- victim and for the next fetch.
-pub mod Chosen
-pub mod Between
-pub mod Slots
-pub mod Seating
 pub mod Sweeps
 pub mod Lacks
 pub mod Rearing

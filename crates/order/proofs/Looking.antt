@@ -14,10 +14,12 @@ use Rattle.rules.specs.Valid.{Valid}
 use Rattle.rules.proofs.calls.Valids.{placed-at}
 use Rattle.rules.specs.declared.State.{State}
 use Rattle.rules.specs.declared.Reader.{Reader}
-use Rattle.order.specs.declared.Pick.{Pick}
-use Rattle.order.specs.Seats.{Seated, Linked, reached, nextReached}
-use Rattle.order.specs.Searches.{Ranked, Raised, Topped}
-use Rattle.order.proofs.Seating.{seat-is, chain-first, chain-here, chain-position, chain-is, chain-less, chain-next}
+use Rattle.uses.specs.declared.Pick.{Pick}
+use Rattle.uses.specs.Seats.{Seated, Linked}
+use Rattle.order.specs.Looks.{reached, nextReached}
+use Rattle.uses.specs.Sights.{Ranked}
+use Rattle.order.specs.Searches.{Raised, Topped}
+use Rattle.uses.proofs.Seating.{seat-is, chain-first, chain-here, chain-position, chain-is, chain-less, chain-next}
 use Rattle.order.proofs.Searching.{topped-whole, topped-slot, topped-down}
 
 -- at, if it is not the file's end, is a slot with a reader of the file, or none

@@ -27,13 +27,13 @@ use Rattle.rules.proofs.orders.Ranks.{rank-behind, rank-ahead}
 use Rattle.rules.proofs.orders.Distinct.{head-is}
 use Rattle.rules.specs.declared.State.{State}
 use Rattle.rules.specs.declared.Reader.{Reader}
-use Rattle.order.specs.declared.Pick.{Pick}
-use Rattle.order.specs.Seats.{lastSeat}
+use Rattle.uses.specs.declared.Pick.{Pick}
+use Rattle.uses.specs.Seats.{lastSeat}
 use Rattle.files.specs.Sets.{NoFile}
-use Rattle.order.specs.Searches.{Ranked}
+use Rattle.uses.specs.Sights.{Ranked}
 use Rattle.order.specs.Rears.{Ahead, Least, Back, Free, Rear}
 use Rattle.files.proofs.Sets.{below}
-use Rattle.order.proofs.Seating.{seat-is}
+use Rattle.uses.proofs.Seating.{seat-is}
 
 -- ---- the least position
 

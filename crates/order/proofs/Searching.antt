@@ -37,10 +37,11 @@ use Rattle.rules.proofs.orders.Candidates.{
 use Rattle.rules.specs.declared.State.{State}
 use Rattle.rules.specs.declared.Reader.{Reader}
 use Rattle.files.specs.Sets.{NoFile}
-use Rattle.order.specs.Searches.{lower, Over, Ranked, Raised, Topped, Highest, Soonest}
-use Rattle.order.specs.declared.Pick.{Pick}
+use Rattle.uses.specs.Sights.{lower, Ranked}
+use Rattle.order.specs.Searches.{Over, Raised, Topped, Highest, Soonest}
+use Rattle.uses.specs.declared.Pick.{Pick}
 use Rattle.files.proofs.Sets.{below}
-use Rattle.order.proofs.Slots.{lower-least}
+use Rattle.uses.proofs.Slots.{lower-least}
 use Rattle.bits.proofs.Joins.{joined-clear}
 
 -- ---- the page to give up

@@ -21,9 +21,10 @@ use Rattle.rules.specs.Ranks.{rank}
 use Rattle.rules.proofs.orders.Ranks.{seen-small, rank-behind, rank-unseen, rank-seen}
 use Rattle.rules.specs.declared.State.{State}
 use Rattle.rules.specs.declared.Reader.{Reader}
-use Rattle.order.specs.Seats.{lastSeat, Linked}
-use Rattle.order.specs.Searches.{lower, Swept}
-use Rattle.order.proofs.Seating.{seat-is}
+use Rattle.uses.specs.Seats.{lastSeat, Linked}
+use Rattle.uses.specs.Sights.{lower}
+use Rattle.order.specs.Searches.{Swept}
+use Rattle.uses.proofs.Seating.{seat-is}
 
 -- ---- ranks
 

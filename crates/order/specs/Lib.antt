@@ -1,5 +1,4 @@
 -- What the contracts of the two orders speak of: the page chosen, the file chosen, the readers' array, what a search keeps.
-pub mod Choices
-pub mod Seats
+pub mod Looks
 pub mod Searches
 pub mod Rears

@@ -12,8 +12,8 @@ use Rattle.rules.specs.Orders.{place}
 use Rattle.rules.specs.Ranks.{cachedAmong}
 use Rattle.rules.specs.declared.State.{State}
 use Rattle.rules.specs.declared.Reader.{Reader}
-use Rattle.order.specs.declared.Pick.{Pick}
-use Rattle.order.specs.Searches.{Ranked}
+use Rattle.uses.specs.declared.Pick.{Pick}
+use Rattle.uses.specs.Sights.{Ranked}
 
 -- some slot's reader has page k before it
 abbrev pub Ahead : List Reader → ℕ → Type 0

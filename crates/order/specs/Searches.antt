@@ -1,75 +1,15 @@
 -- What a search for the head of an order keeps: the best page so far, with its number. Assumes nothing: these are definitions.
-use Prim.Native.Nat.{ℕ, min, _+_, _*_, _≤_, _<_}
+use Prim.Native.Nat.{ℕ, _+_, _*_, _≤_, _<_}
 use mathlib.Core.Path.{_≡_}
-use mathlib.Core.Bool.{Bool, cond}
-use mathlib.Core.List.{List}
+use mathlib.Core.Bool.{Bool}
 use lib.Dec.{T}
-use Rattle.rules.specs.Readers.{readerIn, readerAt, readsFile}
+use Rattle.rules.specs.Readers.{readerAt, readsFile}
 use Rattle.rules.specs.UseTimes.{before, sees, never, useFor, useKey}
 use Rattle.rules.specs.Orders.{wanted, place}
-use Rattle.rules.specs.Ranks.{rank, cachedAmong, Before, AtMost, NoneBelow}
-use Rattle.rules.specs.Valid.{Valid}
-use Rattle.rules.specs.Views.{stateOf}
+use Rattle.rules.specs.Ranks.{rank, cachedAmong, AtMost, NoneBelow}
 use Rattle.rules.specs.declared.State.{State}
-use Rattle.rules.specs.declared.View.{View}
-use Rattle.rules.specs.declared.Reader.{Reader}
-use Rattle.order.specs.declared.Terms.{Terms}
-use Rattle.order.specs.declared.Pick.{Pick}
-use Rattle.order.specs.Seats.{Seated, Linked}
-
--- ---- what a search reads of a view
-
--- the view's terms, at this turn, after so many turns
-abbrev pub termsOf : View → ℕ → ℕ → Terms
-termsOf v turn done = record { «look_ahead» = v .«look_ahead»; «fetch_time» = v .«fetch_time»; frames = v .frames; turn = turn; done = done }
-
--- the view under these terms: it is the view itself where they are its own
-abbrev pub under : Terms → View → View
-under t v = record {
-  marks = v .marks;
-  expected = v .expected;
-  attaches = v .attaches;
-  frames = t .frames;
-  turn = t .turn;
-  rule = v .rule;
-  «look_ahead» = t .«look_ahead»;
-  «fetch_time» = t .«fetch_time»;
-  sizes = v .sizes;
-  readers = v .readers;
-}
-
--- and so a state with these maps
-abbrev pub stateUnder : Terms → View → List ℕ → List ℕ → State
-stateUnder t v cached fetching = stateOf (under t v) cached fetching
-
--- the slot's reader has page k before it, and this position and this pace
-pub record Sits (v : View) (slot position pace k : ℕ) : Type 0 where
-  pub ahead : Before (readerIn (v .readers) slot) k
-  pub position-is : position ≡ readerIn (v .readers) slot .position
-  pub pace-is : pace ≡ readerIn (v .readers) slot .pace
-
--- `stateUnder` is valid, and its readers are in this array
-pub record Sighted (t : Terms) (seats cached fetching : List ℕ) (v : View) : Type 0 where
-  pub valid : Valid (stateUnder t v cached fetching)
-  pub seated : Seated (v .readers) 16 seats
-
--- there is such a view
-abbrev pub Sight : Terms → List ℕ → List ℕ → List ℕ → Type 0
-Sight t seats cached fetching = (v : View) × Sighted t seats cached fetching v
-
--- and `at`, counted from 1, is in it a slot with a reader of file f, or none
-abbrev pub SightAt : Terms → List ℕ → List ℕ → List ℕ → ℕ → ℕ → Type 0
-SightAt t seats cached fetching f at = (v : View) × Sighted t seats cached fetching v × Linked (v .readers) f at
-
--- the array is that of some readers
-abbrev pub SeatsOf : List ℕ → Type 0
-SeatsOf seats = (readers : List Reader) × Seated readers 16 seats
-
--- ---- what it keeps
-
--- the number low, or slot j's use key for page k where the slot has the page in look-ahead and the key is less
-abbrev pub lower : State → ℕ → ℕ → ℕ → ℕ
-lower s k j low = cond (sees s (readerAt s j) k) (min (useFor s k j) low) low
+use Rattle.uses.specs.declared.Pick.{Pick}
+use Rattle.uses.specs.Sights.{Ranked}
 
 -- top is no lower than page k's rank, and no higher than what some of the slots, those that are In, leave of it
 pub record Swept (s : State) (k : ℕ) (In : ℕ → Type 0) (top : ℕ) : Type 0 where
@@ -87,11 +27,6 @@ pub record Left (s : State) (k floor n r : ℕ) : Type 0 where
 pub record Over (s : State) (k floor r : ℕ) : Type 0 where
   pub bound : rank s k ≤ r
   pub exact : floor < r → r ≡ rank s k
-
--- the page kept, if any, is cached, of the set, and has this rank
-pub record Ranked (s : State) (files : ℕ → Bool) (p : Pick) : Type 0 where
-  pub held : 0 < p .value → T (cachedAmong files s (p .key))
-  pub its : 0 < p .value → rank s (p .key) ≡ p .value
 
 -- q is kept instead of p after a look at the last cached one of file f's first n pages
 pub record Raised (s : State) (files : ℕ → Bool) (f n : ℕ) (p q : Pick) : Type 0 where

@@ -14,8 +14,8 @@ use Rattle.rules.specs.declared.State.{State}
 use Rattle.rules.specs.declared.View.{View}
 use Rattle.rules.proofs.calls.Kept.{turns-kept}
 use Rattle.parts.specs.Positions.{movedTo}
-use Rattle.order.specs.Seats.{Seated}
-use Rattle.order.proofs.Seating.{Alike, seated-alike}
+use Rattle.uses.specs.Seats.{Seated}
+use Rattle.uses.proofs.Seating.{Alike, seated-alike}
 use Rattle.heads.proofs.Keeping.{kept-none}
 use Rattle.hits.specs.Hits.{readsOf, Clear, Advanced}
 use Rattle.hits.proofs.Passes.{MovedBy, hits-made}

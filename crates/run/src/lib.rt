@@ -109,7 +109,7 @@ fn make_turns(
     ensures counted { λ _. ⌜ Held (now (cached .exit)) (now (held .exit)) ⌝ }
 {
     let readers = v.readers;
-    let mut seats = order::seats_of(readers);
+    let mut seats = uses::seats_of(readers);
     let mut heads: [u64; 8] = [0; 8];
     let mut made = Leg {
         view: v,

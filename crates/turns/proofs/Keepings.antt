@@ -28,8 +28,8 @@ use Rattle.rules.proofs.orders.Passing.{PassedFile}
 use Rattle.rules.proofs.third.Moves.{nowAt, goesNow, keyNow}
 use Rattle.rules.proofs.third.Waits.{paused-alike}
 use Rattle.rules.proofs.third.Turns.{goes-here, own-file}
-use Rattle.order.specs.declared.Terms.{Terms}
-use Rattle.order.specs.Searches.{stateUnder}
+use Rattle.uses.specs.declared.Terms.{Terms}
+use Rattle.uses.specs.Sights.{stateUnder}
 use Rattle.heads.specs.Heads.{Kept, Forgot, NotRead}
 use Rattle.heads.proofs.Keeping.{head-same, head-passed, kept-over, not-read}
 use Rattle.calls.specs.Inner.{eased}

@@ -14,7 +14,7 @@ use Rattle.rules.specs.declared.Reader.{Reader}
 use Rattle.rules.specs.declared.View.{View}
 use Rattle.parts.specs.Positions.{movedTo}
 use Rattle.files.specs.Leads.{Weights}
-use Rattle.order.specs.Searches.{termsOf}
+use Rattle.uses.specs.Sights.{termsOf}
 use Rattle.heads.specs.Heads.{Kept}
 use Rattle.turns.specs.declared.Turned.{Turned}
 use Rattle.turns.specs.Places.{reseated, Following, Quiet, Turning}

@@ -10,8 +10,8 @@ use Rattle.rules.specs.Readers.{noReader, readerIn}
 use Rattle.rules.proofs.laws.Below.{one-more}
 use Rattle.rules.specs.declared.Reader.{Reader}
 use Rattle.rules.specs.declared.View.{View}
-use Rattle.order.specs.Seats.{Seated}
-use Rattle.order.proofs.Seating.{seated-moved}
+use Rattle.uses.specs.Seats.{Seated}
+use Rattle.uses.proofs.Seating.{seated-moved}
 use Rattle.parts.specs.Positions.{movedTo}
 use Rattle.turns.specs.Places.{reseated, Following}
 

@@ -24,11 +24,11 @@ use Rattle.rules.proofs.calls.Valids.{placed-at}
 use Rattle.rules.proofs.calls.Kept.{read-kept}
 use Rattle.rules.proofs.third.Moves.{nowAt, goesNow, keyNow}
 use Rattle.rules.proofs.third.Turns.{awaiting, goes-here, low, asked}
-use Rattle.order.specs.declared.Terms.{Terms}
-use Rattle.order.specs.Seats.{Seated}
+use Rattle.uses.specs.declared.Terms.{Terms}
+use Rattle.uses.specs.Seats.{Seated}
 use Rattle.files.specs.Leads.{Weights}
-use Rattle.order.specs.Searches.{under, stateUnder}
-use Rattle.order.proofs.Seating.{seated-moved}
+use Rattle.uses.specs.Sights.{under, stateUnder}
+use Rattle.uses.proofs.Seating.{seated-moved}
 use Rattle.calls.specs.Inner.{Readable}
 use Rattle.calls.proofs.Slots.{readable}
 use Rattle.turns.specs.Places.{reseated, Choosing, Turning}

@@ -7,7 +7,7 @@ use Rattle.rules.specs.Views.{stateOf}
 use Rattle.rules.specs.Run.{turnsOf}
 use Rattle.rules.specs.declared.State.{State}
 use Rattle.rules.specs.declared.View.{View}
-use Rattle.order.specs.Seats.{Seated}
+use Rattle.uses.specs.Seats.{Seated}
 use Rattle.heads.specs.Heads.{Kept}
 use Rattle.turns.specs.declared.Leg.{Leg}
 use Rattle.turns.specs.Places.{Quiet}

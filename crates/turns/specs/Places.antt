@@ -10,9 +10,9 @@ use Rattle.rules.specs.Readers.{readerIn}
 use Rattle.rules.specs.declared.Reader.{Reader}
 use Rattle.rules.specs.declared.View.{View}
 use Rattle.parts.specs.Positions.{movedTo}
-use Rattle.order.specs.declared.Terms.{Terms}
+use Rattle.uses.specs.declared.Terms.{Terms}
 use Rattle.files.specs.Leads.{Weights}
-use Rattle.order.specs.Searches.{under, stateUnder, Sighted}
+use Rattle.uses.specs.Sights.{under, stateUnder, Sighted}
 use Rattle.heads.specs.Heads.{Kept}
 
 -- the view at another turn, with other readers

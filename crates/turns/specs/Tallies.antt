@@ -8,8 +8,8 @@ use Rattle.rules.specs.Run.{Turn, turnOf, Turns}
 use Rattle.rules.specs.declared.State.{State}
 use Rattle.rules.specs.declared.Reader.{Reader}
 use Rattle.rules.specs.declared.View.{View}
-use Rattle.order.specs.declared.Terms.{Terms}
-use Rattle.order.specs.Searches.{stateUnder}
+use Rattle.uses.specs.declared.Terms.{Terms}
+use Rattle.uses.specs.Sights.{stateUnder}
 use Rattle.heads.specs.Heads.{Kept}
 use Rattle.turns.specs.declared.Turned.{Turned}
 use Rattle.turns.specs.Places.{afterTurn, Quiet}

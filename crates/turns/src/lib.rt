@@ -2,11 +2,11 @@
 // and the files' counts. So the view stays as it is for a leg of turns: the positions are in the readers' array of the searches, which is lent from turn to
 // turn, and what is known of the files' heads goes along.
 
-use order::Choice;
-use order::Terms;
 use rules::Answer;
 use rules::Reader;
 use rules::View;
+use uses::Choice;
+use uses::Terms;
 ghost use mathlib.Core.Path.{_≡_};
 ghost use Prim.Native.Nat.{ℕ, _+_, _≤_, _<_};
 ghost use lib.ListN.{getD, length};
@@ -15,8 +15,8 @@ ghost use Rattle.rules.specs.Views.{stateOf};
 ghost use Rattle.rules.specs.Calls.{dropped};
 ghost use Rattle.rules.specs.Run.{hitPage};
 ghost use Rattle.parts.specs.Held.{Held};
-ghost use Rattle.order.specs.Choices.{chosen};
-ghost use Rattle.order.specs.Searches.{stateUnder};
+ghost use Rattle.uses.specs.Choices.{chosen};
+ghost use Rattle.uses.specs.Sights.{stateUnder};
 ghost use Rattle.heads.specs.Heads.{Kept};
 ghost use Rattle.parts.specs.Positions.{movedTo};
 ghost use Rattle.turns.specs.Places.{Following, Choosing, Turning};
@@ -170,7 +170,7 @@ pub fn go_on(
     let mut reads: u16 = 0;
     let mut i: u64 = 0;
     while i < turns {
-        let t = order::terms_at(v.look_ahead, v.fetch_time, v.frames, slot, done + i);
+        let t = uses::terms_at(v.look_ahead, v.fetch_time, v.frames, slot, done + i);
         let r = parts::at_position(v.readers[slot as usize], seats[slot as usize]);
         let q = turn(t, &sizes, &weights, seats, cached, fetching, held, heads, r);
         fetches += q.fetched;

@@ -1,7 +1,7 @@
 -- By whether a page was chosen.
 use borrow.Author.Needs.{needs}
 use native.Mathlib.Omega.{arith}
-use Rattle.order.proofs.Chosen.{chosen-key}
+use Rattle.uses.proofs.Chosen.{chosen-key}
 use Rattle.heads.proofs.Keeping.{forgot-key, forgot-nothing}
 use Rattle.heads.proofs.forget_gone.Statement.{statement}
 use Rattle.heads.proofs.forget_gone.Tie as tie

@@ -6,7 +6,7 @@ use native.Mathlib.Omega.{arith}
 use borrow.Author.Needs.{needs}
 use Rattle.rules.specs.declared.View.{View}
 use Rattle.files.specs.Sets.{inSet}
-use Rattle.order.specs.Searches.{stateUnder}
+use Rattle.uses.specs.Sights.{stateUnder}
 use Rattle.heads.specs.Heads.{HeadIs, Kept, SightedAll}
 use Rattle.heads.proofs.Besting.{best-none, best-more, best-skip, best-all, best-victim, best-nothing}
 use Rattle.heads.proofs.victim_kept.Statement.{statement}

@@ -6,7 +6,7 @@ use mathlib.Core.List.{List}
 use native.Mathlib.Omega.{arith}
 use borrow.Author.Needs.{needs}
 use Rattle.rules.specs.declared.Reader.{Reader}
-use Rattle.order.specs.Seats.{Seated}
+use Rattle.uses.specs.Seats.{Seated}
 use Rattle.order.specs.Rears.{Back, Free}
 use Rattle.order.proofs.Rearing.{back-more}
 use Rattle.order.proofs.behind_all.Statement.{statement}

@@ -10,7 +10,7 @@ use Rattle.rules.specs.Valid.{Valid}
 use Rattle.rules.specs.Views.{stateOf}
 use Rattle.rules.specs.declared.View.{View}
 use Rattle.files.specs.Sets.{inSet}
-use Rattle.order.specs.Seats.{Seated}
+use Rattle.uses.specs.Seats.{Seated}
 use Rattle.order.specs.Rears.{Rear}
 use Rattle.order.proofs.Rearing.{rear-none, rear-skip, rear-all}
 use Rattle.order.proofs.furthest_behind.Statement.{statement}

@@ -6,7 +6,7 @@ use borrow.Author.Needs.{needs}
 use Rattle.bits.proofs.Finds.{last-is}
 use Rattle.rules.specs.declared.State.{State}
 use Rattle.rules.specs.declared.View.{View}
-use Rattle.order.specs.Searches.{stateUnder}
+use Rattle.uses.specs.Sights.{stateUnder}
 use Rattle.order.proofs.Searching.{raised-none, raised-take, raised-keep}
 use Rattle.order.proofs.higher.Statement.{statement}
 use Rattle.order.proofs.higher.Tie as tie

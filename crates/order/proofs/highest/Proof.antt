@@ -6,7 +6,8 @@ use native.Mathlib.Omega.{arith}
 use borrow.Author.Needs.{needs}
 use Rattle.rules.specs.declared.View.{View}
 use Rattle.files.specs.Sets.{inSet}
-use Rattle.order.specs.Searches.{stateUnder, Sighted, Highest}
+use Rattle.uses.specs.Sights.{stateUnder, Sighted}
+use Rattle.order.specs.Searches.{Highest}
 use Rattle.order.proofs.Searching.{highest-none, highest-more, highest-skip, highest-all}
 use Rattle.order.proofs.highest.Statement.{statement}
 use Rattle.order.proofs.highest.Tie as tie

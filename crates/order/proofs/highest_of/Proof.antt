@@ -7,9 +7,9 @@ use native.Mathlib.Omega.{arith}
 use borrow.Author.Needs.{needs}
 use lib.ListN.{getD}
 use Rattle.rules.specs.declared.View.{View}
-use Rattle.order.specs.Seats.{Linked}
-use Rattle.order.specs.Searches.{stateUnder, Sighted, Ranked}
-use Rattle.order.proofs.Seating.{chain-first}
+use Rattle.uses.specs.Seats.{Linked}
+use Rattle.uses.specs.Sights.{stateUnder, Sighted, Ranked}
+use Rattle.uses.proofs.Seating.{chain-first}
 use Rattle.order.proofs.Looking.{Stands, Looked, reach-high, next-linked, next-less, passed-linked, looked-none, looked-more, looked-all}
 use Rattle.order.proofs.highest_of.Statement.{statement}
 use Rattle.order.proofs.highest_of.Tie as tie

@@ -15,9 +15,10 @@ use Rattle.rules.proofs.orders.LookAheads.{before-is, is-before}
 use Rattle.rules.specs.declared.State.{State}
 use Rattle.rules.specs.declared.View.{View}
 use Rattle.rules.specs.declared.Reader.{Reader}
-use Rattle.order.specs.Seats.{Linked}
-use Rattle.order.specs.Searches.{stateUnder, Sits, Sighted, Swept, lower}
-use Rattle.order.proofs.Seating.{chain-here, chain-file, chain-position, chain-pace, chain-reach, chain-is, chain-less, chain-next}
+use Rattle.uses.specs.Seats.{Linked}
+use Rattle.uses.specs.Sights.{stateUnder, Sits, Sighted, lower}
+use Rattle.order.specs.Searches.{Swept}
+use Rattle.uses.proofs.Seating.{chain-here, chain-file, chain-position, chain-pace, chain-reach, chain-is, chain-less, chain-next}
 use Rattle.order.proofs.Sweeps.{Walked, swept-other, swept-before, walk-none, walk-more, walk-all}
 use Rattle.order.proofs.rank_among.Statement.{statement}
 use Rattle.order.proofs.rank_among.Tie as tie

@@ -7,9 +7,10 @@ use borrow.Author.Tests.{ltb-true, ltb-false}
 use lib.ListN.{getD}
 use Rattle.rules.specs.declared.State.{State}
 use Rattle.rules.specs.declared.View.{View}
-use Rattle.order.specs.Seats.{Linked}
-use Rattle.order.specs.Searches.{stateUnder, Sighted, Left}
-use Rattle.order.proofs.Seating.{chain-first}
+use Rattle.uses.specs.Seats.{Linked}
+use Rattle.uses.specs.Sights.{stateUnder, Sighted}
+use Rattle.order.specs.Searches.{Left}
+use Rattle.uses.proofs.Seating.{chain-first}
 use Rattle.order.proofs.Sweeps.{swept-none, swept-all, before-seat, begins, asked, asked-next, begins-next, begins-linked, asked-start, asked-all}
 use Rattle.order.proofs.rank_over.Statement.{statement}
 use Rattle.order.proofs.rank_over.Tie as tie

@@ -16,9 +16,9 @@ use Rattle.rules.proofs.orders.Candidates.{absent-least}
 use Rattle.rules.specs.declared.State.{State}
 use Rattle.rules.specs.declared.Reader.{Reader}
 use Rattle.rules.specs.Views.{stateOf}
-use Rattle.order.specs.Searches.{lower}
-use Rattle.order.proofs.Between.{first-between}
-use Rattle.order.proofs.Slots.{lower-least}
+use Rattle.uses.specs.Sights.{lower}
+use Rattle.uses.proofs.Between.{first-between}
+use Rattle.uses.proofs.Slots.{lower-least}
 use Rattle.order.proofs.Searching.{none-absent, first-absent, soonest-keep, soonest-take}
 use Rattle.order.proofs.sooner.Statement.{statement}
 use Rattle.order.proofs.sooner.Tie as tie

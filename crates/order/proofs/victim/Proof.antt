@@ -3,7 +3,7 @@ use mathlib.Core.Path.{refl, _∙_}
 use borrow.Author.Needs.{needs}
 use Rattle.rules.proofs.calls.Valids.{placed-at}
 use Rattle.parts.proofs.Carried.{held-high}
-use Rattle.order.specs.Searches.{Sighted}
+use Rattle.uses.specs.Sights.{Sighted}
 use Rattle.files.proofs.Leading.{weights-in}
 use Rattle.order.proofs.victim.Statement.{statement}
 use Rattle.order.proofs.victim.Tie as tie

@@ -5,7 +5,7 @@ use native.Mathlib.Omega.{arith}
 use borrow.Author.Needs.{needs}
 use Rattle.rules.specs.Readers.{readerIn, nextKey}
 use Rattle.rules.specs.declared.View.{View}
-use Rattle.order.specs.Searches.{under}
+use Rattle.uses.specs.Sights.{under}
 use Rattle.calls.specs.Inner.{Readable}
 use Rattle.calls.proofs.Choices.{dropped-has}
 use Rattle.turns.specs.Places.{Turning}

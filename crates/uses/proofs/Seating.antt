@@ -17,7 +17,7 @@ use Rattle.rules.proofs.laws.Tests.{and-first, and-second}
 use Rattle.rules.proofs.laws.Cases.{failed}
 use Rattle.rules.proofs.calls.Kept.{same-at}
 use Rattle.rules.specs.declared.Reader.{Reader}
-use Rattle.order.specs.Seats.{lastSeat, Seated, Linked}
+use Rattle.uses.specs.Seats.{lastSeat, Seated, Linked}
 
 -- r is the last one of the first n slots with a reader of file f, or 0
 pub record Seat (readers : List Reader) (f n r : ℕ) : Type 0 where

@@ -1,11 +1,11 @@
--- What the sweeps read of the readers, in one array: positions, paces, last pages, and for each file its slots with a reader, chained. Assumes nothing:
+-- What the searches read of the readers, in one array: positions, paces, last pages, and for each file its slots with a reader, chained. Assumes nothing:
 -- these are definitions.
 use Prim.Native.Nat.{ℕ, zero, suc, _+_, _-_, _≤_, _<_}
 use mathlib.Core.Path.{_≡_}
 use mathlib.Core.Bool.{cond}
 use mathlib.Core.List.{List}
 use lib.ListN.{getD, length}
-use lib.Dec.{T, eqb}
+use lib.Dec.{T}
 use Rattle.rules.specs.Readers.{readerIn, attached, readsFile}
 use Rattle.rules.specs.declared.Reader.{Reader}
 
@@ -27,11 +27,3 @@ pub record Seated (readers : List Reader) (n : ℕ) (seats : List ℕ) : Type 0 
 pub record Linked (readers : List Reader) (f at : ℕ) : Type 0 where
   pub high : at ≤ 16
   pub sits : 0 < at → T (readsFile f (readerIn readers (at - 1)))
-
--- what a look at a file goes by: at 17 the file's end, at a slot, counted from 1, its position
-abbrev pub reached : List ℕ → ℕ → ℕ
-reached seats at = cond (eqb at 17) 1024 (getD seats (at - 1) 0)
-
--- and what comes after it: the file's last slot, then the last one before it with a reader of the file
-abbrev pub nextReached : List ℕ → ℕ → ℕ → ℕ
-nextReached seats f at = cond (eqb at 17) (getD seats (48 + f) 0) (getD seats (31 + at) 0)

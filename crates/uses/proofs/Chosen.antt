@@ -2,9 +2,9 @@
 use Prim.Native.Nat.{ℕ}
 use mathlib.Core.Path.{_≡_, ap}
 use mathlib.Core.Option.{some}
-use Rattle.order.specs.declared.Choice.{Choice}
-use Rattle.order.specs.declared.Choice.the-variants.{Key}
-use Rattle.order.specs.Choices.{chosen}
+use Rattle.uses.specs.declared.Choice.{Choice}
+use Rattle.uses.specs.declared.Choice.the-variants.{Key}
+use Rattle.uses.specs.Choices.{chosen}
 
 -- a choice with a key
 pub chosen-key : (g : Choice) (k : ℕ) → g ≡ Key k → chosen g ≡ some k

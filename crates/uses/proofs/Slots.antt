@@ -18,8 +18,8 @@ use Rattle.rules.proofs.orders.LookAheads.{is-before}
 use Rattle.rules.specs.declared.State.{State}
 use Rattle.rules.specs.declared.Reader.{Reader}
 use Rattle.rules.specs.declared.View.{View}
-use Rattle.order.specs.declared.Terms.{Terms}
-use Rattle.order.specs.Searches.{stateUnder, Sits, lower}
+use Rattle.uses.specs.declared.Terms.{Terms}
+use Rattle.uses.specs.Sights.{stateUnder, Sits, lower}
 
 none : (a : Bool) → false ≡ (a && false)
 none true = refl
