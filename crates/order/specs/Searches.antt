@@ -1,12 +1,12 @@
--- What a search for the head of an order keeps: the best page so far, with its number. Assumes nothing: these are definitions.
+-- What a search for the page to give up keeps: the best page so far, with its number. Assumes nothing: these are definitions.
 use Prim.Native.Nat.{ℕ, _+_, _*_, _≤_, _<_}
 use mathlib.Core.Path.{_≡_}
 use mathlib.Core.Bool.{Bool}
 use lib.Dec.{T}
 use Rattle.rules.specs.Readers.{readerAt, readsFile}
-use Rattle.rules.specs.UseTimes.{before, sees, never, useFor, useKey}
-use Rattle.rules.specs.Orders.{wanted, place}
-use Rattle.rules.specs.Ranks.{rank, cachedAmong, AtMost, NoneBelow}
+use Rattle.rules.specs.UseTimes.{before, sees, never, useFor}
+use Rattle.rules.specs.Orders.{place}
+use Rattle.rules.specs.Ranks.{rank, cachedAmong, AtMost}
 use Rattle.rules.specs.declared.State.{State}
 use Rattle.uses.specs.declared.Pick.{Pick}
 use Rattle.uses.specs.Sights.{Ranked}
@@ -51,10 +51,3 @@ pub record Highest (s : State) (files : ℕ → Bool) (n : ℕ) (p : Pick) : Typ
 pub record First (s : State) (files : ℕ → Bool) (p : Pick) : Type 0 where
   pub page : Ranked s files p
   pub top : (k : ℕ) → T (cachedAmong files s k) → rank s k ≤ p .value
-
--- the page kept, if any, is wanted, and no first absent page of the first m slots is used sooner
-pub record Soonest (s : State) (m : ℕ) (p : Pick) : Type 0 where
-  pub low : p .value ≤ never
-  pub page : p .value < never → T (wanted s (p .key))
-  pub its : p .value < never → useKey s (p .key) ≤ p .value
-  pub below : NoneBelow s m (p .value)

@@ -1,0 +1,2 @@
+-- What the contracts of the next fetch speak of.
+pub mod Soonest
