@@ -13,9 +13,9 @@ use Rattle.rules.specs.declared.State.{State}
 use Rattle.uses.specs.declared.Pick.{Pick}
 use Rattle.uses.specs.Sights.{Ranked}
 use Rattle.order.specs.Searches.{Highest, First}
-use Rattle.order.specs.Rears.{Rear}
+use Rattle.rears.specs.Rears.{Rear}
 use Rattle.order.proofs.Searching.{highest-victim, highest-nothing}
-use Rattle.order.proofs.Rearing.{rear-victim}
+use Rattle.rears.proofs.Rearing.{rear-victim}
 
 module _ (s : State) (w : Valid s) (files : ℕ → Bool) (p : Pick) where
   -- what is the page to give up of the set is its first

@@ -1,7 +1,5 @@
--- What the code of the two orders rests on: sets of files, one slot's use key, the readers' array, all slots', pages behind all readers, the searches for the
--- victim and for the next fetch.
+-- What the page to give up rests on: a page's rank by a pass over the slots, the search for the highest, a look at a file, the page that goes first.
 pub mod Sweeps
-pub mod Rearing
 pub mod Searching
 pub mod Looking
 pub mod Firsts

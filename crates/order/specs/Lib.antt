@@ -1,4 +1,3 @@
--- What the contracts of the two orders speak of: the page chosen, the file chosen, the readers' array, what a search keeps.
+-- What the contracts of the page to give up speak of: what a look at a file goes by, what the search keeps.
 pub mod Looks
 pub mod Searches
-pub mod Rears

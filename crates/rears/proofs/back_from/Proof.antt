@@ -3,9 +3,9 @@ use Prim.Native.Nat.{_*_}
 use native.Mathlib.Omega.{arith}
 use borrow.Author.Needs.{needs}
 use Rattle.bits.proofs.Finds.{last-is}
-use Rattle.order.proofs.Rearing.{back-is, back-free}
-use Rattle.order.proofs.back_from.Statement.{statement}
-use Rattle.order.proofs.back_from.Tie as tie
+use Rattle.rears.proofs.Rearing.{back-is, back-free}
+use Rattle.rears.proofs.back_from.Statement.{statement}
+use Rattle.rears.proofs.back_from.Tie as tie
 
 mul-last-set : tie.Need-mul-last-set
 mul-last-set c = search needs

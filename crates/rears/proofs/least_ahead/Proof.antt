@@ -7,11 +7,11 @@ use borrow.Author.Needs.{needs}
 use lib.ListN.{getD}
 use Rattle.rules.specs.declared.Reader.{Reader}
 use Rattle.uses.specs.Seats.{Seated, Linked}
-use Rattle.order.specs.Rears.{Least}
+use Rattle.rears.specs.Rears.{Least}
 use Rattle.uses.proofs.Seating.{chain-first, chain-position, chain-reach, chain-is, chain-less, chain-next}
-use Rattle.order.proofs.Rearing.{least-none, least-more}
-use Rattle.order.proofs.least_ahead.Statement.{statement}
-use Rattle.order.proofs.least_ahead.Tie as tie
+use Rattle.rears.proofs.Rearing.{least-none, least-more}
+use Rattle.rears.proofs.least_ahead.Statement.{statement}
+use Rattle.rears.proofs.least_ahead.Tie as tie
 
 abbrev Inv-loop : tie.InvT-loop
 Inv-loop seats file page least₀ at₀ least at =

@@ -1,9 +1,9 @@
 -- The file has no such page, it goes sooner than the best, or the best stays.
 use native.Mathlib.Omega.{arith}
 use borrow.Author.Needs.{needs}
-use Rattle.order.proofs.Rearing.{rear-clear, rear-keep, rear-take}
-use Rattle.order.proofs.further_behind.Statement.{statement}
-use Rattle.order.proofs.further_behind.Tie as tie
+use Rattle.rears.proofs.Rearing.{rear-clear, rear-keep, rear-take}
+use Rattle.rears.proofs.further_behind.Statement.{statement}
+use Rattle.rears.proofs.further_behind.Tie as tie
 
 behind-all-requires : tie.Need-behind-all-requires
 behind-all-requires c κs = search needs

@@ -11,10 +11,10 @@ use Rattle.rules.specs.Views.{stateOf}
 use Rattle.rules.specs.declared.View.{View}
 use Rattle.files.specs.Sets.{inSet}
 use Rattle.uses.specs.Seats.{Seated}
-use Rattle.order.specs.Rears.{Rear}
-use Rattle.order.proofs.Rearing.{rear-none, rear-skip, rear-all}
-use Rattle.order.proofs.furthest_behind.Statement.{statement}
-use Rattle.order.proofs.furthest_behind.Tie as tie
+use Rattle.rears.specs.Rears.{Rear}
+use Rattle.rears.proofs.Rearing.{rear-none, rear-skip, rear-all}
+use Rattle.rears.proofs.furthest_behind.Statement.{statement}
+use Rattle.rears.proofs.furthest_behind.Tie as tie
 
 abbrev Inv-loop : tie.InvT-loop
 Inv-loop sizes seats cached files best₀ file₀ end best file =

@@ -2,8 +2,8 @@
 use mathlib.Core.Path.{refl}
 use native.Mathlib.Omega.{arith}
 use borrow.Author.Tests.{lt-ltb, le-ltb, le-leb, lt-leb}
-use Rattle.order.proofs.nearer.Statement.{statement}
-use Rattle.order.proofs.nearer.Tie as tie
+use Rattle.rears.proofs.nearer.Statement.{statement}
+use Rattle.rears.proofs.nearer.Tie as tie
 
 returns : tie.Need-returns
 returns c =

@@ -7,10 +7,10 @@ use native.Mathlib.Omega.{arith}
 use borrow.Author.Needs.{needs}
 use Rattle.rules.specs.declared.Reader.{Reader}
 use Rattle.uses.specs.Seats.{Seated}
-use Rattle.order.specs.Rears.{Back, Free}
-use Rattle.order.proofs.Rearing.{back-more}
-use Rattle.order.proofs.behind_all.Statement.{statement}
-use Rattle.order.proofs.behind_all.Tie as tie
+use Rattle.rears.specs.Rears.{Back, Free}
+use Rattle.rears.proofs.Rearing.{back-more}
+use Rattle.rears.proofs.behind_all.Statement.{statement}
+use Rattle.rears.proofs.behind_all.Tie as tie
 
 abbrev Inv-loop : tie.InvT-loop
 Inv-loop seats cached file size page₀ next₀ page next =

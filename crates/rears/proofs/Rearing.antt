@@ -31,7 +31,7 @@ use Rattle.uses.specs.declared.Pick.{Pick}
 use Rattle.uses.specs.Seats.{lastSeat}
 use Rattle.files.specs.Sets.{NoFile}
 use Rattle.uses.specs.Sights.{Ranked}
-use Rattle.order.specs.Rears.{Ahead, Least, Back, Free, Rear}
+use Rattle.rears.specs.Rears.{Ahead, Least, Back, Free, Rear}
 use Rattle.files.proofs.Sets.{below}
 use Rattle.uses.proofs.Seating.{seat-is}
 
