@@ -1,0 +1,2 @@
+-- What the code of the queues rests on.
+pub mod Queueing

@@ -1,0 +1,2 @@
+-- What the contracts of the queues speak of.
+pub mod Queues
