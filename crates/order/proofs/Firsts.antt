@@ -3,36 +3,26 @@ use mathlib.Core.Path.{_≡_}
 use mathlib.Core.Bool.{Bool}
 use mathlib.Core.Option.{none, some}
 use Prim.Native.Nat.{ℕ, _≤_, _<_}
-use native.Mathlib.Decide.{decLt}
 use native.Mathlib.Omega.{arith}
-use lib.Dec.{T}
+use Rattle.rules.specs.Pages.{cached}
 use Rattle.rules.specs.Valid.{Valid}
-use Rattle.rules.specs.Ranks.{rank, cachedAmong, victimAmong}
-use Rattle.rules.proofs.orders.Distinct.{rank-positive, among-top, among-none, head-is}
+use Rattle.rules.specs.Ranks.{rank, victimAmong}
+use Rattle.rules.proofs.laws.Tests.{and-first}
+use Rattle.rules.proofs.orders.Distinct.{rank-positive, among-none, head-is}
 use Rattle.rules.specs.declared.State.{State}
 use Rattle.uses.specs.declared.Pick.{Pick}
-use Rattle.uses.specs.Sights.{Ranked}
-use Rattle.order.specs.Searches.{Highest, First}
 use Rattle.rears.specs.Rears.{Rear}
-use Rattle.order.proofs.Searching.{highest-victim, highest-nothing}
-use Rattle.rears.proofs.Rearing.{rear-victim}
+use Rattle.rears.proofs.Rearing.{rear-top}
+use Rattle.order.specs.Searches.{Highest, First}
 
 module _ (s : State) (w : Valid s) (files : ℕ → Bool) (p : Pick) where
-  -- what is the page to give up of the set is its first
-  first-is : Ranked s files p → (0 < p .value → victimAmong files s ≡ some (p .key)) → (p .value ≡ 0 → victimAmong files s ≡ none) → First s files p
-  first-is r some-goes none-goes = record { page = r; top = λ k c. by k c (decLt 0 (p .value)) }
-    where
-      by : (k : ℕ) → T (cachedAmong files s k) → Dec (0 < p .value) → rank s k ≤ p .value
-      by k c (yes h) = omega (arith, among-top s w files (p .key) (some-goes h) k c, r .its h)
-      by k c (no h) = absurd (among-none s w files .0 (none-goes (omega arith)) k c)
-
   -- one that is ahead of no reader
   pub first-rear : Rear s files 8 p → 0 < p .value → First s files p
-  first-rear a h = first-is (a .page) (rear-victim s w files p a) (λ z. absurd (omega arith))
+  first-rear a h = record { page = a .page; top = rear-top s w files p a h }
 
-  -- the best of the candidates
+  -- the one of the highest rank
   pub first-highest : Highest s files 8 p → First s files p
-  first-highest a = first-is (a .page) (highest-victim s files w p a) (highest-nothing s files w p a)
+  first-highest a = record { page = a .page; top = λ k c. a .most k (omega (arith, w .cached-in k (and-first (cached s k) _ c) .low)) c }
 
   module _ (a : First s files p) where
     -- it is the one to give up

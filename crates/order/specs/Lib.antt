@@ -1,3 +1,2 @@
--- What the contracts of the page to give up speak of: what a look at a file goes by, what the search keeps.
-pub mod Looks
+-- What the contracts of the page to give up speak of: which readers stand before a page, what the search keeps.
 pub mod Searches

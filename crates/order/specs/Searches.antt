@@ -1,51 +1,61 @@
--- What a search for the page to give up keeps: the best page so far, with its number. Assumes nothing: these are definitions.
-use Prim.Native.Nat.{ℕ, _+_, _*_, _≤_, _<_}
+-- The search for the page to give up: which readers stand before a page, and the best page so far, with its number. Assumes nothing: these are definitions.
+use Prim.Native.Nat.{ℕ, _*_, _+_, _/_, _%_, _≤_, _<_}
 use mathlib.Core.Path.{_≡_}
 use mathlib.Core.Bool.{Bool}
+use mathlib.Core.List.{List}
 use lib.Dec.{T}
-use Rattle.rules.specs.Readers.{readerAt, readsFile}
-use Rattle.rules.specs.UseTimes.{before, sees, never, useFor}
-use Rattle.rules.specs.Orders.{place}
-use Rattle.rules.specs.Ranks.{rank, cachedAmong, AtMost}
+use lib.ListN.{getD}
+use Rattle.rules.specs.Pages.{fileOf, pageOf, cached}
+use Rattle.rules.specs.Readers.{readerIn, readsFile}
+use Rattle.rules.specs.UseTimes.{ahead}
+use Rattle.rules.specs.Ranks.{rank, cachedAmong}
 use Rattle.rules.specs.declared.State.{State}
+use Rattle.rules.specs.declared.View.{View}
+use Rattle.rules.specs.declared.Reader.{Reader}
 use Rattle.uses.specs.declared.Pick.{Pick}
-use Rattle.uses.specs.Sights.{Ranked}
+use Rattle.uses.specs.declared.Terms.{Terms}
+use Rattle.uses.specs.Sights.{Sighted, Ranked}
+use Rattle.queues.specs.Queues.{In, Queued}
 
--- top is no lower than page k's rank, and no higher than what some of the slots, those that are In, leave of it
-pub record Swept (s : State) (k : ℕ) (In : ℕ → Type 0) (top : ℕ) : Type 0 where
-  pub low : rank s k ≤ top
-  pub high : top ≤ 2 * never + place k
-  pub passed : (j : ℕ) → In j → j < 16 → T (before (readerAt s j) k) → top ≤ never + place k
-  pub used : (j : ℕ) → In j → j < 16 → T (sees s (readerAt s j) k) → top ≤ useFor s k j
+-- ---- the readers of a file
 
--- r is what the first n slots leave of page k's rank, or neither r nor the rank is above the floor
-pub record Left (s : State) (k floor n r : ℕ) : Type 0 where
-  pub bound : rank s k ≤ r
-  pub exact : floor < r → Swept s k (λ j. j < n) r
+-- all of them are in the queue, in a view as the search reads it
+abbrev pub SightQueued : Terms → List ℕ → List ℕ → List ℕ → List ℕ → ℕ → ℕ → ℕ → Type 0
+SightQueued t seats cached fetching queue f first end = (v : View) × Sighted t seats cached fetching v × Queued (v .readers) f 0 queue first end
+
+-- from `first` to before `end` of the queue stand readers of file f, none past page `below`, and all of the file's that are before page n
+pub record Parted (readers : List Reader) (f : ℕ) (queue : List ℕ) (first end below n : ℕ) : Type 0 where
+  pub reads : (i : ℕ) → first ≤ i → i < end → T (readsFile f (readerIn readers (getD queue i 0 % 16)))
+  pub position : (i : ℕ) → first ≤ i → i < end → getD queue i 0 / 16 ≡ readerIn readers (getD queue i 0 % 16) .position
+  pub low : (i : ℕ) → first ≤ i → i < end → getD queue i 0 / 16 ≤ below
+  pub all : (j : ℕ) → j < 16 → T (readsFile f (readerIn readers j)) → readerIn readers j .position < n → In queue first end (readerIn readers j .position * 16 + j)
+
+-- so it is in a view as the search reads it
+abbrev pub SightParted : Terms → List ℕ → List ℕ → List ℕ → List ℕ → ℕ → ℕ → ℕ → ℕ → ℕ → Type 0
+SightParted t seats cached fetching queue f first end below n =
+    (v : View) × Sighted t seats cached fetching v × Parted (v .readers) f queue first end below n
+
+-- ---- what the search keeps
 
 -- r is page k's rank, or neither is above the floor
 pub record Over (s : State) (k floor r : ℕ) : Type 0 where
   pub bound : rank s k ≤ r
   pub exact : floor < r → r ≡ rank s k
 
--- q is kept instead of p after a look at the last cached one of file f's first n pages
-pub record Raised (s : State) (files : ℕ → Bool) (f n : ℕ) (p q : Pick) : Type 0 where
+-- some reader has each cached page of the set before it
+abbrev pub NoneFree : State → (ℕ → Bool) → Type 0
+NoneFree s files = (k : ℕ) → T (cachedAmong files s k) → T (ahead s k)
+
+-- q is kept instead of p after a look at the cached pages of file f past page `below` and up to page n
+pub record Raised (s : State) (files : ℕ → Bool) (f below n : ℕ) (p q : Pick) : Type 0 where
   pub page : Ranked s files q
   pub up : p .value ≤ q .value
-  pub most : AtMost s (q .value) f n
+  pub most : (k : ℕ) → T (cached s k) → fileOf k ≡ f → below < pageOf k → pageOf k ≤ n → rank s k ≤ q .value
 
--- q is kept instead of p after a look at file f's candidates: its last cached page, and for the slots from n on the last at or before the position
-pub record Topped (s : State) (files : ℕ → Bool) (f n : ℕ) (p q : Pick) : Type 0 where
-  pub page : Ranked s files q
-  pub up : p .value ≤ q .value
-  pub whole : AtMost s (q .value) f 1024
-  pub by-slot : (j : ℕ) → n ≤ j → j < 16 → T (readsFile f (readerAt s j)) → AtMost s (q .value) f (readerAt s j .position)
-
--- no candidate of the first n files that is of the set has a higher rank
+-- the page kept, if any, is of the set, and no cached page of the set's first n files has a higher rank
 pub record Highest (s : State) (files : ℕ → Bool) (n : ℕ) (p : Pick) : Type 0 where
   pub page : Ranked s files p
-  pub by-file : (f : ℕ) → f < n → T (files f) → AtMost s (p .value) f 1024
-  pub by-slot : (f j : ℕ) → f < n → T (files f) → j < 16 → T (readsFile f (readerAt s j)) → AtMost s (p .value) f (readerAt s j .position)
+  pub most : (k : ℕ) → fileOf k < n → T (cachedAmong files s k) → rank s k ≤ p .value
 
 -- the page kept, if any, is the first of the set's to go: no cached page of the set has a higher rank
 pub record First (s : State) (files : ℕ → Bool) (p : Pick) : Type 0 where

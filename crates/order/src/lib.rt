@@ -7,122 +7,97 @@ use uses::Choice;
 use uses::Pick;
 use uses::Terms;
 ghost use mathlib.Core.Path.{_≡_};
-ghost use mathlib.Core.Bool.{Bool, true, cond, _&&_};
-ghost use Prim.Native.Nat.{ℕ, _/_, _<_, _≤_};
-ghost use lib.Dec.{leb, ltb, eqb};
+ghost use mathlib.Core.Bool.{Bool, true};
+ghost use Prim.Native.Nat.{ℕ, _/_, _%_, _<_, _≤_};
+ghost use lib.Dec.{T};
 ghost use lib.ListN.{getD};
+ghost use Rattle.rules.specs.Pages.{pageOf};
 ghost use Rattle.rules.specs.Valid.{Valid};
+ghost use Rattle.rules.specs.UseTimes.{ahead};
 ghost use Rattle.rules.specs.Orders.{victim};
 ghost use Rattle.rules.specs.Ranks.{victimAmong};
 ghost use Rattle.rules.specs.Views.{stateOf};
 ghost use Rattle.parts.specs.Held.{Held};
 ghost use Rattle.files.specs.Sets.{inSet};
 ghost use Rattle.uses.specs.Choices.{chosen};
-ghost use Rattle.uses.specs.Seats.{Linked};
-ghost use Rattle.uses.specs.Sights.{stateUnder, Sighted, Sight, SightAt, Ranked};
-ghost use Rattle.order.specs.Looks.{reached, nextReached};
-ghost use Rattle.order.specs.Searches.{Swept, Left, Over, Raised, Topped, Highest, First};
+ghost use Rattle.uses.specs.Sights.{stateUnder, Sighted, Sight, Ranked};
+ghost use Rattle.queues.specs.Queues.{Queued};
+ghost use Rattle.order.specs.Searches.{Parted, SightParted, SightQueued, Over, NoneFree, Raised, Highest, First};
 
 // ---- the page to give up, by ranks
 
-// Does a reader at the position still have the page before it, up to its last page?
-fn is_ahead(position: u16, last: u16, page: usize) -> bool
-    ensures { λ r. ⌜ r ≡ (ltb position page && leb page last) ⌝ }
-{
-    (position as usize) < page && page <= last as usize
-}
-
-// What the readers of a part of a file's chain leave of a page's rank: those from slot `from` down to before slot `to`, both counted from 1. `known` is what
-// the slots up to `to` leave. Stops as soon as the page cannot rank above the floor.
-fn rank_among<'a>(
-    t: Terms,
-    seats: &[u16; 72],
-    cached: &'a [u64; 128],
-    fetching: &'a [u64; 128],
-    key: usize,
-    floor: u64,
-    from: usize,
-    to: usize,
-    known: u64,
-) -> u64
-    requires { ⌜ (key < 8192) × SightAt t (now seats) (now cached) (now fetching) (key / 1024) from ⌝ }
-    ensures { λ r. ⌜ ((v : View) → Sighted t (now (seats .entry)) (now (cached .entry)) (now (fetching .entry)) v → Linked (v .readers) (key / 1024) from
-        → Swept (stateUnder t v (now (cached .entry)) (now (fetching .entry))) key (λ j. j < to) known
-        → Left (stateUnder t v (now (cached .entry)) (now (fetching .entry))) key floor from r) ⌝ }
-{
-    let page = key % 1024 + 1;
-    let place = (page * 8 + key / 1024) as u64;
-    let mut top = known;
-    let mut at = from;
-    while to < at {
-        let slot = at - 1;
-        let position = seats[slot];
-        if is_ahead(position, seats[56 + slot], page) {
-            let low = parts::lesser(top, NEVER + place);
-            let pace = seats[16 + slot];
-            top = uses::lowered(t, cached, fetching, slot, position, pace, key, low);
-            if top <= floor {
-                return top;
-            }
-        }
-        at = seats[32 + slot] as usize;
-    }
-    top
-}
-
-// The rank of a page, or, where that is no higher than the floor, a number that is no higher either. The file's readers are asked in two parts, from slot
-// `start` down, then from the last slot down to it, so that a good start, a reader that comes to the page soon, leaves few others to be asked. It is a loop, so
-// that `rank_among` is called at one place, and the compiler puts it there.
+// The rank of a page that some reader has before it or, where that is no higher than the floor, a number that is no higher either. Asked are the readers from
+// `first` to before `end` of the queue: those that stand before the page. The nearest comes first, for it most often comes to the page first, so that the
+// others have nothing to count.
 fn rank_over<'a>(
     t: Terms,
     seats: &[u16; 72],
+    queue: &[u16; 32],
     cached: &'a [u64; 128],
     fetching: &'a [u64; 128],
     key: usize,
     floor: u64,
-    start: usize,
+    first: usize,
+    end: usize,
 ) -> u64
-    requires { ⌜ (key < 8192) × SightAt t (now seats) (now cached) (now fetching) (key / 1024) start ⌝ }
-    ensures { λ r. ⌜ ((v : View) → Sighted t (now (seats .entry)) (now (cached .entry)) (now (fetching .entry)) v → Linked (v .readers) (key / 1024) start
+    requires { ⌜ (key < 8192) × (end ≤ 32) × SightParted t (now seats) (now cached) (now fetching) (now queue) (key / 1024) first end (key % 1024) (pageOf key) ⌝ }
+    ensures { λ r. ⌜ ((v : View) → Sighted t (now (seats .entry)) (now (cached .entry)) (now (fetching .entry)) v
+        → Parted (v .readers) (key / 1024) (now (queue .entry)) first end (key % 1024) (pageOf key)
+        → T (ahead (stateUnder t v (now (cached .entry)) (now (fetching .entry))) key)
         → Over (stateUnder t v (now (cached .entry)) (now (fetching .entry))) key floor r) ⌝ }
 {
     let page = key % 1024 + 1;
-    let last = seats[48 + key / 1024] as usize;
-    let mut top = 2 * NEVER + (page * 8 + key / 1024) as u64;
-    let mut from = start;
-    let mut to: usize = 0;
-    let mut part: usize = 0;
-    while part < 2 && floor < top {
-        top = rank_among(t, seats, cached, fetching, key, floor, from, to, top);
-        from = last;
-        to = start;
-        part += 1;
+    let mut top = NEVER + (page * 8 + key / 1024) as u64;
+    let mut at = end;
+    while first < at && floor < top {
+        at -= 1;
+        let place = queue[at];
+        let slot = (place % 16) as usize;
+        if page <= seats[56 + slot] as usize {
+            let pace = seats[16 + slot];
+            top = uses::lowered(t, cached, fetching, slot, place / 16, pace, key, top);
+        }
     }
     top
 }
 
-// The best page so far, or the last cached one of the file's first n pages, where there is one and its rank is higher.
+// The best page so far, or the last cached one of the file's first n pages, where that is past page `below` and its rank is higher. No reader stands between.
 fn higher<'a>(
     t: Terms,
     seats: &[u16; 72],
+    queue: &[u16; 32],
     cached: &'a [u64; 128],
     fetching: &'a [u64; 128],
     file: usize,
+    first: usize,
+    end: usize,
+    below: usize,
     n: usize,
     best: Pick,
-    start: usize,
 ) -> Pick
-    requires { ⌜ (file < 8) × (n ≤ 1024) × SightAt t (now seats) (now cached) (now fetching) file start ⌝ }
-    ensures { λ r. ⌜ ((v : View) → Sighted t (now (seats .entry)) (now (cached .entry)) (now (fetching .entry)) v → Linked (v .readers) file start
-        → (files : ℕ → Bool) → files file ≡ true → Ranked (stateUnder t v (now (cached .entry)) (now (fetching .entry))) files best
-        → Raised (stateUnder t v (now (cached .entry)) (now (fetching .entry))) files file n best r) ⌝ }
+    requires { ⌜ (file < 8) × (n ≤ 1024) × (end ≤ 32) × SightParted t (now seats) (now cached) (now fetching) (now queue) file first end below n ⌝ }
+    ensures { λ r. ⌜ ((v : View) → Sighted t (now (seats .entry)) (now (cached .entry)) (now (fetching .entry)) v
+        → Parted (v .readers) file (now (queue .entry)) first end below n → (files : ℕ → Bool) → files file ≡ true
+        → NoneFree (stateUnder t v (now (cached .entry)) (now (fetching .entry))) files
+        → Ranked (stateUnder t v (now (cached .entry)) (now (fetching .entry))) files best
+        → Raised (stateUnder t v (now (cached .entry)) (now (fetching .entry))) files file below n best r) ⌝ }
 {
     let page = bits::last_set(cached, file * 1024, n);
-    if page == 0 {
+    if page <= below {
         return best;
     }
     let key = file * 1024 + page - 1;
-    let rank = rank_over(t, seats, cached, fetching, key, best.value, start);
+    let rank = rank_over(
+        t,
+        seats,
+        queue,
+        cached,
+        fetching,
+        key,
+        best.value,
+        first,
+        end,
+    );
     if best.value < rank {
         let key = key as u16;
         return Pick { key, value: rank };
@@ -130,68 +105,82 @@ fn higher<'a>(
     best
 }
 
-// What a look at a file goes by, one after the other: at 17 the file's end, at a slot, counted from 1, its position.
-fn reach(seats: &[u16; 72], at: usize) -> u16
-    requires { ⌜ (0 < at) × (at ≤ 17) ⌝ }
-    ensures { λ r. ⌜ r ≡ reached (now (seats .entry)) at ⌝ }
+// The best page after a look at a file whose readers are queued, and each of whose cached pages some reader has before it. Of those with no reader between, only
+// the last can be of the highest rank. So the readers are passed from the last position down, and from one to the next the last cached page is looked at. A page
+// in no look-ahead ranks by its number: where none up to the next position can rank higher, that is all.
+fn highest_along<'a>(
+    t: Terms,
+    seats: &[u16; 72],
+    queue: &[u16; 32],
+    cached: &'a [u64; 128],
+    fetching: &'a [u64; 128],
+    file: usize,
+    first: usize,
+    end: usize,
+    kept: Pick,
+) -> Pick
+    requires { ⌜ (file < 8) × (end ≤ 32) × SightQueued t (now seats) (now cached) (now fetching) (now queue) file first end ⌝ }
+    ensures { λ r. ⌜ ((v : View) → Sighted t (now (seats .entry)) (now (cached .entry)) (now (fetching .entry)) v
+        → Queued (v .readers) file 0 (now (queue .entry)) first end → (files : ℕ → Bool) → files file ≡ true
+        → NoneFree (stateUnder t v (now (cached .entry)) (now (fetching .entry))) files
+        → Ranked (stateUnder t v (now (cached .entry)) (now (fetching .entry))) files kept
+        → Raised (stateUnder t v (now (cached .entry)) (now (fetching .entry))) files file 0 1024 kept r) ⌝ }
 {
-    if at == 17 {
-        return 1024;
+    let mut best = kept;
+    let mut n: usize = 1024;
+    let mut at = end;
+    while first < at && best.value < NEVER + (n * 8 + file) as u64 {
+        let below = (queue[at - 1] / 16) as usize;
+        best = higher(
+            t,
+            seats,
+            queue,
+            cached,
+            fetching,
+            file,
+            first,
+            at,
+            below,
+            n,
+            best,
+        );
+        n = below;
+        at -= 1;
     }
-    seats[at - 1]
+    best
 }
 
-// The next of them: the file's last slot, then the last one before it with a reader of the file; 0 at the end.
-fn next_reach(seats: &[u16; 72], file: usize, at: usize) -> u16
-    requires { ⌜ (file < 8) × (0 < at) × (at ≤ 17) ⌝ }
-    ensures { λ r. ⌜ r ≡ nextReached (now (seats .entry)) file at ⌝ }
-{
-    if at == 17 {
-        return seats[48 + file];
-    }
-    seats[31 + at]
-}
-
-// The slot that a look has passed last: this place, or where it is the file's end, the one so far.
-fn slot_passed(at: usize, slot: usize) -> usize
-    ensures { λ r. ⌜ r ≡ cond (eqb at 17) slot at ⌝ }
-{
-    if at == 17 {
-        return slot;
-    }
-    at
-}
-
-// The best page after a look at a file. Of its cached pages with no reader between, only the last can be of the highest rank. So the last of all is looked at,
-// and the last at or before each position of its readers. For its rank the readers are asked from the slot passed before on: where tablets dock in the order of
-// their slots, its reader is the next to come to the page. The file's end is a place in the chain: so `higher` is called at one place, and the compiler puts it
-// there.
+// The same, its readers being queued first.
 fn highest_of<'a>(
     t: Terms,
     seats: &[u16; 72],
     cached: &'a [u64; 128],
     fetching: &'a [u64; 128],
     file: usize,
-    first: Pick,
+    kept: Pick,
 ) -> Pick
     requires { ⌜ (file < 8) × Sight t (now seats) (now cached) (now fetching) ⌝ }
     ensures { λ r. ⌜ ((v : View) → Sighted t (now (seats .entry)) (now (cached .entry)) (now (fetching .entry)) v → (files : ℕ → Bool) → files file ≡ true
-        → Ranked (stateUnder t v (now (cached .entry)) (now (fetching .entry))) files first
-        → Topped (stateUnder t v (now (cached .entry)) (now (fetching .entry))) files file 0 first r) ⌝ }
+        → NoneFree (stateUnder t v (now (cached .entry)) (now (fetching .entry))) files
+        → Ranked (stateUnder t v (now (cached .entry)) (now (fetching .entry))) files kept
+        → Raised (stateUnder t v (now (cached .entry)) (now (fetching .entry))) files file 0 1024 kept r) ⌝ }
 {
-    let mut best = first;
-    let mut start = seats[48 + file] as usize;
-    let mut at: usize = 17;
-    while 0 < at {
-        let n = reach(seats, at) as usize;
-        best = higher(t, seats, cached, fetching, file, n, best, start);
-        start = slot_passed(at, start);
-        at = next_reach(seats, file, at) as usize;
-    }
-    best
+    let mut queue = [0u16; 32];
+    let span = queues::queue_up(seats, file, &mut queue);
+    highest_along(
+        t,
+        seats,
+        &queue,
+        cached,
+        fetching,
+        file,
+        span.first,
+        span.end,
+        kept,
+    )
 }
 
-// The page of the highest rank of the files of a set.
+// The page of the highest rank of the files of a set, each of whose cached pages some reader has before it.
 fn highest<'a>(
     t: Terms,
     seats: &[u16; 72],
@@ -201,6 +190,7 @@ fn highest<'a>(
 ) -> Pick
     requires { ⌜ Sight t (now seats) (now cached) (now fetching) ⌝ }
     ensures { λ r. ⌜ ((v : View) → Sighted t (now (seats .entry)) (now (cached .entry)) (now (fetching .entry)) v
+        → NoneFree (stateUnder t v (now (cached .entry)) (now (fetching .entry))) (inSet files)
         → Highest (stateUnder t v (now (cached .entry)) (now (fetching .entry))) (inSet files) 8 r) ⌝ }
 {
     let mut best = Pick { key: 0, value: 0 };

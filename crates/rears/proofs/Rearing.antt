@@ -4,7 +4,6 @@ use mathlib.Core.Path.{_≡_, refl, sym, ap, subst, _∙_}
 use mathlib.Core.Bool.{Bool, true, false, not, cond, _&&_}
 use mathlib.Core.List.{List}
 use mathlib.Core.Logic.{_⊎_, inl, inr}
-use mathlib.Core.Option.{some}
 use Prim.Native.Nat.{ℕ, _+_, _-_, _*_, _≤_, _<_}
 use native.Mathlib.Decide.{ℕ-discrete, decLt, decLe}
 use native.Mathlib.Omega.{arith}
@@ -13,18 +12,17 @@ use lib.Dec.{T, T-not, leb, ltb, eqb→eq}
 use lib.ListN.{getD}
 use Rattle.bits.specs.Map.{bit, on, lastBit}
 use Rattle.bits.proofs.Finds.{last-is}
-use Rattle.rules.specs.Pages.{size, fileOf, pageOf, keyOf, cached}
+use Rattle.rules.specs.Pages.{size, fileOf, pageOf, keyOf, cached, Page}
 use Rattle.rules.specs.Readers.{readerIn, attached, readsFile}
 use Rattle.rules.specs.Valid.{Valid}
 use Rattle.rules.specs.UseTimes.{before, never, ahead}
 use Rattle.rules.specs.Orders.{place}
-use Rattle.rules.specs.Ranks.{rank, cachedAmong, victimAmong}
+use Rattle.rules.specs.Ranks.{rank, cachedAmong}
 use Rattle.rules.proofs.laws.Tests.{side, and-both, and-first, and-second}
 use Rattle.rules.proofs.laws.Cases.{passed, failed}
 use Rattle.rules.proofs.laws.Leasts.{some-at, some-in}
 use Rattle.rules.proofs.orders.LookAheads.{before-is, is-before}
 use Rattle.rules.proofs.orders.Ranks.{rank-behind, rank-ahead}
-use Rattle.rules.proofs.orders.Distinct.{head-is}
 use Rattle.rules.specs.declared.State.{State}
 use Rattle.rules.specs.declared.Reader.{Reader}
 use Rattle.uses.specs.declared.Pick.{Pick}
@@ -146,15 +144,16 @@ back-more readers map f size page next a b = record {
 
 -- ---- the best of the files
 
+-- a page ahead of some reader
+pub some-ahead : (s : State) (k : ℕ) → T (ahead s k) → Ahead (s .readers) k
+unfolding ahead
+some-ahead s k h = some-at 16 (λ j. before (readerIn (s .readers) j) k) h
+
 module _ (s : State) (w : Valid s) (files : ℕ → Bool) where
   -- some reader has the page before it, as the rules say it
   ahead-some : (k : ℕ) → Ahead (s .readers) k → T (ahead s k)
   unfolding ahead
   ahead-some k x = some-in 16 (x .0) (λ j. before (readerIn (s .readers) j) k) (x .1) (x .2)
-
-  some-ahead : (k : ℕ) → T (ahead s k) → Ahead (s .readers) k
-  unfolding ahead
-  some-ahead k h = some-at 16 (λ j. before (readerIn (s .readers) j) k) h
 
   -- a search starts before the first file of the set
   pub rear-none : (n : ℕ) → NoFile files 0 n → Rear s files n (record { key = 0; value = 0 })
@@ -214,7 +213,7 @@ module _ (s : State) (w : Valid s) (files : ℕ → Bool) where
           (λ _. omega arith) (omega arith) (λ i f h z. omega (arith, f, up-to i f (and-first (cached s i) _ h) z))
         where
           clear : T (ahead s (keyOf n page)) ⊎ T (not (ahead s (keyOf n page))) → T (not (ahead s (keyOf n page)))
-          clear (inl x) = absurd (free (omega arith) (some-ahead (keyOf n page) x))
+          clear (inl x) = absurd (free (omega arith) (some-ahead s (keyOf n page) x))
           clear (inr x) = x
 
   -- it ends after the last one
@@ -225,11 +224,22 @@ module _ (s : State) (w : Valid s) (files : ℕ → Bool) where
     most = λ k l h. a .most k (below files n rest (fileOf k) l (and-second (cached s k) _ h)) h;
   }
 
-  -- the page kept is the one to give up
-  pub rear-victim : (p : Pick) → Rear s files 8 p → 0 < p .value → victimAmong files s ≡ some (p .key)
-  rear-victim p a h = head-is s w files (p .key) (a .page .held h) (λ k c. by k c (side (ahead s k)))
-    where
-      by : (k : ℕ) → T (cachedAmong files s k) → T (ahead s k) ⊎ T (not (ahead s k)) → rank s k ≤ rank s (p .key)
-      by k c (inl x) = omega (arith, rank-ahead s w k (w .cached-in k (and-first (cached s k) _ c)) x, a .deep h, a .page .its h)
-      by k c (inr x) =
-          omega (arith, rank-behind s k x, a .most k (omega (arith, w .cached-in k (and-first (cached s k) _ c) .low)) c x, a .page .its h)
+  module _ (p : Pick) (a : Rear s files 8 p) where
+    -- no page of the set goes before the page kept
+    pub rear-top : 0 < p .value → (k : ℕ) → T (cachedAmong files s k) → rank s k ≤ p .value
+    rear-top h k c = by (side (ahead s k))
+      where
+        page : Page s k
+        page = w .cached-in k (and-first (cached s k) _ c)
+
+        by : T (ahead s k) ⊎ T (not (ahead s k)) → rank s k ≤ p .value
+        by (inl x) = omega (arith, rank-ahead s w k page x, a .deep h)
+        by (inr x) = omega (arith, rank-behind s k x, a .most k (omega (arith, page .low)) c x)
+
+    -- none is kept, and some reader has each of them before it
+    pub rear-nothing : p .value ≡ 0 → (k : ℕ) → T (cachedAmong files s k) → T (ahead s k)
+    rear-nothing e k c = by (side (ahead s k))
+      where
+        by : T (ahead s k) ⊎ T (not (ahead s k)) → T (ahead s k)
+        by (inl x) = x
+        by (inr x) = absurd (omega (arith, e, a .most k (omega (arith, w .cached-in k (and-first (cached s k) _ c) .low)) c x))

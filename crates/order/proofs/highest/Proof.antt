@@ -1,4 +1,4 @@
--- Invariant: no candidate of the files passed that is of the set ranks higher than the best (`Highest`). Measure: the files left up to the set's last.
+-- Invariant: no cached page of the files passed that are of the set ranks higher than the best (`Highest`). Measure: the files left up to the set's last.
 use Prim.Native.Nat.{_-_, _<_}
 use mathlib.Core.Path.{sym, _∙_}
 use mathlib.Core.Logic.{⊎-elim}
@@ -7,14 +7,15 @@ use borrow.Author.Needs.{needs}
 use Rattle.rules.specs.declared.View.{View}
 use Rattle.files.specs.Sets.{inSet}
 use Rattle.uses.specs.Sights.{stateUnder, Sighted}
-use Rattle.order.specs.Searches.{Highest}
+use Rattle.order.specs.Searches.{NoneFree, Highest}
 use Rattle.order.proofs.Searching.{highest-none, highest-more, highest-skip, highest-all}
 use Rattle.order.proofs.highest.Statement.{statement}
 use Rattle.order.proofs.highest.Tie as tie
 
 abbrev Inv-loop : tie.InvT-loop
 Inv-loop t seats cached fetching files best₀ file₀ end best file =
-    (v : View) → Sighted t seats cached fetching v → Highest (stateUnder t v cached fetching) (inSet files) file best
+    (v : View) → Sighted t seats cached fetching v → NoneFree (stateUnder t v cached fetching) (inSet files)
+    → Highest (stateUnder t v cached fetching) (inSet files) file best
 
 abbrev μ-loop : tie.MeasureT-loop
 μ-loop t seats cached fetching files best₀ file₀ end best file = end - file
@@ -34,7 +35,7 @@ end-of-files-requires : tie.Need-end-of-files-requires Inv-loop μ-loop
 end-of-files-requires c κs = search needs
 
 loop-holds : tie.Need-loop-holds Inv-loop μ-loop
-loop-holds c = λ v g.
+loop-holds c = λ v g free.
     let after-first = c .before in
     highest-none _ _ _ (after-first .first-file .ensures)
 
@@ -56,22 +57,22 @@ loop-less : tie.Need-loop-less Inv-loop μ-loop
 loop-less c = search needs
 
 loop-again : tie.Need-loop-again Inv-loop μ-loop
-loop-again c = λ v g.
+loop-again c = λ v g free.
     let after-has-digit = c .before in
     let at-loop = after-has-digit .before .before in
     let l = at-loop .loop in
     ⊎-elim
-    (λ w. rw (w .2) (highest-more _ _ (l .file) (l .best) (l .inv v g) _
-    (w .1 .ensures v g _ (sym (after-has-digit .has-digit .ensures) ∙ w .0 .taken) (l .inv v g .page))))
-    (λ w. rw (w .1) (highest-skip _ _ (l .file) (l .best) (l .inv v g) (sym (after-has-digit .has-digit .ensures) ∙ w .0 .left)))
+    (λ w. rw (w .2) (highest-more _ _ (l .file) (l .best) (l .inv v g free) _
+    (w .1 .ensures v g _ (sym (after-has-digit .has-digit .ensures) ∙ w .0 .taken) free (l .inv v g free .page))))
+    (λ w. rw (w .1) (highest-skip _ _ (l .file) (l .best) (l .inv v g free) (sym (after-has-digit .has-digit .ensures) ∙ w .0 .left)))
     (c .if1 .came)
 
 returns : tie.Need-returns Inv-loop μ-loop
-returns c = λ v g.
+returns c = λ v g free.
     let at-loop = c .before in
     let after-end = at-loop .before in
     let l = at-loop .loop in
-    highest-all _ _ (l .file) (l .best) (λ f m. after-end .end-of-files .ensures .1 f (omega (arith, c .loop-test .left))) (l .inv v g)
+    highest-all _ _ (l .file) (l .best) (λ f m. after-end .end-of-files .ensures .1 f (omega (arith, c .loop-test .left))) (l .inv v g free)
 
 pub highest-spec : {M : Type 1} → statement M
 highest-spec =

@@ -1,30 +1,35 @@
--- Invariant: the number is what the slots asked so far leave of the rank, and the next part begins and ends where these end. Measure: the parts that are left.
-use Prim.Native.Nat.{ℕ, _+_, _-_, _/_, _≤_, _<_}
-use mathlib.Core.Path.{_≡_, refl}
+-- Invariant: the number kept is what the readers asked leave of the page's rank (`Swept`). Measure: the place reached, down the queue.
+use mathlib.Core.Path.{_≡_, refl, sym, ap, _∙_}
+use Prim.Native.Nat.{ℕ, _+_, _-_, _*_, _/_, _%_, _≤_, _<_}
 use native.Mathlib.Omega.{arith}
 use borrow.Author.Needs.{needs}
 use borrow.Author.Tests.{ltb-true, ltb-false}
+use lib.Dec.{T}
 use lib.ListN.{getD}
+use Rattle.rules.specs.Pages.{pageOf}
+use Rattle.rules.specs.Readers.{readerIn}
+use Rattle.rules.specs.UseTimes.{ahead}
 use Rattle.rules.specs.declared.State.{State}
 use Rattle.rules.specs.declared.View.{View}
-use Rattle.uses.specs.Seats.{Linked}
-use Rattle.uses.specs.Sights.{stateUnder, Sighted}
-use Rattle.order.specs.Searches.{Left}
-use Rattle.uses.proofs.Seating.{chain-first}
-use Rattle.order.proofs.Sweeps.{swept-none, swept-all, before-seat, begins, asked, asked-next, begins-next, begins-linked, asked-start, asked-all}
+use Rattle.rules.specs.declared.Reader.{Reader}
+use Rattle.uses.specs.Sights.{stateUnder, Sits, Sighted}
+use Rattle.order.specs.Searches.{Parted}
+use Rattle.order.proofs.Sweeps.{last-is, last-high, pace-is, stands-before, Swept, Asked, swept-none, swept-past, swept-more, swept-all}
 use Rattle.order.proofs.rank_over.Statement.{statement}
 use Rattle.order.proofs.rank_over.Tie as tie
 
 abbrev Inv-loop : tie.InvT-loop
-Inv-loop t seats cached fetching key floor start page last top₀ from₀ to₀ part₀ top from to part =
-    (part ≤ 2)
-    × (from ≡ begins part start last)
-    × (part < 2 → to ≡ asked part start last)
-    × ((v : View) → Sighted t seats cached fetching v → Linked (v .readers) (key / 1024) start
-    → Left (stateUnder t v cached fetching) key floor (asked part start last) top)
+Inv-loop t seats queue cached fetching key floor first end page top₀ at₀ top at =
+    (page ≡ key % 1024 + 1)
+    × (at ≤ end)
+    × ((v : View) → Sighted t seats cached fetching v → Parted (v .readers) (key / 1024) queue first end (key % 1024) (pageOf key)
+    → T (ahead (stateUnder t v cached fetching) key) → Swept (stateUnder t v cached fetching) key (Asked queue at end) top)
 
 abbrev μ-loop : tie.MeasureT-loop
-μ-loop t seats cached fetching key floor start page last top₀ from₀ to₀ part₀ top from to part = 2 - part
+μ-loop t seats queue cached fetching key floor first end page top₀ at₀ top at = at
+
+abbrev start : tie.After-place Inv-loop μ-loop → tie.Start Inv-loop μ-loop
+start c = c .before .before .before .before
 
 -- a view as the search reads it
 abbrev Seen : tie.Start Inv-loop μ-loop → View → Type 0
@@ -33,48 +38,71 @@ Seen c v = Sighted (c .args .t) (c .args .seats .now) (c .args .cached .now) (c 
 abbrev at : tie.Start Inv-loop μ-loop → View → State
 at c v = stateUnder (c .args .t) v (c .args .cached .now) (c .args .fetching .now)
 
--- the file's last slot
-abbrev last : tie.Start Inv-loop μ-loop → ℕ
-last c = getD (c .args .seats .now) (48 + c .args .key / 1024) 0
+-- in which the readers of the queue stand before the page
+abbrev Stand : tie.Start Inv-loop μ-loop → View → Type 0
+Stand c v = Parted (v .readers) (c .args .key / 1024) (c .args .queue .now) (c .args .first) (c .args .end) (c .args .key % 1024) (pageOf (c .args .key))
 
-linked : (c : tie.Start Inv-loop μ-loop) (v : View) → Seen c v → Linked (v .readers) (c .args .key / 1024) (last c)
-linked c v g = chain-first (v .readers) (c .args .seats .now) (g .seated) (c .args .key / 1024) (omega (arith, c .pre .0))
+-- one there is
+abbrev one : tie.Start Inv-loop μ-loop → View
+one c = c .pre .2 .0
 
--- where the part begins
-begun : (c : tie.Then1 Inv-loop μ-loop) →
-    let at-loop = c .before .before in
-    let at-start = at-loop .before .before in
-    (v : View) → Seen at-start v → Linked (v .readers) (at-start .args .key / 1024) (at-start .args .start)
-    → Linked (v .readers) (at-start .args .key / 1024) (at-loop .loop .from)
-begun c v g l =
-    let at-loop = c .before .before in
-    let at-start = at-loop .before .before in
-    let a = at-start .args in
-    rw (at-loop .loop .inv .1) (begins-linked (v .readers) (a .key / 1024) (at-loop .loop .part) (a .start) (last at-start) l (linked at-start v g))
+seen : (c : tie.Start Inv-loop μ-loop) → Seen c (one c)
+seen c = c .pre .2 .1
+
+stand : (c : tie.Start Inv-loop μ-loop) → Stand c (one c)
+stand c = c .pre .2 .2
+
+-- the turn's place in the queue, and its slot
+abbrev turn : tie.After-place Inv-loop μ-loop → tie.At-loop Inv-loop μ-loop
+turn c = c .before .before .before
+
+abbrev place : tie.After-place Inv-loop μ-loop → ℕ
+place c = turn c .loop .at - 1
+
+abbrev slot : tie.After-place Inv-loop μ-loop → ℕ
+slot c = getD (start c .args .queue .now) (place c) 0 % 16
+
+low : (c : tie.After-place Inv-loop μ-loop) → start c .args .first ≤ place c
+low c =
+    let in-loop = c .before .before in
+    omega (arith, in-loop .loop-test .taken)
+
+high : (c : tie.After-place Inv-loop μ-loop) → place c < start c .args .end
+high c =
+    let in-loop = c .before .before in
+    omega (arith, in-loop .loop-test .taken, turn c .loop .inv .1)
+
+-- the place that the turn comes from
+next : (c : tie.After-place Inv-loop μ-loop) → turn c .loop .at ≡ place c + 1
+next c =
+    let in-loop = c .before .before in
+    omega (arith, in-loop .loop-test .taken)
+
+-- the turn's reader has the page before it
+sits : (c : tie.Then2 Inv-loop μ-loop) →
+    let after-place = c .before .before in
+    let a = start after-place .args in
+    (v : View) → Seen (start after-place) v → Stand (start after-place) v
+    → Sits v (slot after-place) (getD (a .queue .now) (place after-place) 0 / 16) (getD (a .seats .now) (16 + slot after-place) 0) (a .key)
+sits c v g p =
+    let after-place = c .before .before in
+    let s = start after-place in
+    let a = s .args in
+    let l = low after-place in
+    let u = high after-place in
+    record {
+      ahead =
+          stands-before (at s v) (g .valid) (a .seats .now) (g .seated) (a .key / 1024) (a .queue .now) _ _ _ _ p (place after-place) l u (a .key) refl
+          (omega arith) (omega (arith, c .if2 .taken, turn after-place .loop .inv .0));
+      position-is = p .position (place after-place) l u;
+      pace-is = pace-is (at s v) (g .valid) (a .seats .now) (g .seated) (a .key / 1024) (a .queue .now) _ _ _ _ p (place after-place) l u;
+    }
 
 add-page : tie.Need-add-page Inv-loop μ-loop
 add-page c = search needs
 
-add-last : tie.Need-add-last Inv-loop μ-loop
-add-last c = search needs
-
-mul-last : tie.Need-mul-last Inv-loop μ-loop
-mul-last c = search needs
-
-element-copy-out-last : tie.Need-element-copy-out-last Inv-loop μ-loop
-element-copy-out-last c = search needs
-
-cast-last : tie.Need-cast-last Inv-loop μ-loop
-cast-last c =
-    let at-start = c .before in
-    let one = at-start .pre .1 in
-    omega (arith, linked at-start (one .0) (one .1) .high)
-
 mul-top : tie.Need-mul-top Inv-loop μ-loop
 mul-top c = search needs
-
-mul-top-2 : tie.Need-mul-top-2 Inv-loop μ-loop
-mul-top-2 c = search needs
 
 add-top : tie.Need-add-top Inv-loop μ-loop
 add-top c = search needs
@@ -83,67 +111,111 @@ add-top-2 : tie.Need-add-top-2 Inv-loop μ-loop
 add-top-2 c = search needs
 
 loop-holds : tie.Need-loop-holds Inv-loop μ-loop
-loop-holds c =
-    let at-start = c .before in (
-      omega arith,
-      refl,
-      λ _. refl,
-      λ v g l.
-          let none = swept-none (at at-start v) (at-start .args .key) in
-          record { bound = none .low; exact = λ _. none },
+loop-holds c = (refl, omega arith, λ v g p a. swept-none (at c v) (c .args .key) (c .args .queue .now) (c .args .end) a)
+
+sub-at : tie.Need-sub-at Inv-loop μ-loop
+sub-at c = search needs
+
+mul-place : tie.Need-mul-place Inv-loop μ-loop
+mul-place c = search needs
+
+element-copy-out-place : tie.Need-element-copy-out-place Inv-loop μ-loop
+element-copy-out-place c = search needs
+
+cast-slot : tie.Need-cast-slot Inv-loop μ-loop
+cast-slot c = search needs
+
+add-if2 : tie.Need-add-if2 Inv-loop μ-loop
+add-if2 c = search needs
+
+mul-if2 : tie.Need-mul-if2 Inv-loop μ-loop
+mul-if2 c = search needs
+
+element-copy-out-if2 : tie.Need-element-copy-out-if2 Inv-loop μ-loop
+element-copy-out-if2 c = search needs
+
+cast-if2 : tie.Need-cast-if2 Inv-loop μ-loop
+cast-if2 c =
+    let after-place = c .before in
+    let s = start after-place in
+    omega (
+      arith,
+      last-high (at s (one s)) (seen s .valid) (s .args .seats .now) (seen s .seated) (s .args .key / 1024) (s .args .queue .now) _ _ _ _ (stand s)
+          (place after-place) (low after-place) (high after-place),
     )
 
-rank-among-requires : tie.Need-rank-among-requires Inv-loop μ-loop
-rank-among-requires c κs =
-    let at-start = c .before .before .before .before in
-    let one = at-start .pre .1 in
-    (at-start .pre .0, (one .0, one .1, begun c (one .0) (one .1) (one .2)))
+add-pace : tie.Need-add-pace Inv-loop μ-loop
+add-pace c = search needs
 
-add-part : tie.Need-add-part Inv-loop μ-loop
-add-part c = search needs
+mul-pace : tie.Need-mul-pace Inv-loop μ-loop
+mul-pace c = search needs
+
+element-copy-out-pace : tie.Need-element-copy-out-pace Inv-loop μ-loop
+element-copy-out-pace c = search needs
+
+lowered-requires : tie.Need-lowered-requires Inv-loop μ-loop
+lowered-requires c κs =
+    let after-place = c .before .before .before in
+    let s = start after-place in
+    (seen s .valid .turn-high, omega arith, s .pre .0, stand s .low (place after-place) (low after-place) (high after-place))
 
 loop-less : tie.Need-loop-less Inv-loop μ-loop
-loop-less c = search needs
+loop-less c =
+    let after-place = c .before .before .before .before in
+    omega (arith, next after-place)
 
 loop-again : tie.Need-loop-again Inv-loop μ-loop
 loop-again c =
-    let then-1 = c .before in
-    let in-loop = then-1 .before in
-    let at-loop = in-loop .before in
-    let at-start = at-loop .before .before in
-    let a = at-start .args in
-    let l = at-loop .loop in (
-      omega (arith, in-loop .loop-test .taken),
-      begins-next (l .part) (a .start) (last at-start),
-      λ h. asked-start (l .part) (a .start) (last at-start) h,
-      λ v g k.
-          let so-far = rw (← l .inv .2 (in-loop .loop-test .taken)) at (l .inv .3 v g k) in
-          let r = c .rank-among .ensures v g (begun then-1 v g k) (so-far .exact (ltb-true _ _ (then-1 .if1 .taken))) in
-          rw (asked-next (l .part) (a .start) (last at-start) (in-loop .loop-test .taken), ← l .inv .1) r,
+    let then-2 = c .before .before in
+    let after-place = then-2 .before .before in
+    let s = start after-place in (
+      refl,
+      omega (arith, high after-place),
+      λ v g p a.
+          swept-more (at s v) (s .args .key) (s .args .queue .now) (s .args .end) (turn after-place .loop .at) (place after-place)
+          (turn after-place .loop .top) (next after-place) (turn after-place .loop .inv .2 v g p a) _
+          (c .lowered .ensures v (g .valid) (sits then-2 v g p)),
+    )
+
+loop-less-2 : tie.Need-loop-less-2 Inv-loop μ-loop
+loop-less-2 c =
+    let after-place = c .before .before in
+    omega (arith, next after-place)
+
+loop-again-2 : tie.Need-loop-again-2 Inv-loop μ-loop
+loop-again-2 c =
+    let after-place = c .before .before in
+    let s = start after-place in (
+      refl,
+      omega (arith, high after-place),
+      λ v g p a.
+          swept-past (at s v) (s .args .key) (s .args .queue .now) (s .args .end) (turn after-place .loop .at) (place after-place)
+          (turn after-place .loop .top) (next after-place) (turn after-place .loop .inv .2 v g p a)
+          (omega (
+            arith,
+            c .if2 .left,
+            turn after-place .loop .inv .0,
+            last-is (at s v) (g .valid) (s .args .seats .now) (g .seated) (s .args .key / 1024) (s .args .queue .now) _ _ _ _ p (place after-place)
+                (low after-place) (high after-place),
+          )),
     )
 
 returns : tie.Need-returns Inv-loop μ-loop
-returns c = λ v g k.
-    let at-loop = c .before .before in
-    let at-start = at-loop .before .before in
-    let l = at-loop .loop in
+returns c = λ v g p a.
+    let l = c .before .before .loop in
+    let at-start = c .before .before .before in
     let low = ltb-false (at-start .args .floor) (l .top) (c .if1 .left) in
-    record { bound = l .inv .3 v g k .bound; exact = λ h. absurd (omega (arith, low)) }
+    record { bound = l .inv .2 v g p a .bound; exact = λ h. absurd (omega (arith, low)) }
 
 returns-2 : tie.Need-returns-2 Inv-loop μ-loop
-returns-2 c = λ v g k.
-    let at-loop = c .before in
-    let at-start = at-loop .before .before in
-    let a = at-start .args in
-    let l = at-loop .loop in
-    let S = at at-start v in
-    let e : l .part ≡ 2 = omega (arith, l .inv .0, c .loop-test .left) in
-    let all = rw (asked-all (l .part) (a .start) (last at-start) e) at (l .inv .3 v g k) in
+returns-2 c = λ v g p a.
+    let l = c .before .loop in
+    let s = c .before .before in
+    let all = l .inv .2 v g p a in
     record {
       bound = all .bound;
-      exact = λ h.
-          (swept-all S (a .key) (λ j. j < last at-start) (l .top) (all .exact h) (g .valid .look-high) (λ j u b.
-          omega (arith, g .seated .last (a .key / 1024) (omega (arith, at-start .pre .0)), before-seat S (a .key) 16 j u b)));
+      exact = λ _.
+          swept-all (at s v) (s .args .key) (s .args .queue .now) (s .args .end) (s .args .first) (l .at) (l .top) (c .loop-test .left) (g .valid) a p all;
     }
 
 pub rank-over-spec : {M : Type 1} → statement M
@@ -153,18 +225,25 @@ rank-over-spec =
     Inv-loop
     μ-loop
     add-page
-    add-last
-    mul-last
-    element-copy-out-last
-    cast-last
     mul-top
-    mul-top-2
     add-top
     add-top-2
     loop-holds
-    rank-among-requires
-    add-part
+    sub-at
+    mul-place
+    element-copy-out-place
+    cast-slot
+    add-if2
+    mul-if2
+    element-copy-out-if2
+    cast-if2
+    add-pace
+    mul-pace
+    element-copy-out-pace
+    lowered-requires
     loop-less
     loop-again
+    loop-less-2
+    loop-again-2
     returns
     returns-2)
