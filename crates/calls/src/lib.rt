@@ -463,7 +463,7 @@ pub fn prefetch(v: View, cached: &[u64; 128], fetching: &mut [u64; 128]) -> Answ
     requires { ⌜ Valid (stateOf v (now cached) (now fetching)) ⌝ }
     ensures { λ r. ⌜ reply (stateOf v (now (cached .entry)) (now (fetching .exit))) r ≡ prefetchOf (stateOf v (now (cached .entry)) (now (fetching .entry))) ⌝ }
 {
-    let next = fetches::next_fetch(v, cached, fetching);
+    let next = fetch::next_fetch(v, cached, fetching);
     match next {
         Choice::Key(k) => {
             bits::set_bit(fetching, k as usize);

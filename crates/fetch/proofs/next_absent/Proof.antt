@@ -6,9 +6,9 @@ use borrow.Author.Needs.{needs}
 use borrow.Author.Tests.{ltb-true, ltb-false}
 use Rattle.bits.proofs.Finds.{Without, Next, without-join, next-at, next-none}
 use Rattle.bits.specs.Map.{joined}
-use Rattle.fetches.proofs.Lacks.{clear-word}
-use Rattle.fetches.proofs.next_absent.Statement.{statement}
-use Rattle.fetches.proofs.next_absent.Tie as tie
+use Rattle.fetch.proofs.Lacks.{clear-word}
+use Rattle.fetch.proofs.next_absent.Statement.{statement}
+use Rattle.fetch.proofs.next_absent.Tie as tie
 
 -- each key from `from` on to `at` is in one of the maps
 abbrev Inv-loop : tie.InvT-loop

@@ -24,7 +24,7 @@ use Rattle.rules.specs.declared.Reader.{Reader}
 use Rattle.uses.specs.Sights.{lower}
 use Rattle.uses.specs.declared.Pick.{Pick}
 use Rattle.uses.proofs.Slots.{lower-least}
-use Rattle.fetches.specs.Soonest.{Soonest}
+use Rattle.fetch.specs.Soonest.{Soonest}
 
 -- a page is absent where its bit is 0 in the maps joined
 absent-bit : (s : State) (k : ℕ) → eqb (bit (joined (s .cached) (s .fetching)) k) 0 ≡ absent s k

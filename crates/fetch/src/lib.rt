@@ -16,7 +16,7 @@ ghost use Rattle.rules.specs.Valid.{Valid};
 ghost use Rattle.rules.specs.Orders.{fetchOrder};
 ghost use Rattle.rules.specs.Views.{stateOf};
 ghost use Rattle.uses.specs.Choices.{chosen};
-ghost use Rattle.fetches.specs.Soonest.{Soonest};
+ghost use Rattle.fetch.specs.Soonest.{Soonest};
 
 // The first digit from digit s on that is 0 in both words, or 64: the first 1 of the complement of both together.
 fn next_clear(x: u64, y: u64, s: usize) -> usize

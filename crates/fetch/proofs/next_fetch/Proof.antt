@@ -4,10 +4,10 @@ use Prim.Native.Nat.{_-_, _≤_}
 use native.Mathlib.Omega.{arith}
 use borrow.Author.Needs.{needs}
 use Rattle.rules.specs.Views.{stateOf}
-use Rattle.fetches.specs.Soonest.{Soonest}
-use Rattle.fetches.proofs.Searching.{soonest-none, soonest-fetch, soonest-nothing}
-use Rattle.fetches.proofs.next_fetch.Statement.{statement}
-use Rattle.fetches.proofs.next_fetch.Tie as tie
+use Rattle.fetch.specs.Soonest.{Soonest}
+use Rattle.fetch.proofs.Searching.{soonest-none, soonest-fetch, soonest-nothing}
+use Rattle.fetch.proofs.next_fetch.Statement.{statement}
+use Rattle.fetch.proofs.next_fetch.Tie as tie
 
 abbrev Inv-loop : tie.InvT-loop
 Inv-loop cached fetching v best₀ slot₀ best slot = (slot ≤ 16) × Soonest (stateOf v cached fetching) slot best

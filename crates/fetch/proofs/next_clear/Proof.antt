@@ -4,9 +4,9 @@ use native.Mathlib.Omega.{arith}
 use lib.Bits.{bitOr}
 use lib.Count.{trailing-le}
 use borrow.Author.Needs.{needs}
-use Rattle.fetches.proofs.Lacks.{clear-shr}
-use Rattle.fetches.proofs.next_clear.Statement.{statement}
-use Rattle.fetches.proofs.next_clear.Tie as tie
+use Rattle.fetch.proofs.Lacks.{clear-shr}
+use Rattle.fetch.proofs.next_clear.Statement.{statement}
+use Rattle.fetch.proofs.next_clear.Tie as tie
 
 shr-r : tie.Need-shr-r
 shr-r c = search needs

@@ -19,9 +19,9 @@ use Rattle.rules.specs.Views.{stateOf}
 use Rattle.uses.specs.Sights.{lower}
 use Rattle.uses.proofs.Between.{first-between}
 use Rattle.uses.proofs.Slots.{lower-least}
-use Rattle.fetches.proofs.Searching.{none-absent, first-absent, soonest-keep, soonest-take}
-use Rattle.fetches.proofs.sooner.Statement.{statement}
-use Rattle.fetches.proofs.sooner.Tie as tie
+use Rattle.fetch.proofs.Searching.{none-absent, first-absent, soonest-keep, soonest-take}
+use Rattle.fetch.proofs.sooner.Statement.{statement}
+use Rattle.fetch.proofs.sooner.Tie as tie
 
 abbrev at : tie.Start → State
 at c = stateOf (c .args .v) (c .args .cached .now) (c .args .fetching .now)
