@@ -2,11 +2,11 @@
 use mathlib.Core.Path.{_≡_}
 use mathlib.Core.Bool.{Bool}
 use mathlib.Core.Option.{none, some}
-use Prim.Native.Nat.{ℕ, _≤_, _<_}
+use Prim.Native.Nat.{ℕ, _<_}
 use native.Mathlib.Omega.{arith}
 use Rattle.rules.specs.Pages.{cached}
 use Rattle.rules.specs.Valid.{Valid}
-use Rattle.rules.specs.Ranks.{rank, victimAmong}
+use Rattle.rules.specs.Ranks.{victimAmong}
 use Rattle.rules.proofs.laws.Tests.{and-first}
 use Rattle.rules.proofs.orders.Distinct.{rank-positive, among-none, head-is}
 use Rattle.rules.specs.declared.State.{State}

@@ -1,8 +1,8 @@
 -- The search for the page of the highest rank, from reader to reader and from file to file. Assumes nothing.
-use mathlib.Core.Path.{_≡_, refl, sym, ap, subst, _∙_}
+use mathlib.Core.Path.{_≡_, sym, ap, subst, _∙_}
 use mathlib.Core.Bool.{Bool, true, false}
 use mathlib.Core.List.{List}
-use Prim.Native.Nat.{ℕ, _+_, _-_, _*_, _/_, _%_, _≤_, _<_}
+use Prim.Native.Nat.{ℕ, _+_, _-_, _*_, _/_, _≤_, _<_}
 use native.Mathlib.Decide.{ℕ-discrete, decLt}
 use native.Mathlib.Omega.{arith}
 use borrow.Author.Tests.{eq-eqb}
@@ -24,7 +24,7 @@ use Rattle.files.specs.Sets.{NoFile}
 use Rattle.files.proofs.Sets.{below}
 use Rattle.uses.specs.declared.Pick.{Pick}
 use Rattle.uses.specs.Sights.{Ranked}
-use Rattle.queues.specs.Queues.{In, Queued}
+use Rattle.uses.specs.Queues.{Queued}
 use Rattle.rears.proofs.Rearing.{some-ahead}
 use Rattle.order.specs.Searches.{Parted, Over, NoneFree, Raised, Highest}
 use Rattle.order.proofs.Sweeps.{before-reads, rank-most}

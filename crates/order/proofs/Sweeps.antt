@@ -1,6 +1,6 @@
 -- A page's rank by a pass over the readers that stand before it. Assumes nothing.
 use mathlib.Core.Path.{_≡_, refl, sym, ap, _∙_}
-use mathlib.Core.Bool.{Bool, true, false, not, cond, _&&_}
+use mathlib.Core.Bool.{not}
 use mathlib.Core.List.{List}
 use mathlib.Core.Logic.{_⊎_, inl, inr}
 use Prim.Native.Nat.{ℕ, min, _+_, _-_, _*_, _/_, _%_, _≤_, _<_}
@@ -11,7 +11,7 @@ use lib.Dec.{T, T-not, eqb→eq}
 use lib.ListN.{getD}
 use Rattle.rules.specs.Pages.{fileOf, pageOf}
 use Rattle.rules.specs.Readers.{readerAt, readerIn, attached, readsFile}
-use Rattle.rules.specs.UseTimes.{before, sees, never, useFor, useKey, ahead, seen}
+use Rattle.rules.specs.UseTimes.{sees, never, useFor, ahead, seen}
 use Rattle.rules.specs.Orders.{place}
 use Rattle.rules.specs.Valid.{Valid}
 use Rattle.rules.proofs.laws.Tests.{side, is-true, is-false, and-both, and-first, and-second}
@@ -24,7 +24,7 @@ use Rattle.rules.specs.declared.State.{State}
 use Rattle.rules.specs.declared.Reader.{Reader}
 use Rattle.uses.specs.Seats.{Seated}
 use Rattle.uses.specs.Sights.{lower}
-use Rattle.queues.specs.Queues.{In, InFile, Queued}
+use Rattle.uses.specs.Queues.{In, InFile, Queued}
 use Rattle.order.specs.Searches.{Parted}
 
 -- ---- who stands before a page

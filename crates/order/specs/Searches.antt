@@ -1,7 +1,7 @@
 -- The search for the page to give up: which readers stand before a page, and the best page so far, with its number. Assumes nothing: these are definitions.
 use Prim.Native.Nat.{ℕ, _*_, _+_, _/_, _%_, _≤_, _<_}
 use mathlib.Core.Path.{_≡_}
-use mathlib.Core.Bool.{Bool}
+use mathlib.Core.Bool.{Bool, true}
 use mathlib.Core.List.{List}
 use lib.Dec.{T}
 use lib.ListN.{getD}
@@ -15,7 +15,7 @@ use Rattle.rules.specs.declared.Reader.{Reader}
 use Rattle.uses.specs.declared.Pick.{Pick}
 use Rattle.uses.specs.declared.Terms.{Terms}
 use Rattle.uses.specs.Sights.{Sighted, Ranked}
-use Rattle.queues.specs.Queues.{In, Queued}
+use Rattle.uses.specs.Queues.{In, Queued}
 
 -- ---- the readers of a file
 
@@ -28,7 +28,8 @@ pub record Parted (readers : List Reader) (f : ℕ) (queue : List ℕ) (first en
   pub reads : (i : ℕ) → first ≤ i → i < end → T (readsFile f (readerIn readers (getD queue i 0 % 16)))
   pub position : (i : ℕ) → first ≤ i → i < end → getD queue i 0 / 16 ≡ readerIn readers (getD queue i 0 % 16) .position
   pub low : (i : ℕ) → first ≤ i → i < end → getD queue i 0 / 16 ≤ below
-  pub all : (j : ℕ) → j < 16 → T (readsFile f (readerIn readers j)) → readerIn readers j .position < n → In queue first end (readerIn readers j .position * 16 + j)
+  pub all : (j : ℕ) → j < 16 → T (readsFile f (readerIn readers j)) → readerIn readers j .position < n
+      → In queue first end (readerIn readers j .position * 16 + j)
 
 -- so it is in a view as the search reads it
 abbrev pub SightParted : Terms → List ℕ → List ℕ → List ℕ → List ℕ → ℕ → ℕ → ℕ → ℕ → ℕ → Type 0
@@ -51,6 +52,10 @@ pub record Raised (s : State) (files : ℕ → Bool) (f below n : ℕ) (p q : Pi
   pub page : Ranked s files q
   pub up : p .value ≤ q .value
   pub most : (k : ℕ) → T (cached s k) → fileOf k ≡ f → below < pageOf k → pageOf k ≤ n → rank s k ≤ q .value
+
+-- so it is in every set that has the file and whose cached pages some reader has before it
+abbrev pub Looked : State → ℕ → ℕ → ℕ → Pick → Pick → Type 0
+Looked s f below n p q = (files : ℕ → Bool) → files f ≡ true → NoneFree s files → Ranked s files p → Raised s files f below n p q
 
 -- the page kept, if any, is of the set, and no cached page of the set's first n files has a higher rank
 pub record Highest (s : State) (files : ℕ → Bool) (n : ℕ) (p : Pick) : Type 0 where

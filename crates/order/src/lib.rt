@@ -21,8 +21,8 @@ ghost use Rattle.parts.specs.Held.{Held};
 ghost use Rattle.files.specs.Sets.{inSet};
 ghost use Rattle.uses.specs.Choices.{chosen};
 ghost use Rattle.uses.specs.Sights.{stateUnder, Sighted, Sight, Ranked};
-ghost use Rattle.queues.specs.Queues.{Queued};
-ghost use Rattle.order.specs.Searches.{Parted, SightParted, SightQueued, Over, NoneFree, Raised, Highest, First};
+ghost use Rattle.uses.specs.Queues.{Queued};
+ghost use Rattle.order.specs.Searches.{Parted, SightParted, SightQueued, Over, NoneFree, Looked, Highest, First};
 
 // ---- the page to give up, by ranks
 
@@ -40,7 +40,8 @@ fn rank_over<'a>(
     first: usize,
     end: usize,
 ) -> u64
-    requires { ⌜ (key < 8192) × (end ≤ 32) × SightParted t (now seats) (now cached) (now fetching) (now queue) (key / 1024) first end (key % 1024) (pageOf key) ⌝ }
+    requires { ⌜ (key < 8192) × (end ≤ 32) ⌝ }
+    requires { ⌜ SightParted t (now seats) (now cached) (now fetching) (now queue) (key / 1024) first end (key % 1024) (pageOf key) ⌝ }
     ensures { λ r. ⌜ ((v : View) → Sighted t (now (seats .entry)) (now (cached .entry)) (now (fetching .entry)) v
         → Parted (v .readers) (key / 1024) (now (queue .entry)) first end (key % 1024) (pageOf key)
         → T (ahead (stateUnder t v (now (cached .entry)) (now (fetching .entry))) key)
@@ -51,11 +52,11 @@ fn rank_over<'a>(
     let mut at = end;
     while first < at && floor < top {
         at -= 1;
-        let place = queue[at];
-        let slot = (place % 16) as usize;
+        let number = queue[at];
+        let slot = (number % 16) as usize;
         if page <= seats[56 + slot] as usize {
             let pace = seats[16 + slot];
-            top = uses::lowered(t, cached, fetching, slot, place / 16, pace, key, top);
+            top = uses::lowered(t, cached, fetching, slot, number / 16, pace, key, top);
         }
     }
     top
@@ -77,10 +78,8 @@ fn higher<'a>(
 ) -> Pick
     requires { ⌜ (file < 8) × (n ≤ 1024) × (end ≤ 32) × SightParted t (now seats) (now cached) (now fetching) (now queue) file first end below n ⌝ }
     ensures { λ r. ⌜ ((v : View) → Sighted t (now (seats .entry)) (now (cached .entry)) (now (fetching .entry)) v
-        → Parted (v .readers) file (now (queue .entry)) first end below n → (files : ℕ → Bool) → files file ≡ true
-        → NoneFree (stateUnder t v (now (cached .entry)) (now (fetching .entry))) files
-        → Ranked (stateUnder t v (now (cached .entry)) (now (fetching .entry))) files best
-        → Raised (stateUnder t v (now (cached .entry)) (now (fetching .entry))) files file below n best r) ⌝ }
+        → Parted (v .readers) file (now (queue .entry)) first end below n
+        → Looked (stateUnder t v (now (cached .entry)) (now (fetching .entry))) file below n best r) ⌝ }
 {
     let page = bits::last_set(cached, file * 1024, n);
     if page <= below {
@@ -105,9 +104,9 @@ fn higher<'a>(
     best
 }
 
-// The best page after a look at a file whose readers are queued, and each of whose cached pages some reader has before it. Of those with no reader between, only
-// the last can be of the highest rank. So the readers are passed from the last position down, and from one to the next the last cached page is looked at. A page
-// in no look-ahead ranks by its number: where none up to the next position can rank higher, that is all.
+// The best page after a look at a file whose readers are queued, and each of whose cached pages some reader has before it. Of its pages with no reader between,
+// only the last can be of the highest rank. So the readers are passed from the last position down, and from one to the next the last cached page is looked at.
+// A page in no look-ahead ranks by its number: where none up to the next position can rank higher, that is all.
 fn highest_along<'a>(
     t: Terms,
     seats: &[u16; 72],
@@ -121,10 +120,8 @@ fn highest_along<'a>(
 ) -> Pick
     requires { ⌜ (file < 8) × (end ≤ 32) × SightQueued t (now seats) (now cached) (now fetching) (now queue) file first end ⌝ }
     ensures { λ r. ⌜ ((v : View) → Sighted t (now (seats .entry)) (now (cached .entry)) (now (fetching .entry)) v
-        → Queued (v .readers) file 0 (now (queue .entry)) first end → (files : ℕ → Bool) → files file ≡ true
-        → NoneFree (stateUnder t v (now (cached .entry)) (now (fetching .entry))) files
-        → Ranked (stateUnder t v (now (cached .entry)) (now (fetching .entry))) files kept
-        → Raised (stateUnder t v (now (cached .entry)) (now (fetching .entry))) files file 0 1024 kept r) ⌝ }
+        → Queued (v .readers) file 0 (now (queue .entry)) first end
+        → Looked (stateUnder t v (now (cached .entry)) (now (fetching .entry))) file 0 1024 kept r) ⌝ }
 {
     let mut best = kept;
     let mut n: usize = 1024;
@@ -160,13 +157,11 @@ fn highest_of<'a>(
     kept: Pick,
 ) -> Pick
     requires { ⌜ (file < 8) × Sight t (now seats) (now cached) (now fetching) ⌝ }
-    ensures { λ r. ⌜ ((v : View) → Sighted t (now (seats .entry)) (now (cached .entry)) (now (fetching .entry)) v → (files : ℕ → Bool) → files file ≡ true
-        → NoneFree (stateUnder t v (now (cached .entry)) (now (fetching .entry))) files
-        → Ranked (stateUnder t v (now (cached .entry)) (now (fetching .entry))) files kept
-        → Raised (stateUnder t v (now (cached .entry)) (now (fetching .entry))) files file 0 1024 kept r) ⌝ }
+    ensures { λ r. ⌜ ((v : View) → Sighted t (now (seats .entry)) (now (cached .entry)) (now (fetching .entry)) v
+        → Looked (stateUnder t v (now (cached .entry)) (now (fetching .entry))) file 0 1024 kept r) ⌝ }
 {
     let mut queue = [0u16; 32];
-    let span = queues::queue_up(seats, file, &mut queue);
+    let span = uses::queue_up(seats, file, &mut queue);
     highest_along(
         t,
         seats,

@@ -7,9 +7,9 @@ use mathlib.Core.Bool.{Bool, cond, _&&_, _||_}
 use mathlib.Core.List.{List, [], _∷_}
 use mathlib.Core.Option.{Option}
 use lib.Dec.{T}
-use Rattle.bits.specs.Map.{on, lastBit}
+use Rattle.bits.specs.Map.{on}
 use Rattle.rules.specs.Lists.{only, head}
-use Rattle.rules.specs.Pages.{fileOf, pageOf, keyOf, cached}
+use Rattle.rules.specs.Pages.{fileOf, pageOf, cached}
 use Rattle.rules.specs.Readers.{readerAt, attached, nextKey}
 use Rattle.rules.specs.UseTimes.{before, present, sees, never, useFor, useKey, ahead, seen}
 use Rattle.rules.specs.Orders.{place, order1989, standingIn, absent}
@@ -52,14 +52,6 @@ victimAmong files s = head (only (λ k. files (fileOf k)) (order1989 s))
 -- a key's number, then the key
 abbrev pub pack : (ℕ → ℕ) → ℕ → ℕ
 pack g k = g k * 8192 + k
-
--- the last cached one of file f's first n pages; 0 where there is none
-abbrev pub lastCached : State → ℕ → ℕ → ℕ
-lastCached s f n = lastBit (s .cached) (f * 1024) n
-
--- the last cached one of file f's first n pages, if any, has a rank of at most b
-abbrev pub AtMost : State → ℕ → ℕ → ℕ → Type 0
-AtMost s b f n = 0 < lastCached s f n → rank s (keyOf f (lastCached s f n)) ≤ b
 
 -- ---- the steal order of the 1993 rule (A.6)
 

@@ -232,17 +232,14 @@ module _ (readers : List Reader) (seats : List ℕ) (a : Seated readers 16 seats
     abbrev reader : Reader
     reader = readerIn readers (at - 1)
 
-    pub chain-here : T (attached reader)
+    chain-here : T (attached reader)
     chain-here = and-first (attached reader) _ (l .sits some)
 
-    pub chain-file : reader .file ≡ f
+    chain-file : reader .file ≡ f
     chain-file = eqb→eq _ _ (and-second (attached reader) _ (l .sits some))
 
     pub chain-position : getD seats (at - 1) 0 ≡ reader .position
     chain-position = a .position (at - 1) (omega (arith, l .high))
-
-    pub chain-pace : getD seats (16 + (at - 1)) 0 ≡ reader .pace
-    chain-pace = a .pace (at - 1) (omega (arith, l .high)) chain-here
 
     pub chain-reach : getD seats (56 + (at - 1)) 0 ≡ reader .last
     chain-reach = a .reach (at - 1) (omega (arith, l .high)) chain-here

@@ -14,7 +14,7 @@ use Rattle.rules.specs.declared.View.{View}
 use Rattle.rules.specs.declared.Reader.{Reader}
 use Rattle.uses.specs.declared.Terms.{Terms}
 use Rattle.uses.specs.declared.Pick.{Pick}
-use Rattle.uses.specs.Seats.{Seated, Linked}
+use Rattle.uses.specs.Seats.{Seated}
 
 -- ---- what a search reads of a view
 
@@ -55,10 +55,6 @@ pub record Sighted (t : Terms) (seats cached fetching : List ℕ) (v : View) : T
 -- there is such a view
 abbrev pub Sight : Terms → List ℕ → List ℕ → List ℕ → Type 0
 Sight t seats cached fetching = (v : View) × Sighted t seats cached fetching v
-
--- and `at`, counted from 1, is in it a slot with a reader of file f, or none
-abbrev pub SightAt : Terms → List ℕ → List ℕ → List ℕ → ℕ → ℕ → Type 0
-SightAt t seats cached fetching f at = (v : View) × Sighted t seats cached fetching v × Linked (v .readers) f at
 
 -- the array is that of some readers
 abbrev pub SeatsOf : List ℕ → Type 0

@@ -81,7 +81,7 @@ fn machine() -> String {
 /// Every call, with 1,024 frames unless said.
 fn calls() -> Vec<Case> {
     let mut cases = arrivals(&[(10_240, 0), (2_000_000, 0), (10_240, 1), (2_000_000, 100)]);
-    cases.extend(reseated());
+    cases.extend(reseated_arrivals());
     let image = busy(FULL).image();
     let measure = Call::Measure {
         slot: 9,
@@ -107,6 +107,7 @@ fn calls() -> Vec<Case> {
     cases.extend(on_the_link());
     cases.extend(runs(10_240, 0));
     cases.extend(runs(2_000_000, 100));
+    cases.extend([run_on_one_file(10_240, 0), run_on_one_file(2_000_000, 100)]);
     cases.extend([run_of_hits(), run_of_paces(0), run_of_paces(50)]);
     cases
 }
@@ -114,31 +115,52 @@ fn calls() -> Vec<Case> {
 /// In words, and the slot that the reader of each slot gets.
 type Seating = (&'static str, fn(u64) -> u64);
 
-/// Arrivals that steal, on one file, with the readers in other slots: the one in the
-/// first, who docked first, is furthest ahead; or they are in no order.
-fn reseated() -> Vec<Case> {
-    let seatings: [Seating; 2] = [
-        ("the first slot furthest ahead", |slot| 15 - slot),
-        ("slots in no order", |slot| slot * 7 % 16),
-    ];
+/// The reader in the first slot, who docked first, is furthest ahead.
+const DOCKED_IN_TURN: Seating = ("the first slot furthest ahead", |slot| 15 - slot);
+const IN_NO_ORDER: Seating = ("slots in no order", |slot| slot * 7 % 16);
+
+/// The same readers in other slots.
+fn reseated(mut state: State, (_, slot_of): Seating) -> State {
+    let readers = state.readers.into_iter();
+    state.readers = readers.map(|(slot, it)| (slot_of(slot), it)).collect();
+    state
+}
+
+/// Arrivals that steal, on one file, with the readers in other slots.
+fn reseated_arrivals() -> Vec<Case> {
     let mut cases = Vec::new();
-    for (seating, slot_of) in seatings {
-        for fetch_time in [0, 1] {
-            let mut state = busy(Quay {
+    for seating in [DOCKED_IN_TURN, IN_NO_ORDER] {
+        for (look_ahead, fetch_time) in [(10_240, 0), (10_240, 1), (2_000_000, 100)] {
+            let state = busy(Quay {
                 files: 1,
                 frames: 768,
+                look_ahead,
                 fetch_time,
                 ..FULL
             });
-            let readers = state.readers.into_iter();
-            state.readers = readers.map(|(slot, it)| (slot_of(slot), it)).collect();
             let name = format!(
-                "Arrive that steals, 16 readers on one file, {seating}, L 10240, T {fetch_time}"
+                "Arrive that steals, 16 readers on one file, {}, L {look_ahead}, T {fetch_time}",
+                seating.0
             );
-            cases.push(arrive(name, state));
+            cases.push(arrive(name, reseated(state, seating)));
         }
     }
     cases
+}
+
+/// A run of sixteen readers on one file, in slots of no order, with few frames.
+fn run_on_one_file(look_ahead: u64, fetch_time: u64) -> Case {
+    let quay = Quay {
+        files: 1,
+        frames: 64,
+        look_ahead,
+        fetch_time,
+        ..FULL
+    };
+    let mut case = run_of(quay, |state| reseated(state, IN_NO_ORDER));
+    case.name += ", 16 readers on one file, ";
+    case.name += IN_NO_ORDER.0;
+    case
 }
 
 /// An arrival for which a page goes that no reader still has before it: the reader in slot
@@ -175,6 +197,7 @@ fn on_the_link() -> [Case; 2] {
 fn short_calls() -> Vec<Case> {
     let mut cases = arrivals(&[(10_240, 100), (1_000, 0), (1_000, 50)]);
     cases.extend(runs(1_000, 50));
+    cases.push(run_on_one_file(1_000, 50));
     cases
 }
 

@@ -1,14 +1,15 @@
 -- There is no such page, its rank is higher, or the best stays.
 use mathlib.Core.Path.{_≡_}
-use Prim.Native.Nat.{_+_, _-_, _*_, _/_, _%_, _≤_}
+use mathlib.Core.Bool.{Bool, true}
+use Prim.Native.Nat.{ℕ, _+_, _-_, _*_, _/_, _%_, _≤_}
 use native.Mathlib.Omega.{arith}
 use borrow.Author.Needs.{needs}
 use Rattle.bits.proofs.Finds.{last-is}
 use Rattle.rules.specs.Pages.{pageOf}
 use Rattle.rules.specs.declared.State.{State}
 use Rattle.rules.specs.declared.View.{View}
-use Rattle.uses.specs.Sights.{stateUnder}
-use Rattle.order.specs.Searches.{Parted}
+use Rattle.uses.specs.Sights.{stateUnder, Sighted}
+use Rattle.order.specs.Searches.{Parted, Over, NoneFree}
 use Rattle.order.proofs.Sweeps.{parted-page}
 use Rattle.order.proofs.Searching.{raised-none, found-ahead, raised-take, raised-keep}
 use Rattle.order.proofs.higher.Statement.{statement}
@@ -84,19 +85,32 @@ cast-key c =
     let after-last-set = after-rank-over .before .before in
     omega (arith, within after-last-set)
 
+-- what was found of it
+found : (c : tie.After-rank-over) →
+    let else-1 = c .before in
+    let after-last-set = else-1 .before in
+    let s = after-last-set .before in
+    (v : View) → Sighted (s .args .t) (s .args .seats .now) (s .args .cached .now) (s .args .fetching .now) v
+    → Parted (v .readers) (s .args .file) (s .args .queue .now) (s .args .first) (s .args .end) (s .args .below) (s .args .n)
+    → (files : ℕ → Bool) → files (s .args .file) ≡ true → NoneFree (at s v) files
+    → Over (at s v) (s .args .file * 1024 + after-last-set .last-set .result - 1) (s .args .best .value) (c .rank-over .result)
+found c v g p files o free =
+    let else-1 = c .before in
+    let after-last-set = else-1 .before in
+    let s = after-last-set .before in
+    let a = s .args in
+    c .rank-over .ensures v g (stand else-1 v p)
+    (found-ahead (at s v) files (a .file) (a .below) (a .n) (after-last-set .last-set .result) (s .pre .0) (s .pre .1) (after-last-set .last-set .ensures)
+    (a .best) (g .valid) (a .queue .now) (a .first) (a .end) p (else-1 .if1 .left) o free)
+
 returns-2 : tie.Need-returns-2
 returns-2 c = λ v g p files o free r.
     let after-rank-over = c .before .before in
     let else-1 = after-rank-over .before in
     let after-last-set = else-1 .before in
     let s = after-last-set .before in
-    let ahead = found-ahead (at s v) files (s .args .file) (s .args .below) (s .args .n) (after-last-set .last-set .result) (s .pre .0)
-    (s .pre .1) (after-last-set .last-set .ensures) (s .args .best)
-    (g .valid) (s .args .queue .now) (s .args .first) (s .args .end) p (else-1 .if1 .left) o free in
-    raised-take (at s v) files (s .args .file) (s .args .below) (s .args .n) (after-last-set .last-set .result) (s .pre .0)
-    (s .pre .1) (after-last-set .last-set .ensures) (s .args .best)
-    (g .valid) (s .args .queue .now) (s .args .first) (s .args .end) p (else-1 .if1 .left) (after-rank-over .rank-over .result)
-    (after-rank-over .rank-over .ensures v g (stand else-1 v p) ahead) o (c .if2 .taken)
+    raised-take (at s v) files (s .args .file) (s .args .below) (s .args .n) _ (s .pre .0) (s .pre .1) (after-last-set .last-set .ensures) (s .args .best)
+    (g .valid) (s .args .queue .now) (s .args .first) (s .args .end) p (else-1 .if1 .left) _ (found after-rank-over v g p files o free) o (c .if2 .taken)
 
 returns-3 : tie.Need-returns-3
 returns-3 c = λ v g p files o free r.
@@ -104,13 +118,8 @@ returns-3 c = λ v g p files o free r.
     let else-1 = after-rank-over .before in
     let after-last-set = else-1 .before in
     let s = after-last-set .before in
-    let ahead = found-ahead (at s v) files (s .args .file) (s .args .below) (s .args .n) (after-last-set .last-set .result) (s .pre .0)
-    (s .pre .1) (after-last-set .last-set .ensures) (s .args .best)
-    (g .valid) (s .args .queue .now) (s .args .first) (s .args .end) p (else-1 .if1 .left) o free in
-    raised-keep (at s v) files (s .args .file) (s .args .below) (s .args .n) (after-last-set .last-set .result) (s .pre .0)
-    (s .pre .1) (after-last-set .last-set .ensures) (s .args .best)
-    (g .valid) (s .args .queue .now) (s .args .first) (s .args .end) p (else-1 .if1 .left) (after-rank-over .rank-over .result)
-    (after-rank-over .rank-over .ensures v g (stand else-1 v p) ahead) r (c .if2 .left)
+    raised-keep (at s v) files (s .args .file) (s .args .below) (s .args .n) _ (s .pre .0) (s .pre .1) (after-last-set .last-set .ensures) (s .args .best)
+    (g .valid) (s .args .queue .now) (s .args .first) (s .args .end) p (else-1 .if1 .left) _ (found after-rank-over v g p files o free) r (c .if2 .left)
 
 pub higher-spec : {M : Type 1} → statement M
 higher-spec =

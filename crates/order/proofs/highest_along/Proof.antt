@@ -1,18 +1,17 @@
--- Invariant: no cached page of the file past page n ranks higher than the best (`Raised`), and no reader from the place reached on is before page n. Measure: the
--- place reached, down the queue.
+-- Invariant: no cached page of the file past page n ranks higher than the best (`Raised`), and no reader from the place reached on is before page n. Measure:
+-- the place reached, down the queue.
 use mathlib.Core.Path.{_≡_, refl}
 use mathlib.Core.Bool.{Bool, true}
-use Prim.Native.Nat.{ℕ, _+_, _-_, _*_, _/_, _≤_, _<_}
-use native.Mathlib.Decide.{ℕ-discrete}
+use Prim.Native.Nat.{ℕ, _-_, _/_, _≤_, _<_}
 use native.Mathlib.Omega.{arith}
 use borrow.Author.Needs.{needs}
-use borrow.Author.Tests.{ltb-true, ltb-false}
+use borrow.Author.Tests.{ltb-false}
 use lib.ListN.{getD}
 use Rattle.rules.specs.declared.State.{State}
 use Rattle.rules.specs.declared.View.{View}
 use Rattle.uses.specs.Sights.{stateUnder, Sighted, Ranked}
-use Rattle.queues.specs.Queues.{Queued}
-use Rattle.order.specs.Searches.{Parted, NoneFree, Raised}
+use Rattle.uses.specs.Queues.{Queued}
+use Rattle.order.specs.Searches.{Parted, Looked}
 use Rattle.order.proofs.Sweeps.{in-file, parted-at}
 use Rattle.order.proofs.Searching.{raised-start, raised-more, raised-high, raised-all}
 use Rattle.order.proofs.highest_along.Statement.{statement}
@@ -23,8 +22,8 @@ Inv-loop t seats queue cached fetching file first end best₀ n₀ at₀ best n 
     (at ≤ end)
     × (n ≤ 1024)
     × ((i : ℕ) → at ≤ i → i < end → n ≤ getD queue i 0 / 16)
-    × ((v : View) → Sighted t seats cached fetching v → Queued (v .readers) file 0 queue first end → (files : ℕ → Bool) → files file ≡ true → NoneFree (stateUnder t v cached fetching) files
-    → Ranked (stateUnder t v cached fetching) files best₀ → Raised (stateUnder t v cached fetching) files file n 1024 best₀ best)
+    × ((v : View) → Sighted t seats cached fetching v → Queued (v .readers) file 0 queue first end
+    → Looked (stateUnder t v cached fetching) file n 1024 best₀ best)
 
 abbrev μ-loop : tie.MeasureT-loop
 μ-loop t seats queue cached fetching file first end best₀ n₀ at₀ best n at = at

@@ -14,15 +14,17 @@ queue-up-requires c κs =
 
 highest-along-requires : tie.Need-highest-along-requires
 highest-along-requires c κs =
-    let queued = c .before .queue-up in
-    let s = c .before .before .before in
+    let after-queue-up = c .before in
+    let queued = after-queue-up .queue-up in
+    let s = after-queue-up .before .before in
     let v = s .pre .1 .0 in
     let g = s .pre .1 .1 in
     (s .pre .0, queued .ensures .1 .1, (v, g, queued .ensures .0 (v .readers) (g .seated)))
 
 returns : tie.Need-returns
 returns c = λ v g files o free r.
-    let queued = c .before .before .queue-up in
+    let after-queue-up = c .before .before in
+    let queued = after-queue-up .queue-up in
     c .highest-along .ensures v g (queued .ensures .0 (v .readers) (g .seated)) files o free r
 
 pub highest-of-spec : {M : Type 1} → statement M

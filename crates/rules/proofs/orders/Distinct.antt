@@ -141,10 +141,6 @@ module _ (s : State) (w : Valid s) where
         ∙ ap head (only-sorted (λ x y. leb (rank s y) (rank s x)) (by-falling (rank s)) (λ k. files (fileOf k)) (only (cached s) (pages s)))
         ∙ ap (λ l. head (falling (rank s) l)) (only-only (cached s) (λ k. files (fileOf k)) (pages s))
 
-    -- it is cached, and of the set
-    pub among-cached : (v : ℕ) → victimAmong files s ≡ some v → T (cachedAmong files s v)
-    among-cached v e = first-in s w (cachedAmong files s) among-in _ larger-first (rank s) v (sym among-ranked ∙ e)
-
     -- it has the largest rank
     pub among-top : (v : ℕ) → victimAmong files s ≡ some v → (k : ℕ) → T (cachedAmong files s k) → rank s k ≤ rank s v
     among-top v e k h = leb→le (rank s k) (rank s v) (first-of s w (cachedAmong files s) among-in _ larger-first (rank s) v (sym among-ranked ∙ e) k h)

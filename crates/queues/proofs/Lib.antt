@@ -1,2 +1,0 @@
--- What the code of the queues rests on.
-pub mod Queueing

@@ -1,2 +1,0 @@
--- What the contracts of the queues speak of.
-pub mod Queues
