@@ -77,7 +77,7 @@ rank-over-requires c κs =
     let after-last-set = c .before in
     let s = after-last-set .before in
     let sight = s .pre .3 in
-    (omega (arith, within after-last-set, s .pre .0, s .pre .1, c .if1 .left), s .pre .2, (sight .0, sight .1, stand c (sight .0) (sight .2)))
+    ((omega (arith, within after-last-set, s .pre .0, s .pre .1, c .if1 .left), s .pre .2), (sight .0, sight .1, stand c (sight .0) (sight .2)))
 
 cast-key : tie.Need-cast-key
 cast-key c =
