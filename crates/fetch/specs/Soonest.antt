@@ -1,4 +1,4 @@
--- What the search for the next fetch keeps: the best page so far, with its use key. Assumes nothing: this is a definition.
+-- What the search for the next fetch keeps: the best page so far, with the key that a slot has for it. Assumes nothing: this is a definition.
 use Prim.Native.Nat.{ℕ, _≤_, _<_}
 use lib.Dec.{T}
 use Rattle.rules.specs.UseTimes.{never, useKey}

@@ -23,7 +23,8 @@ struct Lead {
 
 // ---- sets of files
 
-// The first file of a set; a number past all files where there is none.
+// The first file of a set; a number past all files where there is none. An earlier one would do no harm, but would be looked at for nothing; so would a later
+// end.
 pub fn first_file(files: u64) -> usize
     ensures { λ r. ⌜ NoFile (inSet files) 0 r ⌝ }
 {

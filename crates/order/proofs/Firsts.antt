@@ -4,25 +4,19 @@ use mathlib.Core.Bool.{Bool}
 use mathlib.Core.Option.{none, some}
 use Prim.Native.Nat.{ℕ, _<_}
 use native.Mathlib.Omega.{arith}
-use Rattle.rules.specs.Pages.{cached}
 use Rattle.rules.specs.Valid.{Valid}
 use Rattle.rules.specs.Ranks.{victimAmong}
-use Rattle.rules.proofs.laws.Tests.{and-first}
 use Rattle.rules.proofs.orders.Distinct.{rank-positive, among-none, head-is}
 use Rattle.rules.specs.declared.State.{State}
 use Rattle.uses.specs.declared.Pick.{Pick}
 use Rattle.rears.specs.Rears.{Rear}
 use Rattle.rears.proofs.Rearing.{rear-top}
-use Rattle.order.specs.Searches.{Highest, First}
+use Rattle.order.specs.Searches.{First}
 
 module _ (s : State) (w : Valid s) (files : ℕ → Bool) (p : Pick) where
   -- one that is ahead of no reader
   pub first-rear : Rear s files 8 p → 0 < p .value → First s files p
   first-rear a h = record { page = a .page; top = rear-top s w files p a h }
-
-  -- the one of the highest rank
-  pub first-highest : Highest s files 8 p → First s files p
-  first-highest a = record { page = a .page; top = λ k c. a .most k (omega (arith, w .cached-in k (and-first (cached s k) _ c) .low)) c }
 
   module _ (a : First s files p) where
     -- it is the one to give up

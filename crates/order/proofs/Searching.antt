@@ -26,7 +26,7 @@ use Rattle.uses.specs.declared.Pick.{Pick}
 use Rattle.uses.specs.Sights.{Ranked}
 use Rattle.uses.specs.Queues.{Queued}
 use Rattle.rears.proofs.Rearing.{some-ahead}
-use Rattle.order.specs.Searches.{Parted, Over, NoneFree, Raised, Highest}
+use Rattle.order.specs.Searches.{Parted, Over, AllAhead, Raised, First}
 use Rattle.order.proofs.Sweeps.{before-reads, rank-most}
 
 -- ---- between two readers
@@ -61,7 +61,7 @@ module _ (s : State) (files : ℕ → Bool) (f low n page : ℕ) (f-low : f < 8)
     among o k c g = and-both (cached s k) _ c (passed _ (ap files g ∙ o))
 
     -- some reader has it before it
-    pub found-ahead : files f ≡ true → NoneFree s files → T (ahead s key)
+    pub found-ahead : files f ≡ true → AllAhead s files → T (ahead s key)
     found-ahead o free = free key (among o key here (its .0))
 
     -- no reader stands between an earlier page and it
@@ -130,7 +130,7 @@ module _ (s : State) (files : ℕ → Bool) (f : ℕ) (p : Pick) where
         by k c g u (yes h) = a .most k c g h u
         by k c g u (no h) = most k c g (omega arith)
 
-    module _ (free : NoneFree s files) (o : files f ≡ true) where
+    module _ (free : AllAhead s files) (o : files f ≡ true) where
       is-ahead : (k : ℕ) → T (cached s k) → fileOf k ≡ f → T (ahead s k)
       is-ahead k c g = free k (and-both (cached s k) _ c (passed _ (ap files g ∙ o)))
 
@@ -151,6 +151,11 @@ module _ (s : State) (files : ℕ → Bool) (f : ℕ) (p : Pick) where
               omega (arith, x .3, far (x .0) (x .1) (x .2), b .past, j .1)
 
 -- ---- from file to file
+
+-- the page kept, if any, is of the set, and no cached page of the set's first n files has a higher rank
+pub record Highest (s : State) (files : ℕ → Bool) (n : ℕ) (p : Pick) : Type 0 where
+  pub page : Ranked s files p
+  pub most : (k : ℕ) → fileOf k < n → T (cachedAmong files s k) → rank s k ≤ p .value
 
 module _ (s : State) (files : ℕ → Bool) where
   -- a search starts before the first file of the set
@@ -180,8 +185,8 @@ module _ (s : State) (files : ℕ → Bool) where
             absurd (failed _ e (subst (λ g. T (files g)) q (and-second (cached s k) _ c)))
 
   -- it ends after the last one
-  pub highest-all : (n : ℕ) (p : Pick) → NoFile files n 8 → Highest s files n p → Highest s files 8 p
-  highest-all n p none a = record {
-    page = a .page;
-    most = λ k l c. a .most k (below files n none (fileOf k) l (and-second (cached s k) _ c)) c;
-  }
+  pub highest-all : Valid s → (n : ℕ) (p : Pick) → NoFile files n 8 → Highest s files n p → First s files p
+  highest-all w n p none a = record { page = a .page; top = λ k c. a .most k (below files n none (fileOf k) (low k c) (and-second (cached s k) _ c)) c }
+    where
+      low : (k : ℕ) → T (cachedAmong files s k) → fileOf k < 8
+      low k c = omega (arith, w .cached-in k (and-first (cached s k) _ c) .low)

@@ -24,7 +24,7 @@ use Rattle.rules.specs.declared.State.{State}
 use Rattle.rules.specs.declared.Reader.{Reader}
 use Rattle.uses.specs.Seats.{Seated}
 use Rattle.uses.specs.Sights.{lower}
-use Rattle.uses.specs.Queues.{In, InFile, Queued}
+use Rattle.uses.specs.Queues.{In, PositionsFit, Queued}
 use Rattle.order.specs.Searches.{Parted}
 
 -- ---- who stands before a page
@@ -39,9 +39,9 @@ reads-file f r h = eqb→eq _ _ (and-second (attached r) _ h)
 pub before-reads : (r : Reader) (k : ℕ) → Before r k → T (readsFile (fileOf k) r)
 before-reads r k q = and-both (attached r) _ (q .here) (passed _ (eq-eqb (r .file) (fileOf k) (q .of-file)))
 
--- a reader's position is in the file
-pub in-file : (s : State) → Valid s → (f : ℕ) → InFile (s .readers) f
-in-file s w f j h =
+-- in a valid state none does
+pub positions-fit : (s : State) → Valid s → (f : ℕ) → PositionsFit (s .readers) f
+positions-fit s w f j h =
     let p = placed-at s w j (reads-here f (readerAt s j) h) in
     omega (arith, p .position-in, p .last-high, w .sizes-high (readerAt s j .file))
 

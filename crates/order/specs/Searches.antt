@@ -1,4 +1,4 @@
--- The search for the page to give up: which readers stand before a page, and the best page so far, with its number. Assumes nothing: these are definitions.
+-- The search for the page to give up: which readers are short of a page, and the best page so far, with its number. Assumes nothing: these are definitions.
 use Prim.Native.Nat.{ℕ, _*_, _+_, _/_, _%_, _≤_, _<_}
 use mathlib.Core.Path.{_≡_}
 use mathlib.Core.Bool.{Bool, true}
@@ -23,7 +23,7 @@ use Rattle.uses.specs.Queues.{In, Queued}
 abbrev pub SightQueued : Terms → List ℕ → List ℕ → List ℕ → List ℕ → ℕ → ℕ → ℕ → Type 0
 SightQueued t seats cached fetching queue f first end = (v : View) × Sighted t seats cached fetching v × Queued (v .readers) f 0 queue first end
 
--- from `first` to before `end` of the queue stand readers of file f, none past page `below`, and all of the file's that are before page n
+-- from `first` to before `end` of the queue stand readers of file f, none past page `below`, and all of the file's that are short of page n
 pub record Parted (readers : List Reader) (f : ℕ) (queue : List ℕ) (first end below n : ℕ) : Type 0 where
   pub reads : (i : ℕ) → first ≤ i → i < end → T (readsFile f (readerIn readers (getD queue i 0 % 16)))
   pub position : (i : ℕ) → first ≤ i → i < end → getD queue i 0 / 16 ≡ readerIn readers (getD queue i 0 % 16) .position
@@ -43,24 +43,19 @@ pub record Over (s : State) (k floor r : ℕ) : Type 0 where
   pub bound : rank s k ≤ r
   pub exact : floor < r → r ≡ rank s k
 
--- some reader has each cached page of the set before it
-abbrev pub NoneFree : State → (ℕ → Bool) → Type 0
-NoneFree s files = (k : ℕ) → T (cachedAmong files s k) → T (ahead s k)
+-- each cached page of the set is ahead of some reader
+abbrev pub AllAhead : State → (ℕ → Bool) → Type 0
+AllAhead s files = (k : ℕ) → T (cachedAmong files s k) → T (ahead s k)
 
--- q is kept instead of p after a look at the cached pages of file f past page `below` and up to page n
+-- p was kept before a look at the cached pages of file f past page `below` and up to page n, and q after it: no lower, and none of these ranks above it
 pub record Raised (s : State) (files : ℕ → Bool) (f below n : ℕ) (p q : Pick) : Type 0 where
   pub page : Ranked s files q
   pub up : p .value ≤ q .value
   pub most : (k : ℕ) → T (cached s k) → fileOf k ≡ f → below < pageOf k → pageOf k ≤ n → rank s k ≤ q .value
 
--- so it is in every set that has the file and whose cached pages some reader has before it
+-- so it is in every set that has the file and whose cached pages are all ahead of some reader
 abbrev pub Looked : State → ℕ → ℕ → ℕ → Pick → Pick → Type 0
-Looked s f below n p q = (files : ℕ → Bool) → files f ≡ true → NoneFree s files → Ranked s files p → Raised s files f below n p q
-
--- the page kept, if any, is of the set, and no cached page of the set's first n files has a higher rank
-pub record Highest (s : State) (files : ℕ → Bool) (n : ℕ) (p : Pick) : Type 0 where
-  pub page : Ranked s files p
-  pub most : (k : ℕ) → fileOf k < n → T (cachedAmong files s k) → rank s k ≤ p .value
+Looked s f below n p q = (files : ℕ → Bool) → files f ≡ true → AllAhead s files → Ranked s files p → Raised s files f below n p q
 
 -- the page kept, if any, is the first of the set's to go: no cached page of the set has a higher rank
 pub record First (s : State) (files : ℕ → Bool) (p : Pick) : Type 0 where

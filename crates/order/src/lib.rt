@@ -7,11 +7,10 @@ use uses::Choice;
 use uses::Pick;
 use uses::Terms;
 ghost use mathlib.Core.Path.{_≡_};
-ghost use mathlib.Core.Bool.{Bool, true};
-ghost use Prim.Native.Nat.{ℕ, _/_, _%_, _<_, _≤_};
+ghost use Prim.Native.Nat.{ℕ, _%_, _<_, _≤_};
 ghost use lib.Dec.{T};
 ghost use lib.ListN.{getD};
-ghost use Rattle.rules.specs.Pages.{pageOf};
+ghost use Rattle.rules.specs.Pages.{fileOf, pageOf};
 ghost use Rattle.rules.specs.Valid.{Valid};
 ghost use Rattle.rules.specs.UseTimes.{ahead};
 ghost use Rattle.rules.specs.Orders.{victim};
@@ -20,15 +19,14 @@ ghost use Rattle.rules.specs.Views.{stateOf};
 ghost use Rattle.parts.specs.Held.{Held};
 ghost use Rattle.files.specs.Sets.{inSet};
 ghost use Rattle.uses.specs.Choices.{chosen};
-ghost use Rattle.uses.specs.Sights.{stateUnder, Sighted, Sight, Ranked};
+ghost use Rattle.uses.specs.Sights.{stateUnder, Sighted, Sight};
 ghost use Rattle.uses.specs.Queues.{Queued};
-ghost use Rattle.order.specs.Searches.{Parted, SightParted, SightQueued, Over, NoneFree, Looked, Highest, First};
+ghost use Rattle.order.specs.Searches.{Parted, SightParted, SightQueued, Over, AllAhead, Looked, First};
 
 // ---- the page to give up, by ranks
 
-// The rank of a page that some reader has before it or, where that is no higher than the floor, a number that is no higher either. Asked are the readers from
-// `first` to before `end` of the queue: those that stand before the page. The nearest comes first, for it most often comes to the page first, so that the
-// others have nothing to count.
+// The rank of a page ahead of some reader, if it is above the floor; else a number that is not above it either. Asked are the readers queued from `first` to
+// before `end`, which are those short of the page. The nearest comes first: it most often reads the page first, and the others then need no count.
 fn rank_over<'a>(
     t: Terms,
     seats: &[u16; 72],
@@ -41,9 +39,9 @@ fn rank_over<'a>(
     end: usize,
 ) -> u64
     requires { ⌜ (key < 8192) × (end ≤ 32) ⌝ }
-    requires { ⌜ SightParted t (now seats) (now cached) (now fetching) (now queue) (key / 1024) first end (key % 1024) (pageOf key) ⌝ }
+    requires { ⌜ SightParted t (now seats) (now cached) (now fetching) (now queue) (fileOf key) first end (key % 1024) (pageOf key) ⌝ }
     ensures { λ r. ⌜ ((v : View) → Sighted t (now (seats .entry)) (now (cached .entry)) (now (fetching .entry)) v
-        → Parted (v .readers) (key / 1024) (now (queue .entry)) first end (key % 1024) (pageOf key)
+        → Parted (v .readers) (fileOf key) (now (queue .entry)) first end (key % 1024) (pageOf key)
         → T (ahead (stateUnder t v (now (cached .entry)) (now (fetching .entry))) key)
         → Over (stateUnder t v (now (cached .entry)) (now (fetching .entry))) key floor r) ⌝ }
 {
@@ -62,7 +60,8 @@ fn rank_over<'a>(
     top
 }
 
-// The best page so far, or the last cached one of the file's first n pages, where that is past page `below` and its rank is higher. No reader stands between.
+// The best page so far, or the last cached one of the file's first n pages, where that is past page `below` and its rank is higher. No reader stands
+// past page `below` and short of page n.
 fn higher<'a>(
     t: Terms,
     seats: &[u16; 72],
@@ -104,9 +103,9 @@ fn higher<'a>(
     best
 }
 
-// The best page after a look at a file whose readers are queued, and each of whose cached pages some reader has before it. Of its pages with no reader between,
-// only the last can be of the highest rank. So the readers are passed from the last position down, and from one to the next the last cached page is looked at.
-// A page in no look-ahead ranks by its number: where none up to the next position can rank higher, that is all.
+// The best page after a look at a file whose readers are queued, and whose cached pages are all ahead of some reader. Of its pages with no reader between, only
+// the last can be of the highest rank. So the readers are passed from the last position down, and from one to the next the last cached page is looked at. No
+// page up to page n ranks above NEVER + n × 8 + file: once the best is that high, the search ends.
 fn highest_along<'a>(
     t: Terms,
     seats: &[u16; 72],
@@ -175,7 +174,7 @@ fn highest_of<'a>(
     )
 }
 
-// The page of the highest rank of the files of a set, each of whose cached pages some reader has before it.
+// The page of the highest rank of the files of a set, whose cached pages are all ahead of some reader.
 fn highest<'a>(
     t: Terms,
     seats: &[u16; 72],
@@ -185,8 +184,8 @@ fn highest<'a>(
 ) -> Pick
     requires { ⌜ Sight t (now seats) (now cached) (now fetching) ⌝ }
     ensures { λ r. ⌜ ((v : View) → Sighted t (now (seats .entry)) (now (cached .entry)) (now (fetching .entry)) v
-        → NoneFree (stateUnder t v (now (cached .entry)) (now (fetching .entry))) (inSet files)
-        → Highest (stateUnder t v (now (cached .entry)) (now (fetching .entry))) (inSet files) 8 r) ⌝ }
+        → AllAhead (stateUnder t v (now (cached .entry)) (now (fetching .entry))) (inSet files)
+        → First (stateUnder t v (now (cached .entry)) (now (fetching .entry))) (inSet files) r) ⌝ }
 {
     let mut best = Pick { key: 0, value: 0 };
     let mut file = files::first_file(files);

@@ -1,6 +1,6 @@
--- The steal order of each rule and the fetch order by numbers, the few pages that a search for their heads looks at, and look-aheads by keys: the words in
--- which the code's contracts speak of the orders. proofs/orders/Ranks.antt, Candidates.antt, Victims.antt and Stretches.antt show that these are the orders
--- and the look-aheads. Assumes nothing: these are definitions.
+-- The steal order of each rule and the fetch order by numbers, the page that the search for the next fetch looks at for each slot, and look-aheads by keys:
+-- the words in which the code's contracts speak of the orders. proofs/orders/Ranks.antt, Candidates.antt, Victims.antt and Stretches.antt show that these are
+-- the orders and the look-aheads. Assumes nothing: these are definitions.
 use Prim.Native.Nat.{ℕ, _+_, _*_, _≤_, _<_}
 use mathlib.Core.Path.{_≡_}
 use mathlib.Core.Bool.{Bool, cond, _&&_, _||_}

@@ -17,7 +17,7 @@ use Rattle.rules.proofs.laws.Tests.{and-first, and-second}
 use Rattle.rules.proofs.laws.Cases.{failed}
 use Rattle.rules.proofs.calls.Kept.{same-at}
 use Rattle.rules.specs.declared.Reader.{Reader}
-use Rattle.uses.specs.Seats.{lastSeat, Seated, Linked}
+use Rattle.uses.specs.Seats.{lastSeat, Seated}
 
 -- r is the last one of the first n slots with a reader of file f, or 0
 pub record Seat (readers : List Reader) (f n r : ℕ) : Type 0 where
@@ -222,6 +222,11 @@ seated-moved readers seats a sixteen n l q same =
     placed j u (no e) = rw (getD-set-other seats n j (q .position) 0 e, getD-set-other readers n j q noReader e) (a .position j u)
 
 -- ---- along a file's chain
+
+-- `at`, counted from 1, is a slot with a reader of file f, or none
+pub record Linked (readers : List Reader) (f at : ℕ) : Type 0 where
+  pub high : at ≤ 16
+  pub sits : 0 < at → T (readsFile f (readerIn readers (at - 1)))
 
 module _ (readers : List Reader) (seats : List ℕ) (a : Seated readers 16 seats) (f : ℕ) where
   -- the last slot of all

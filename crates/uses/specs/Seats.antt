@@ -1,6 +1,6 @@
 -- What the searches read of the readers, in one array: positions, paces, last pages, and for each file its slots with a reader, chained. Assumes nothing:
 -- these are definitions.
-use Prim.Native.Nat.{ℕ, zero, suc, _+_, _-_, _≤_, _<_}
+use Prim.Native.Nat.{ℕ, zero, suc, _+_, _<_}
 use mathlib.Core.Path.{_≡_}
 use mathlib.Core.Bool.{cond}
 use mathlib.Core.List.{List}
@@ -22,8 +22,3 @@ pub record Seated (readers : List Reader) (n : ℕ) (seats : List ℕ) : Type 0 
   pub reach : (j : ℕ) → j < n → T (attached (readerIn readers j)) → getD seats (56 + j) 0 ≡ readerIn readers j .last
   pub next : (j : ℕ) → j < n → T (attached (readerIn readers j)) → getD seats (32 + j) 0 ≡ lastSeat readers (readerIn readers j .file) j
   pub last : (f : ℕ) → f < 8 → getD seats (48 + f) 0 ≡ lastSeat readers f n
-
--- `at`, counted from 1, is a slot with a reader of file f, or none
-pub record Linked (readers : List Reader) (f at : ℕ) : Type 0 where
-  pub high : at ≤ 16
-  pub sits : 0 < at → T (readsFile f (readerIn readers (at - 1)))

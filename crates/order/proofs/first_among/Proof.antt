@@ -1,7 +1,7 @@
 -- A page ahead of no reader goes before all others; else the page of the highest rank, if any.
 use native.Mathlib.Omega.{arith}
 use Rattle.rears.proofs.Rearing.{rear-nothing}
-use Rattle.order.proofs.Firsts.{first-rear, first-highest}
+use Rattle.order.proofs.Firsts.{first-rear}
 use Rattle.order.proofs.first_among.Statement.{statement}
 use Rattle.order.proofs.first_among.Tie as tie
 
@@ -26,7 +26,7 @@ returns-2 c = λ v g e.
     let found = else-1 .before .before in
     let none = rear-nothing _ (g .valid) _ (found .furthest-behind .result) (found .furthest-behind .ensures _ _ (g .valid) (g .seated) e)
     (omega (arith, else-1 .if1 .left)) in
-    first-highest _ (g .valid) _ (c .highest .result) (c .highest .ensures v g none)
+    c .highest .ensures v g none
 
 pub first-among-spec : {M : Type 1} → statement M
 first-among-spec = tie.close (tie.spec furthest-behind-requires returns highest-requires returns-2)

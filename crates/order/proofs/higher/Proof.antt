@@ -9,7 +9,7 @@ use Rattle.rules.specs.Pages.{pageOf}
 use Rattle.rules.specs.declared.State.{State}
 use Rattle.rules.specs.declared.View.{View}
 use Rattle.uses.specs.Sights.{stateUnder, Sighted}
-use Rattle.order.specs.Searches.{Parted, Over, NoneFree}
+use Rattle.order.specs.Searches.{Parted, Over, AllAhead}
 use Rattle.order.proofs.Sweeps.{parted-page}
 use Rattle.order.proofs.Searching.{raised-none, found-ahead, raised-take, raised-keep}
 use Rattle.order.proofs.higher.Statement.{statement}
@@ -92,7 +92,7 @@ found : (c : tie.After-rank-over) →
     let s = after-last-set .before in
     (v : View) → Sighted (s .args .t) (s .args .seats .now) (s .args .cached .now) (s .args .fetching .now) v
     → Parted (v .readers) (s .args .file) (s .args .queue .now) (s .args .first) (s .args .end) (s .args .below) (s .args .n)
-    → (files : ℕ → Bool) → files (s .args .file) ≡ true → NoneFree (at s v) files
+    → (files : ℕ → Bool) → files (s .args .file) ≡ true → AllAhead (at s v) files
     → Over (at s v) (s .args .file * 1024 + after-last-set .last-set .result - 1) (s .args .best .value) (c .rank-over .result)
 found c v g p files o free =
     let else-1 = c .before in

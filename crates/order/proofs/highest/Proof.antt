@@ -7,14 +7,14 @@ use borrow.Author.Needs.{needs}
 use Rattle.rules.specs.declared.View.{View}
 use Rattle.files.specs.Sets.{inSet}
 use Rattle.uses.specs.Sights.{stateUnder, Sighted}
-use Rattle.order.specs.Searches.{NoneFree, Highest}
-use Rattle.order.proofs.Searching.{highest-none, highest-more, highest-skip, highest-all}
+use Rattle.order.specs.Searches.{AllAhead}
+use Rattle.order.proofs.Searching.{Highest, highest-none, highest-more, highest-skip, highest-all}
 use Rattle.order.proofs.highest.Statement.{statement}
 use Rattle.order.proofs.highest.Tie as tie
 
 abbrev Inv-loop : tie.InvT-loop
 Inv-loop t seats cached fetching files best₀ file₀ end best file =
-    (v : View) → Sighted t seats cached fetching v → NoneFree (stateUnder t v cached fetching) (inSet files)
+    (v : View) → Sighted t seats cached fetching v → AllAhead (stateUnder t v cached fetching) (inSet files)
     → Highest (stateUnder t v cached fetching) (inSet files) file best
 
 abbrev μ-loop : tie.MeasureT-loop
@@ -72,7 +72,7 @@ returns c = λ v g free.
     let at-loop = c .before in
     let after-end = at-loop .before in
     let l = at-loop .loop in
-    highest-all _ _ (l .file) (l .best) (λ f m. after-end .end-of-files .ensures .1 f (omega (arith, c .loop-test .left))) (l .inv v g free)
+    highest-all _ _ (g .valid) (l .file) (l .best) (λ f m. after-end .end-of-files .ensures .1 f (omega (arith, c .loop-test .left))) (l .inv v g free)
 
 pub highest-spec : {M : Type 1} → statement M
 highest-spec =

@@ -1,7 +1,6 @@
 -- Invariant: no cached page of the file past page n ranks higher than the best (`Raised`), and no reader from the place reached on is before page n. Measure:
 -- the place reached, down the queue.
-use mathlib.Core.Path.{_≡_, refl}
-use mathlib.Core.Bool.{Bool, true}
+use mathlib.Core.Path.{refl}
 use Prim.Native.Nat.{ℕ, _-_, _/_, _≤_, _<_}
 use native.Mathlib.Omega.{arith}
 use borrow.Author.Needs.{needs}
@@ -9,10 +8,10 @@ use borrow.Author.Tests.{ltb-false}
 use lib.ListN.{getD}
 use Rattle.rules.specs.declared.State.{State}
 use Rattle.rules.specs.declared.View.{View}
-use Rattle.uses.specs.Sights.{stateUnder, Sighted, Ranked}
+use Rattle.uses.specs.Sights.{stateUnder, Sighted}
 use Rattle.uses.specs.Queues.{Queued}
 use Rattle.order.specs.Searches.{Parted, Looked}
-use Rattle.order.proofs.Sweeps.{in-file, parted-at}
+use Rattle.order.proofs.Sweeps.{positions-fit, parted-at}
 use Rattle.order.proofs.Searching.{raised-start, raised-more, raised-high, raised-all}
 use Rattle.order.proofs.highest_along.Statement.{statement}
 use Rattle.order.proofs.highest_along.Tie as tie
@@ -64,7 +63,7 @@ next-high : (c : tie.In-loop Inv-loop μ-loop) → next c ≤ 1024
 next-high c =
     let s = start c in
     let sits = stand s .sits _ (turn c .loop .at - 1, omega (arith, c .loop-test .taken), omega (arith, c .loop-test .taken, turn c .loop .inv .0), refl) in
-    omega (arith, sits .1, in-file (at s (one s)) (seen s .valid) (s .args .file) _ (sits .0))
+    omega (arith, sits .1, positions-fit (at s (one s)) (seen s .valid) (s .args .file) _ (sits .0))
 
 -- and no reader from there on is before it
 next-far : (c : tie.In-loop Inv-loop μ-loop) (i : ℕ) → turn c .loop .at - 1 ≤ i → i < start c .args .end

@@ -1,7 +1,7 @@
 -- The readers are queued, and then passed.
 use mathlib.Core.Path.{refl}
 use Rattle.uses.specs.Sights.{stateUnder}
-use Rattle.order.proofs.Sweeps.{in-file}
+use Rattle.order.proofs.Sweeps.{positions-fit}
 use Rattle.order.proofs.highest_of.Statement.{statement}
 use Rattle.order.proofs.highest_of.Tie as tie
 
@@ -10,7 +10,8 @@ queue-up-requires c κs =
     let s = c .before in
     let v = s .pre .1 .0 in
     let g = s .pre .1 .1 in
-    (s .pre .0, (v .readers, g .seated, in-file (stateUnder (s .args .t) v (s .args .cached .now) (s .args .fetching .now)) (g .valid) (s .args .file)), refl)
+    let fit = positions-fit (stateUnder (s .args .t) v (s .args .cached .now) (s .args .fetching .now)) (g .valid) (s .args .file) in
+    (s .pre .0, (v .readers, g .seated, fit), refl)
 
 highest-along-requires : tie.Need-highest-along-requires
 highest-along-requires c κs =

@@ -6,9 +6,9 @@ use native.Mathlib.Omega.{arith}
 use borrow.Author.Needs.{needs}
 use lib.ListN.{getD}
 use Rattle.rules.specs.declared.Reader.{Reader}
-use Rattle.uses.specs.Seats.{Seated, Linked}
+use Rattle.uses.specs.Seats.{Seated}
 use Rattle.rears.specs.Rears.{Least}
-use Rattle.uses.proofs.Seating.{chain-first, chain-position, chain-reach, chain-is, chain-less, chain-next}
+use Rattle.uses.proofs.Seating.{Linked, chain-first, chain-position, chain-reach, chain-is, chain-less, chain-next}
 use Rattle.rears.proofs.Rearing.{least-none, least-more}
 use Rattle.rears.proofs.least_ahead.Statement.{statement}
 use Rattle.rears.proofs.least_ahead.Tie as tie
