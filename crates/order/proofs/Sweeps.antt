@@ -1,12 +1,12 @@
--- A page's rank by a pass over the readers that stand before it. Assumes nothing.
+-- A page's rank by a pass over the readers that are short of it. Assumes nothing.
 use mathlib.Core.Path.{_≡_, refl, sym, ap, _∙_}
 use mathlib.Core.Bool.{not}
 use mathlib.Core.List.{List}
 use mathlib.Core.Logic.{_⊎_, inl, inr}
-use Prim.Native.Nat.{ℕ, min, _+_, _-_, _*_, _/_, _%_, _≤_, _<_}
+use Prim.Native.Nat.{ℕ, min, _+_, _-_, _/_, _%_, _≤_, _<_}
 use native.Mathlib.Decide.{ℕ-discrete, decLt}
 use native.Mathlib.Omega.{arith}
-use borrow.Author.Tests.{eq-eqb}
+use borrow.Author.Tests.{eq-eqb, lt-ltb, le-ltb}
 use lib.Dec.{T, T-not, eqb→eq}
 use lib.ListN.{getD}
 use Rattle.rules.specs.Pages.{fileOf, pageOf}
@@ -22,12 +22,13 @@ use Rattle.rules.specs.Ranks.{rank, Before}
 use Rattle.rules.proofs.orders.Ranks.{seen-small, rank-unseen, rank-seen}
 use Rattle.rules.specs.declared.State.{State}
 use Rattle.rules.specs.declared.Reader.{Reader}
+use Rattle.uses.specs.declared.Pick.{Pick}
 use Rattle.uses.specs.Seats.{Seated}
 use Rattle.uses.specs.Sights.{lower}
-use Rattle.uses.specs.Queues.{In, PositionsFit, Queued}
-use Rattle.order.specs.Searches.{Parted}
+use Rattle.uses.specs.Queues.{In, PositionsFit, queueNumber, Queued}
+use Rattle.order.specs.Searches.{ShortOf, Over, higherOf}
 
--- ---- who stands before a page
+-- ---- who is short of a page
 
 -- the slot's reader reads file f
 pub reads-here : (f : ℕ) (r : Reader) → T (readsFile f r) → T (attached r)
@@ -45,38 +46,27 @@ positions-fit s w f j h =
     let p = placed-at s w j (reads-here f (readerAt s j) h) in
     omega (arith, p .position-in, p .last-high, w .sizes-high (readerAt s j .file))
 
-module _ (readers : List Reader) (f : ℕ) (queue : List ℕ) (first : ℕ) where
-  -- the readers up to a place of the queue, and a page n that none of those from it on is before
-  pub parted-at : (end at n : ℕ) → Queued readers f 0 queue first end → first < at → at ≤ end → ((i : ℕ) → at ≤ i → i < end → n ≤ getD queue i 0 / 16)
-      → Parted readers f queue first at (getD queue (at - 1) 0 / 16) n
-  parted-at end at n q some within far = record {
-    reads = λ i l u. q .sits _ (i, l, omega arith, refl) .0;
-    position = λ i l u. q .sits _ (i, l, omega arith, refl) .1;
-    low = λ i l u. omega (arith, q .rising i (at - 1) l (omega arith) (omega arith));
-    all = λ j u h p. by j u p (q .all j (omega arith) u h);
-  }
-    where
-      by : (j : ℕ) → j < 16 → readerIn readers j .position < n → In queue first end (readerIn readers j .position * 16 + j)
-          → In queue first at (readerIn readers j .position * 16 + j)
-      by j b p (i, l, u, e) = go (decLt i at)
-        where
-          go : Dec (i < at) → In queue first at (readerIn readers j .position * 16 + j)
-          go (yes h) = (i, l, h, e)
-          go (no h) = absurd (omega (arith, e, far i (omega arith) u))
-
-  -- a page between
-  pub parted-page : (end below n k : ℕ) → Parted readers f queue first end below n → below < pageOf k → pageOf k ≤ n
-      → Parted readers f queue first end (k % 1024) (pageOf k)
-  parted-page end below n k a l u = record {
-    reads = a .reads;
-    position = a .position;
-    low = λ i x y. omega (arith, a .low i x y);
-    all = λ j x h p. a .all j x h (omega arith);
-  }
+-- the readers of the queue up to where those short of the page end
+pub short-at : (readers : List Reader) (f : ℕ) (queue : List ℕ) (first end at page : ℕ) → Queued readers f 0 queue first end → first < at → at ≤ end
+    → ((i : ℕ) → at ≤ i → i < end → page ≤ getD queue i 0 / 16) → getD queue (at - 1) 0 / 16 < page → ShortOf readers f queue first at page
+short-at readers f queue first end at page q some within past short = record {
+  reads = λ i l u. q .sits _ (i, l, omega arith, refl) .0;
+  position = λ i l u. q .sits _ (i, l, omega arith, refl) .1;
+  short = λ i l u. omega (arith, q .rising i (at - 1) l (omega arith) (omega arith));
+  all = λ j u h p. by j u p (q .all j (omega arith) u h);
+}
+  where
+    by : (j : ℕ) → j < 16 → readerIn readers j .position < page → In queue first end (queueNumber readers j)
+        → In queue first at (queueNumber readers j)
+    by j b p (i, l, u, e) = go (decLt i at)
+      where
+        go : Dec (i < at) → In queue first at (queueNumber readers j)
+        go (yes h) = (i, l, h, e)
+        go (no h) = absurd (omega (arith, e, past i (omega arith) u))
 
 -- a reader of the queue, as the readers' array has it
-module _ (s : State) (w : Valid s) (seats : List ℕ) (a : Seated (s .readers) 16 seats) (f : ℕ) (queue : List ℕ) (first end below n : ℕ)
-    (p : Parted (s .readers) f queue first end below n) (i : ℕ) (l : first ≤ i) (u : i < end) where
+module _ (s : State) (w : Valid s) (seats : List ℕ) (a : Seated (s .readers) 16 seats) (f : ℕ) (queue : List ℕ) (first end page : ℕ)
+    (p : ShortOf (s .readers) f queue first end page) (i : ℕ) (l : first ≤ i) (u : i < end) where
   abbrev slot : ℕ
   slot = getD queue i 0 % 16
 
@@ -95,11 +85,11 @@ module _ (s : State) (w : Valid s) (seats : List ℕ) (a : Seated (s .readers) 1
   pace-is = a .pace slot (omega arith) here
 
   -- a page past it, up to its last one, is ahead of it
-  pub stands-before : (k : ℕ) → fileOf k ≡ f → below < pageOf k → pageOf k ≤ getD seats (56 + slot) 0 → Before (readerAt s slot) k
+  pub stands-before : (k : ℕ) → fileOf k ≡ f → page ≤ pageOf k → pageOf k ≤ getD seats (56 + slot) 0 → Before (readerAt s slot) k
   stands-before k g m v = record {
     here = here;
     of-file = reads-file f (readerAt s slot) (p .reads i l u) ∙ sym g;
-    past = omega (arith, p .position i l u, p .low i l u);
+    past = omega (arith, p .position i l u, p .short i l u);
     in-reach = omega (arith, last-is);
   }
 
@@ -166,8 +156,8 @@ module _ (s : State) (k : ℕ) (queue : List ℕ) (end : ℕ) where
             let f : next ≡ top = rw (is-false (sees s (readerAt s j) k) h) at e in
             swept-one next (omega (arith, a .bound)) (omega arith) (λ g. absurd (T-not (sees s (readerAt s j) k) h g))
 
-  -- all are asked that stand before the page
-  pub swept-all : (first at top : ℕ) → at ≤ first → Valid s → T (ahead s k) → Parted (s .readers) (fileOf k) queue first end (k % 1024) (pageOf k)
+  -- all are asked that are short of the page
+  pub swept-all : (first at top : ℕ) → at ≤ first → Valid s → T (ahead s k) → ShortOf (s .readers) (fileOf k) queue first end (pageOf k)
       → Swept s k (Asked queue at end) top → top ≡ rank s k
   swept-all first at top u w b p a = go (side (seen s k))
     where
@@ -182,3 +172,14 @@ module _ (s : State) (k : ℕ) (queue : List ℕ) (end : ℕ) where
           let q = before-is (readerAt s (m .0)) k (sees-before s (readerAt s (m .0)) k (m .2)) in
           omega (arith, a .bound, rank-seen s k h, m .3, a .used (m .0) (asked (m .0) (m .1) q) (m .1) (m .2))
       go (inr h) = omega (arith, a .bound, rank-unseen s k b h, a .high)
+
+-- ---- what is kept
+
+module _ (s : State) (k : ℕ) (p : Pick) (value : ℕ) (o : Over s k (p .value) value) where
+  -- the page ranks higher
+  pub higher-take : p .value < value → record { key = k; value = value } ≡ higherOf s k p
+  higher-take l = let e : rank s k ≡ value = sym (o .exact l) in rw (e, lt-ltb (p .value) value l) refl
+
+  -- it does not
+  pub higher-keep : value ≤ p .value → p ≡ higherOf s k p
+  higher-keep l = rw (le-ltb (p .value) (rank s k) (omega (arith, o .bound))) refl

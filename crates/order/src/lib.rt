@@ -21,7 +21,7 @@ ghost use Rattle.files.specs.Sets.{inSet};
 ghost use Rattle.uses.specs.Choices.{chosen};
 ghost use Rattle.uses.specs.Sights.{stateUnder, Sighted, Sight};
 ghost use Rattle.uses.specs.Queues.{Queued};
-ghost use Rattle.order.specs.Searches.{Parted, SightParted, SightQueued, Over, AllAhead, Looked, First};
+ghost use Rattle.order.specs.Searches.{ShortOf, SightShort, SightQueued, Over, higherOf, AllAhead, Looked, First};
 
 // ---- the page to give up, by ranks
 
@@ -39,9 +39,9 @@ fn rank_over<'a>(
     end: usize,
 ) -> u64
     requires { ⌜ (key < 8192) × (end ≤ 32) ⌝ }
-    requires { ⌜ SightParted t (now seats) (now cached) (now fetching) (now queue) (fileOf key) first end (key % 1024) (pageOf key) ⌝ }
+    requires { ⌜ SightShort t (now seats) (now cached) (now fetching) (now queue) (fileOf key) first end (pageOf key) ⌝ }
     ensures { λ r. ⌜ ((v : View) → Sighted t (now (seats .entry)) (now (cached .entry)) (now (fetching .entry)) v
-        → Parted (v .readers) (fileOf key) (now (queue .entry)) first end (key % 1024) (pageOf key)
+        → ShortOf (v .readers) (fileOf key) (now (queue .entry)) first end (pageOf key)
         → T (ahead (stateUnder t v (now (cached .entry)) (now (fetching .entry))) key)
         → Over (stateUnder t v (now (cached .entry)) (now (fetching .entry))) key floor r) ⌝ }
 {
@@ -60,31 +60,25 @@ fn rank_over<'a>(
     top
 }
 
-// The best page so far, or the last cached one of the file's first n pages, where that is past page `below` and its rank is higher. No reader stands
-// past page `below` and short of page n.
+// The best page so far, or this one, where its rank is higher.
 fn higher<'a>(
     t: Terms,
     seats: &[u16; 72],
     queue: &[u16; 32],
     cached: &'a [u64; 128],
     fetching: &'a [u64; 128],
-    file: usize,
+    key: usize,
     first: usize,
     end: usize,
-    below: usize,
-    n: usize,
     best: Pick,
 ) -> Pick
-    requires { ⌜ (file < 8) × (n ≤ 1024) × (end ≤ 32) × SightParted t (now seats) (now cached) (now fetching) (now queue) file first end below n ⌝ }
+    requires { ⌜ (key < 8192) × (end ≤ 32) ⌝ }
+    requires { ⌜ SightShort t (now seats) (now cached) (now fetching) (now queue) (fileOf key) first end (pageOf key) ⌝ }
     ensures { λ r. ⌜ ((v : View) → Sighted t (now (seats .entry)) (now (cached .entry)) (now (fetching .entry)) v
-        → Parted (v .readers) file (now (queue .entry)) first end below n
-        → Looked (stateUnder t v (now (cached .entry)) (now (fetching .entry))) file below n best r) ⌝ }
+        → ShortOf (v .readers) (fileOf key) (now (queue .entry)) first end (pageOf key)
+        → T (ahead (stateUnder t v (now (cached .entry)) (now (fetching .entry))) key)
+        → r ≡ higherOf (stateUnder t v (now (cached .entry)) (now (fetching .entry))) key best) ⌝ }
 {
-    let page = bits::last_set(cached, file * 1024, n);
-    if page <= below {
-        return best;
-    }
-    let key = file * 1024 + page - 1;
     let rank = rank_over(
         t,
         seats,
@@ -104,8 +98,8 @@ fn higher<'a>(
 }
 
 // The best page after a look at a file whose readers are queued, and whose cached pages are all ahead of some reader. Of its pages with no reader between, only
-// the last can be of the highest rank. So the readers are passed from the last position down, and from one to the next the last cached page is looked at. No
-// page up to page n ranks above NEVER + n × 8 + file: once the best is that high, the search ends.
+// the last can be of the highest rank. So the last of all is looked at, and then again and again the last up to the nearest reader that was short of the one
+// before. No page up to page n ranks above NEVER + n × 8 + file: once the best is that high, the search ends.
 fn highest_along<'a>(
     t: Terms,
     seats: &[u16; 72],
@@ -120,28 +114,19 @@ fn highest_along<'a>(
     requires { ⌜ (file < 8) × (end ≤ 32) × SightQueued t (now seats) (now cached) (now fetching) (now queue) file first end ⌝ }
     ensures { λ r. ⌜ ((v : View) → Sighted t (now (seats .entry)) (now (cached .entry)) (now (fetching .entry)) v
         → Queued (v .readers) file 0 (now (queue .entry)) first end
-        → Looked (stateUnder t v (now (cached .entry)) (now (fetching .entry))) file 0 1024 kept r) ⌝ }
+        → Looked (stateUnder t v (now (cached .entry)) (now (fetching .entry))) file 0 kept r) ⌝ }
 {
     let mut best = kept;
     let mut n: usize = 1024;
     let mut at = end;
     while first < at && best.value < NEVER + (n * 8 + file) as u64 {
-        let below = (queue[at - 1] / 16) as usize;
-        best = higher(
-            t,
-            seats,
-            queue,
-            cached,
-            fetching,
-            file,
-            first,
-            at,
-            below,
-            n,
-            best,
-        );
-        n = below;
-        at -= 1;
+        n = bits::last_set(cached, file * 1024, n);
+        at = uses::short_of(queue, first, at, n);
+        if first < at {
+            let key = file * 1024 + n - 1;
+            best = higher(t, seats, queue, cached, fetching, key, first, at, best);
+            n = uses::position_in(queue[at - 1]);
+        }
     }
     best
 }
@@ -157,7 +142,7 @@ fn highest_of<'a>(
 ) -> Pick
     requires { ⌜ (file < 8) × Sight t (now seats) (now cached) (now fetching) ⌝ }
     ensures { λ r. ⌜ ((v : View) → Sighted t (now (seats .entry)) (now (cached .entry)) (now (fetching .entry)) v
-        → Looked (stateUnder t v (now (cached .entry)) (now (fetching .entry))) file 0 1024 kept r) ⌝ }
+        → Looked (stateUnder t v (now (cached .entry)) (now (fetching .entry))) file 0 kept r) ⌝ }
 {
     let mut queue = [0u16; 32];
     let span = uses::queue_up(seats, file, &mut queue);

@@ -11,7 +11,7 @@ use Rattle.rules.specs.UseTimes.{ahead}
 use Rattle.rules.specs.declared.State.{State}
 use Rattle.rules.specs.declared.View.{View}
 use Rattle.uses.specs.Sights.{stateUnder, Sits, Sighted}
-use Rattle.order.specs.Searches.{Parted}
+use Rattle.order.specs.Searches.{ShortOf}
 use Rattle.order.proofs.Sweeps.{last-is, last-high, pace-is, stands-before, Swept, Asked, swept-none, swept-past, swept-more, swept-all}
 use Rattle.order.proofs.rank_over.Statement.{statement}
 use Rattle.order.proofs.rank_over.Tie as tie
@@ -20,7 +20,7 @@ abbrev Inv-loop : tie.InvT-loop
 Inv-loop t seats queue cached fetching key floor first end page top₀ at₀ top at =
     (page ≡ key % 1024 + 1)
     × (at ≤ end)
-    × ((v : View) → Sighted t seats cached fetching v → Parted (v .readers) (key / 1024) queue first end (key % 1024) (pageOf key)
+    × ((v : View) → Sighted t seats cached fetching v → ShortOf (v .readers) (key / 1024) queue first end (pageOf key)
     → T (ahead (stateUnder t v cached fetching) key) → Swept (stateUnder t v cached fetching) key (Asked queue at end) top)
 
 abbrev μ-loop : tie.MeasureT-loop
@@ -38,7 +38,7 @@ at c v = stateUnder (c .args .t) v (c .args .cached .now) (c .args .fetching .no
 
 -- in which the readers of the queue stand before the page
 abbrev Stand : tie.Start Inv-loop μ-loop → View → Type 0
-Stand c v = Parted (v .readers) (c .args .key / 1024) (c .args .queue .now) (c .args .first) (c .args .end) (c .args .key % 1024) (pageOf (c .args .key))
+Stand c v = ShortOf (v .readers) (c .args .key / 1024) (c .args .queue .now) (c .args .first) (c .args .end) (pageOf (c .args .key))
 
 -- one there is
 abbrev one : tie.Start Inv-loop μ-loop → View
@@ -90,10 +90,10 @@ sits c v g p =
     let u = high after-number in
     record {
       ahead =
-          stands-before (at s v) (g .valid) (a .seats .now) (g .seated) (a .key / 1024) (a .queue .now) _ _ _ _ p (index after-number) l u (a .key) refl
+          stands-before (at s v) (g .valid) (a .seats .now) (g .seated) (a .key / 1024) (a .queue .now) _ _ _ p (index after-number) l u (a .key) refl
           (omega arith) (omega (arith, c .if2 .taken, turn after-number .loop .inv .0));
       position-is = p .position (index after-number) l u;
-      pace-is = pace-is (at s v) (g .valid) (a .seats .now) (g .seated) (a .key / 1024) (a .queue .now) _ _ _ _ p (index after-number) l u;
+      pace-is = pace-is (at s v) (g .valid) (a .seats .now) (g .seated) (a .key / 1024) (a .queue .now) _ _ _ p (index after-number) l u;
     }
 
 add-page : tie.Need-add-page Inv-loop μ-loop
@@ -138,7 +138,7 @@ cast-if2 c =
     let s = start after-number in
     omega (
       arith,
-      last-high (at s (one s)) (seen s .valid) (s .args .seats .now) (seen s .seated) (s .args .key / 1024) (s .args .queue .now) _ _ _ _ (stand s)
+      last-high (at s (one s)) (seen s .valid) (s .args .seats .now) (seen s .seated) (s .args .key / 1024) (s .args .queue .now) _ _ _ (stand s)
           (index after-number) (low after-number) (high after-number),
     )
 
@@ -155,7 +155,7 @@ lowered-requires : tie.Need-lowered-requires Inv-loop μ-loop
 lowered-requires c κs =
     let after-number = c .before .before .before in
     let s = start after-number in
-    (seen s .valid .turn-high, omega arith, s .pre .0 .0, stand s .low (index after-number) (low after-number) (high after-number))
+    (seen s .valid .turn-high, omega arith, s .pre .0 .0, omega (arith, stand s .short (index after-number) (low after-number) (high after-number)))
 
 loop-less : tie.Need-loop-less Inv-loop μ-loop
 loop-less c =
@@ -193,7 +193,7 @@ loop-again-2 c =
             arith,
             c .if2 .left,
             turn after-number .loop .inv .0,
-            last-is (at s v) (g .valid) (s .args .seats .now) (g .seated) (s .args .key / 1024) (s .args .queue .now) _ _ _ _ p (index after-number)
+            last-is (at s v) (g .valid) (s .args .seats .now) (g .seated) (s .args .key / 1024) (s .args .queue .now) _ _ _ p (index after-number)
                 (low after-number) (high after-number),
           )),
     )
