@@ -30,17 +30,18 @@ use Rattle.order.specs.Searches.{ShortOf, Over, higherOf}
 
 -- ---- who is short of a page
 
--- the slot's reader reads file f
-pub reads-here : (f : ℕ) (r : Reader) → T (readsFile f r) → T (attached r)
+-- a reader of file f is there, and the file is its own
+reads-here : (f : ℕ) (r : Reader) → T (readsFile f r) → T (attached r)
 reads-here f r h = and-first (attached r) _ h
 
-pub reads-file : (f : ℕ) (r : Reader) → T (readsFile f r) → r .file ≡ f
+reads-file : (f : ℕ) (r : Reader) → T (readsFile f r) → r .file ≡ f
 reads-file f r h = eqb→eq _ _ (and-second (attached r) _ h)
 
+-- who has page k before it reads its file
 pub before-reads : (r : Reader) (k : ℕ) → Before r k → T (readsFile (fileOf k) r)
 before-reads r k q = and-both (attached r) _ (q .here) (passed _ (eq-eqb (r .file) (fileOf k) (q .of-file)))
 
--- in a valid state none does
+-- in a valid state no reader stands past page 1,024
 pub positions-fit : (s : State) → Valid s → (f : ℕ) → PositionsFit (s .readers) f
 positions-fit s w f j h =
     let p = placed-at s w j (reads-here f (readerAt s j) h) in

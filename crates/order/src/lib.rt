@@ -7,7 +7,7 @@ use uses::Choice;
 use uses::Pick;
 use uses::Terms;
 ghost use mathlib.Core.Path.{_≡_};
-ghost use Prim.Native.Nat.{ℕ, _%_, _<_, _≤_};
+ghost use Prim.Native.Nat.{ℕ, _<_, _≤_};
 ghost use lib.Dec.{T};
 ghost use lib.ListN.{getD};
 ghost use Rattle.rules.specs.Pages.{fileOf, pageOf};
@@ -186,8 +186,8 @@ fn highest<'a>(
 
 // ---- the page to give up
 
-// The page that goes first of the files of a set, which is a word with a digit for each file, with its rank; 0 where they have no cached page. A page ahead of
-// no reader goes before any other, and is found without ranks.
+// The page that goes first of the files of a set, which is a word with a digit for each file, with its rank, which is 0 where they have no cached page. A page
+// ahead of no reader goes before any other, and is found without ranks.
 pub fn first_among<'a>(
     t: Terms,
     sizes: &[u16; 8],
