@@ -1,5 +1,5 @@
--- The two orders: look-aheads, ranks, heads and candidates; the choice of the 1993 rule; what a page in fetch changes; what repeated Steals drop; and the
--- answers to questions.
+-- The two orders: look-aheads, ranks, heads and where they are found; the choice of the 1993 rule; what a page in fetch changes; what repeated Steals drop;
+-- and the answers to questions.
 pub mod LookAheads
 pub mod Ranks
 pub mod Distinct
