@@ -1,5 +1,7 @@
 // Answers as lines: the bytes of each answer, and what a call or a list gives the line that asked for it.
 
+#![tactic(auto)]
+
 ghost use Rattle.std.specs.Prelude.{ℕ, ◌+◌, ◌≤◌, ◌<◌, ◌≡◌, List, [], ◌∷◌, ◌++◌, length, take};
 ghost use Rattle.rules.specs.Views.{state_of, no_pages, reply_of};
 ghost use Rattle.rules.specs.Lists.{each};
@@ -14,7 +16,7 @@ ghost use Rattle.answers.specs.Responses.{Roomy, line_end, order_of, Front, clus
 use rules::{Answer, Listing, Ordered, Outcome, View};
 
 // A line's answer: the view after it, and how many bytes were written.
-#[derive(Drop)]
+#[derive(Clone, Copy)]
 pub struct Said {
     pub view: View,
     pub len: usize,

@@ -1,5 +1,7 @@
 // A map of pages: one bit a page in 64-bit words. Bits are counted by ones of words, and found by zeros of words.
 
+#![tactic(auto)]
+
 ghost use Rattle.std.specs.Prelude.{◌≡◌, cond, ◌&&◌, ◌||◌, not, [], ◌∷◌, ℕ, ◌+◌, ◌-◌, ◌*◌, ◌/◌, ◌<◌, ◌≤◌, ◌%◌, length, replicate, eqb};
 ghost use Rattle.bits.specs.Map.{digit, bit, on, one_of, put_bit, joined, ones, next_bit, last_bit};
 

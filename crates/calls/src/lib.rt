@@ -1,5 +1,7 @@
 // Setup, Read on one record, Lost, Arrive, Steal, Prefetch, each as its rule has it. The state's two maps are lent; the rest, a view, is passed and returned.
 
+#![tactic(auto)]
+
 ghost use Rattle.std.specs.Prelude.{◌≡◌, true, List, [], map, ℕ, ◌≤◌, ◌<◌, get_or, length, replicate};
 ghost use Rattle.bits.specs.Map.{bit, put_bit};
 ghost use Rattle.rules.specs.Views.{state_of, no_pages, reply_of};
@@ -29,21 +31,21 @@ use rules::{Answer, Condition, Outcome, Reader, View};
 use uses::Choice;
 
 // What Arrive and Lost find of a page: the key of one that is in fetch, or the number of the refusal.
-#[derive(Drop)]
+#[derive(Clone, Copy)]
 pub enum Fetched {
     Open(usize),
     Refused(u8),
 }
 
 // What a Read makes of a slot: the record that it has then, and the answer.
-#[derive(Drop)]
+#[derive(Clone, Copy)]
 pub struct Step {
     pub reader: Reader,
     pub answer: Answer,
 }
 
 // What an Arrive makes of the readers, and the answer.
-#[derive(Drop)]
+#[derive(Clone, Copy)]
 pub struct Landing {
     pub readers: [Reader; 16],
     pub answer: Answer,

@@ -1,5 +1,7 @@
 // One line to its call, by its letter and the number of its fields.
 
+#![tactic(auto)]
+
 ghost use Rattle.std.specs.Prelude.{ℕ, ◌≤◌, ◌<◌, ◌≡◌, false, List, [], ◌∷◌, get_or, take};
 ghost use Rattle.rules.specs.Views.{state_of};
 ghost use Rattle.rules.specs.Readers.{reader_in};

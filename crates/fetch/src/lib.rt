@@ -1,6 +1,8 @@
 // The head of the fetch order: of the pages that a reader lacks only the first can be used soonest, so the search looks at one page for each slot. The order
 // itself is not made here.
 
+#![tactic(auto)]
+
 ghost use Rattle.std.specs.Prelude.{◌≡◌, [], ◌∷◌, ◌+◌, ◌-◌, ◌<◌, ◌≤◌};
 ghost use Rattle.bits.specs.Map.{joined, next_bit};
 ghost use Rattle.rules.specs.Lists.{head};

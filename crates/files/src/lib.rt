@@ -1,6 +1,8 @@
 // Sets of files, and which files may give up a page. A set is a word with a digit for each file. Under the 1989 rule any file with cached pages may give one
 // up, under the 1993 rule the one with the highest number alone.
 
+#![tactic(auto)]
+
 ghost use Rattle.std.specs.Prelude.{◌≡◌, List, ℕ, ◌≤◌, ◌<◌, T, eqb, get_or};
 ghost use Rattle.rules.specs.Valid.{Valid};
 ghost use Rattle.rules.specs.Orders.{victim};
@@ -13,7 +15,7 @@ ghost use Rattle.files.specs.Leads.{leading, Weights, Weighed, Foremost};
 use rules::View;
 
 // The file that leads in the choice of the 1993 rule so far, and its number; 0 where no file has cached pages.
-#[derive(Drop)]
+#[derive(Clone, Copy)]
 struct Lead {
     file: usize,
     number: u64,

@@ -2,6 +2,8 @@
 // file has its turn, a page of it moves, or turns are passed at once. A head is one number, above the key what it ranks by, so that the higher goes first; 0
 // where it is not known.
 
+#![tactic(auto)]
+
 ghost use Rattle.std.specs.Prelude.{◌≡◌, cond, ◌≢◌, ℕ, ◌≤◌, ◌<◌, T, ltb, length};
 ghost use Rattle.std.proofs.Math.Option.{some};
 ghost use Rattle.rules.specs.Pages.{file_of};

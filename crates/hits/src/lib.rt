@@ -1,6 +1,8 @@
 // Turns of a Run that meet no F, many at once. Where each reader's next pages are cached, the turns up to the first F only move positions: how many they are
 // is found by one search a reader, and where a reader is after them by one division.
 
+#![tactic(auto)]
+
 ghost use Rattle.std.specs.Prelude.{◌≡◌, List, ℕ, ◌≤◌, ◌<◌, length};
 ghost use Rattle.rules.specs.Lists.{total};
 ghost use Rattle.rules.specs.Valid.{Valid};

@@ -1,4 +1,5 @@
 // Numbers as bytes, the lowest first: put into a buffer, and read from an image.
+
 ghost use Rattle.std.specs.Prelude.{◌≡◌, ◌+◌, ◌≤◌, length};
 ghost use Rattle.rules.specs.Lists.{written};
 ghost use Rattle.rules.specs.Image.{bytes_of};

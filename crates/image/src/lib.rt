@@ -1,5 +1,7 @@
 // Save and Restore: the state as an image of bytes, and back. `bytes` puts and reads numbers, `saving` and `restoring` the parts of an image, and `upgrading`
 // makes an older image into one of the newest length.
+
+#![tactic(auto)]
 mod bytes;
 mod restoring;
 mod saving;

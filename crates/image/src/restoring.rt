@@ -1,4 +1,5 @@
 // Restore: the state of an image's numbers, the tests that refuse an image, and the idle state where one does.
+
 ghost use Rattle.std.specs.Prelude.{◌≡◌, ◌&&◌, [], map, ◌+◌, ◌*◌, ◌-◌, ◌<◌, ◌≤◌, length, eqb};
 ghost use Rattle.std.specs.Int.Bits.{bit_and, bit_or};
 ghost use Rattle.bits.specs.Map.{ones};

@@ -1,4 +1,5 @@
 // Save: the state's parts, each put into its place of the buffer.
+
 ghost use Rattle.std.specs.Prelude.{◌≡◌, ◌+◌, ◌*◌, ◌≤◌, length};
 ghost use Rattle.rules.specs.Lists.{each, written};
 ghost use Rattle.rules.specs.Valid.{Valid};

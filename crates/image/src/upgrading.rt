@@ -1,4 +1,5 @@
 // Older images: one without marks, or without a rule, is made into one of the newest length, byte by byte, and then restored like any other.
+
 ghost use Rattle.std.specs.Prelude.{◌≡◌, ◌<◌, length, get_or};
 ghost use Rattle.rules.specs.Views.{reply_of};
 ghost use Rattle.rules.specs.Image.{bytes_of, last_from, marked, Older, upgraded, restore_of, image_numbers, image_length, unmarked_length, unruled_length};

@@ -1,5 +1,7 @@
 // The input in chunks, cut into lines: on lent buffers, the image of the box, the text since the last line end, and room for answers.
 
+#![tactic(auto)]
+
 ghost use Rattle.std.specs.Prelude.{◌+◌, ◌≤◌, ◌<◌, ◌≡◌, ◌++◌, length, set, drop};
 ghost use Rattle.rules.specs.Views.{state_of};
 ghost use Rattle.rules.specs.Calls.{idle};

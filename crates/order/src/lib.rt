@@ -1,6 +1,8 @@
 // The page to give up: the head of the steal order. The order itself is not made here: of a few pages that can come first, the search keeps the best. A page
 // ahead of no reader goes before any other, and is found without ranks; else it is the page of the highest rank.
 
+#![tactic(auto)]
+
 ghost use Rattle.std.specs.Prelude.{◌≡◌, ℕ, ◌<◌, ◌≤◌, T, get_or};
 ghost use Rattle.rules.specs.Pages.{file_of, page_of};
 ghost use Rattle.rules.specs.Valid.{Valid};

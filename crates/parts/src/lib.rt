@@ -1,6 +1,8 @@
 // What the calls, the orders, the walks, the lists and the image all build and ask of readers, files and pages. A reader or a view is made here alone, by one
 // function for each kind of change.
 
+#![tactic(auto)]
+
 ghost use Rattle.std.specs.Prelude.{◌≡◌, false, List, ℕ, min, ◌+◌, ◌-◌, ◌*◌, ◌/◌, ◌%◌, ◌≤◌, ◌<◌, get_or, length};
 ghost use Rattle.bits.specs.Map.{bit, ones, put_bit};
 ghost use Rattle.rules.specs.Views.{state_of, no_pages};

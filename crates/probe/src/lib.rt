@@ -15,6 +15,8 @@
 // call takes. Before it each answer is a refusal with the number 0, which it never gives, so 0 is a row that it left; further numbers of the answers are not
 // touched. A row's number is the refusal's, 256 behind, 257 not seen, or 4,294,967,296 + time × 256 + slot. The number returned is Restore's 13, which leaves
 // the answers, the call's 12, or 4,294,967,296 + count of words.
+
+#![tactic(auto)]
 ghost use Rattle.std.specs.Prelude.{◌≡◌, true, false, ◌++◌, map, min, ◌+◌, ◌*◌, ◌≤◌, ◌<◌, get_or, length, take, drop};
 ghost use Rattle.rules.specs.Valid.{Valid};
 ghost use Rattle.rules.specs.Views.{state_of};

@@ -1,5 +1,7 @@
 // The program: lines from standard input, one answer line for each to standard output.
 
+#![tactic(auto)]
+
 ghost use Rattle.std.specs.Prelude.{◌≡◌, true, ◌≤◌, length, take};
 ghost use Rattle.rules.specs.Calls.{idle};
 ghost use Rattle.rules.specs.Image.{image_of};

@@ -1,6 +1,8 @@
 // When will these be read? Each reader's look-ahead is walked once for all questions; a row is then looked up. Every decision is made by a function on values.
 // The two functions that hold the lent slices of records are straight code.
 
+#![tactic(auto)]
+
 ghost use Rattle.std.specs.Prelude.{◌≡◌, ◌≤◌};
 ghost use Rattle.rules.specs.Valid.{Valid};
 ghost use Rattle.rules.specs.Views.{state_of};

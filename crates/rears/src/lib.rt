@@ -1,5 +1,7 @@
 // The page to give up where a page is ahead of no reader: such a page goes before any other, and is found without ranks, from each file's end down.
 
+#![tactic(auto)]
+
 ghost use Rattle.std.specs.Prelude.{◌≡◌, Bool, true, cond, ◌&&◌, List, ℕ, ◌+◌, ◌<◌, ◌≤◌, leb, ltb, get_or};
 ghost use Rattle.rules.specs.Valid.{Valid};
 ghost use Rattle.rules.specs.Views.{state_of};

@@ -1,7 +1,9 @@
 // The types of the box. What each call does with them is in specs/, rule by rule: on a whole State. The code has the maps lent, and the rest as a View.
 
+#![tactic(auto)]
+
 // A reader's condition.
-#[derive(Drop)]
+#[derive(Clone, Copy)]
 pub enum Condition {
     Empty,
     Running,
@@ -9,7 +11,7 @@ pub enum Condition {
 }
 
 // A reader slot's record: the position is the last page read, the pace the ticks for a page, and the last page the one at which the reader is at its end.
-#[derive(Drop)]
+#[derive(Clone, Copy)]
 pub struct Reader {
     pub condition: Condition,
     pub file: u8,
@@ -39,7 +41,7 @@ pub struct State {
 
 // A state but its two maps. The marks and the numbers of readers expected and of attaches, which few calls change, come first: behind the readers they would be
 // copied with these, in one piece of over 128 bytes, for which the compiler calls a function.
-#[derive(Drop)]
+#[derive(Clone, Copy)]
 pub struct View {
     pub marks: [u16; 16],
     pub expected: [u16; 8],
@@ -54,7 +56,7 @@ pub struct View {
 }
 
 // What a call answers. `Replaced` is an arrival that dropped the page it names.
-#[derive(Drop)]
+#[derive(Clone, Copy)]
 pub enum Answer {
     Refused(u8),
     Done,
@@ -71,21 +73,21 @@ pub enum Answer {
 
 // What Clusters answers: the count of clusters; and what questions get beside their answers: how many words of the maps were read, two at one
 // place counted as one. Or the refusal's number.
-#[derive(Drop)]
+#[derive(Clone, Copy)]
 pub enum Listing {
     Count(u16),
     Refused(u8),
 }
 
 // What Steal list and Fetch list answer: the count of keys, with how many pages the walks along the look-aheads tested; or the refusal's number.
-#[derive(Drop)]
+#[derive(Clone, Copy)]
 pub enum Ordered {
     Keys { count: u16, tested: u16 },
     Refused(u8),
 }
 
 // A question: when will this page be read? Its numbers are any numbers.
-#[derive(Drop)]
+#[derive(Clone, Copy)]
 pub struct Question {
     pub file: u64,
     pub page: u64,
@@ -93,7 +95,7 @@ pub struct Question {
 
 // When a page will be read: the time and the slot of its use key; or it is ahead of no reader of its file; or ahead of some, and in no look-ahead; or there is
 // no such file or page, and this is the refusal's number.
-#[derive(Drop)]
+#[derive(Clone, Copy)]
 pub enum When {
     At { time: u32, slot: u8 },
     Behind,
@@ -102,7 +104,7 @@ pub enum When {
 }
 
 // The record that answers a question.
-#[derive(Drop)]
+#[derive(Clone, Copy)]
 pub struct Forecast {
     pub when: When,
 }

@@ -1,5 +1,7 @@
 // Run, leg by leg: some turns one by one and, if these met no F, those after them that meet none, at once.
 
+#![tactic(auto)]
+
 ghost use Rattle.std.specs.Prelude.{◌≡◌, List, ℕ, ◌+◌, ◌≤◌, ◌<◌};
 ghost use Rattle.rules.specs.Views.{state_of, reply_of};
 ghost use Rattle.rules.specs.Valid.{Valid};

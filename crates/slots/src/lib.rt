@@ -1,5 +1,7 @@
 // Attach, Read, Detach and Measure, the calls of a slot: one record changes, and the others stay.
 
+#![tactic(auto)]
+
 ghost use Rattle.std.specs.Prelude.{◌≡◌, List, ℕ, min, ◌+◌, ◌≤◌};
 ghost use Rattle.rules.specs.Views.{state_of, reply_of};
 ghost use Rattle.rules.specs.Valid.{Valid};

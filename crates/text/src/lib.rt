@@ -1,4 +1,6 @@
 // The bytes of the program's lines: a line taken apart, an answer's bytes written, a stream cut into lines.
+
+#![tactic(auto)]
 ghost use Rattle.std.specs.Prelude.{◌≡◌, [], ◌∷◌, ◌++◌, ◌+◌, ◌<◌, ◌≤◌, length};
 ghost use Rattle.std.proofs.Math.Seq.{slice};
 ghost use Rattle.rules.specs.Lines.{digits_of, field_of};
@@ -20,14 +22,14 @@ pub struct Command {
 }
 
 // A field of a line: its value, and the place after it.
-#[derive(Drop)]
+#[derive(Clone, Copy)]
 enum Field {
     Number { value: u64, next: usize },
     Bad,
 }
 
 // A field's value with one more byte: more digits, or no value of a field.
-#[derive(Drop)]
+#[derive(Clone, Copy)]
 enum Value {
     Within(u64),
     Over,

@@ -2,6 +2,8 @@
 // and the files' counts. So the view stays as it is for a leg of turns: the positions are in the readers' array of the searches, which is lent from turn to
 // turn, and what is known of the files' heads goes along.
 
+#![tactic(auto)]
+
 ghost use Rattle.std.specs.Prelude.{◌≡◌, ℕ, ◌+◌, ◌≤◌, ◌<◌, T, get_or, length, set};
 ghost use Rattle.rules.specs.Readers.{reader_in, attached};
 ghost use Rattle.rules.specs.Views.{state_of};
@@ -22,14 +24,14 @@ use rules::{Answer, Reader, View};
 use uses::{Choice, Terms};
 
 // What a turn did: 1 if it met F, and 1 if it ended in H.
-#[derive(Drop)]
+#[derive(Clone, Copy)]
 pub struct Turned {
     pub fetched: u16,
     pub read: u16,
 }
 
 // A leg of a Run, some turns that were made: the view after them, how many they are, the fetches and the reads.
-#[derive(Drop)]
+#[derive(Clone, Copy)]
 pub struct Leg {
     pub view: View,
     pub turns: u64,

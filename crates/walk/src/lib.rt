@@ -3,6 +3,8 @@
 // time for the reader × 16 + the seat distance. What a walk needs of a reader is in its parameters; what q takes for cached is in one of the two maps, which
 // are put together word by word.
 
+#![tactic(auto)]
+
 ghost use Rattle.std.specs.Prelude.{◌≡◌, List, ℕ, min, ◌+◌, ◌-◌, ◌*◌, ◌/◌, ◌%◌, ◌<◌, ◌≤◌, T, leb, eqb, length, replicate};
 ghost use Rattle.bits.specs.Map.{digit};
 ghost use Rattle.rules.specs.declared.State.{State};
@@ -18,7 +20,7 @@ ghost use Rattle.walk.specs.Tables.{KeyedBy, Keyed, InLookAhead};
 use rules::{Reader, View};
 
 // How far a walk has come: the pages tested, how many of them are not present, and the number of the page after them.
-#[derive(Drop)]
+#[derive(Clone, Copy)]
 struct Walk {
     tested: usize,
     missing: u64,
@@ -26,21 +28,21 @@ struct Walk {
 }
 
 // Where a walk ended, and how many words of the maps it read: two at one place count as one.
-#[derive(Drop)]
+#[derive(Clone, Copy)]
 struct Tour {
     end: Walk,
     words: usize,
 }
 
 // What the walks count: the pages tested, and the words of the maps that were read.
-#[derive(Drop)]
+#[derive(Clone, Copy)]
 pub struct Tally {
     pub tested: usize,
     pub words: usize,
 }
 
 // What a walk goes by: how many missing pages end it, and what the number grows by at each page and at each missing one.
-#[derive(Drop)]
+#[derive(Clone, Copy)]
 struct Strides {
     most: u64,
     page: u64,

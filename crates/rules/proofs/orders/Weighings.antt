@@ -164,7 +164,7 @@ module _ (frames : ℕ) (weight : ℕ → ℕ) where
         record {
           is = choice-is all b lb low held r.2 ∙ m.1;
           first = rw e m.1;
-          top = rw e r.2;
+          top = subst (Top all) (sym e) r.2;
           here = t.1;
         },
       )

@@ -446,10 +446,10 @@ texts =
     row (length (long (bytes "10")) ∷ num (well_formed (long (bytes "10"))) ∷ []) (200 ∷ 1 ∷ [])
     ∷ row (length (long (bytes "100")) ∷ num (well_formed (long (bytes "100"))) ∷ []) (201 ∷ 0 ∷ [])
     -- "A last line may lack its line end"; an empty line is a line
-    ∷ row (program_of (bytes "A,0,0,10,0,6\n_r,0")) (bytes "E,3\n_e,6\n")
+    ∷ row (program_of (bytes "A,0,0,10,0,6\nR,0")) (bytes "E,3\nE,6\n")
     -- A.1: the A line has five fields
     ∷ row (program_of (bytes "A,0,0,10\n")) (bytes "E,14\n")
-    ∷ row (program_of (bytes "R,0\n\n")) (bytes "E,6\n_e,14\n")
+    ∷ row (program_of (bytes "R,0\n\n")) (bytes "E,6\nE,14\n")
     ∷ row (program_of []) []
     ∷ []
 
