@@ -67,7 +67,7 @@ unfolding line_of each
 order-length first keys few low =
     let many : length keys < 10 ^ 4 = omega arith in
     let all = all_map Key (λ k. length (each field_of (pair_of k)) ≤ 7) keys pair-few low in
-    rw (each-each, length-append (digits_of 10 (length keys)))
+    rw (each-each field_of pair_of keys, length-append (digits_of 10 (length keys)))
     (omega (arith, digits-few 3 10 (length keys) many, each-few (λ k. each field_of (pair_of k)) 7 keys all))
 
 -- a line of clusters

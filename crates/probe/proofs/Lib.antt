@@ -1,4 +1,3 @@
 -- What the proofs of this crate rest on.
 pub mod Numbers
 pub mod Rows
-pub mod Lending

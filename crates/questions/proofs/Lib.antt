@@ -1,4 +1,3 @@
--- What the rows rest on: the lent list so far, a row that is looked up, and how a walk by hand calls.
+-- What the rows rest on: the lent list so far, and a row that is looked up.
 pub mod Filled
 pub mod Looked
-pub mod Calling

@@ -4,22 +4,20 @@
 
 #![tactic(auto)]
 
-ghost use Rattle.std.specs.Prelude.{◌≡◌, ℕ, ◌+◌, ◌≤◌, ◌<◌, T, get_or, length, set};
-ghost use Rattle.rules.specs.Readers.{reader_in, attached};
+ghost use Rattle.std.specs.Prelude.{◌≡◌, ℕ, ◌+◌, ◌≤◌, ◌<◌, get_or, length};
+ghost use Rattle.rules.specs.Readers.{reader_in};
 ghost use Rattle.rules.specs.Views.{state_of};
 ghost use Rattle.rules.specs.Calls.{dropped};
 ghost use Rattle.rules.specs.Run.{hit_page};
 ghost use Rattle.parts.specs.Held.{Held};
 ghost use Rattle.uses.specs.Choices.{chosen};
 ghost use Rattle.uses.specs.Sights.{state_under};
-ghost use Rattle.heads.specs.Heads.{Kept, Forgot, NotRead};
+ghost use Rattle.heads.specs.Heads.{Kept};
 ghost use Rattle.parts.specs.Positions.{moved_to};
 ghost use Rattle.turns.specs.Places.{Following, Choosing, Turning};
-ghost use Rattle.turns.specs.Arrivals.{Coming, Landed};
 ghost use Rattle.turns.specs.Tallies.{Single, Made};
 ghost use Rattle.turns.specs.Legs.{Ready, IsLeg};
 
-use calls::Step;
 use rules::{Answer, Reader, View};
 use uses::{Choice, Terms};
 
@@ -49,6 +47,14 @@ fn one_if_hit(answer: Answer) -> u16
     }
 }
 
+// A turn that ended in this answer.
+fn ended(answer: Answer, fetched: u16) -> Turned
+    ensures { result ≡ record { fetched = fetched; read = length (hit_page answer) } }
+{
+    let read = one_if_hit(answer);
+    Turned { fetched, read }
+}
+
 // The page that gives up its frame for one that arrives: where all frames are taken, the head of the steal order.
 fn give_up<'a>(
     t: Terms,
@@ -74,58 +80,7 @@ fn give_up<'a>(
     heads::victim_kept(t, sizes, seats, cached, fetching, heads, files)
 }
 
-// Run's Arrive, of a page that is in fetch. What goes for it is chosen before it leaves fetch, so that it is present in the choice (A.5) and is never the one to
-// go. The array has positions alone, and these stay: that every reader waiting for the page runs again is said of the view.
-fn arrive<'a>(
-    t: Terms,
-    sizes: &'a [u16; 8],
-    weights: &'a [u64; 9],
-    seats: &'a [u16; 72],
-    cached: &mut [u64; 128],
-    fetching: &mut [u64; 128],
-    held: &mut [u16; 8],
-    heads: &mut [u64; 8],
-    file: u8,
-    page: u16,
-) -> Answer
-    requires coming { (w : View) × Coming t sizes.now weights.now seats.now cached.old fetching.old heads.old file page w }
-    requires done_bound { (t.done ≤ 16384) × Held cached.old held.old }
-    ensures landed { (w : View) → Coming t sizes.now weights.now seats.now cached.old fetching.old
-        heads.old file page w → Landed t w file page cached.old fetching.old result
-        cached.new fetching.new heads.new }
-    ensures counted { Held cached.new held.new }
-{
-    let gone = give_up(t, sizes, weights, seats, cached, fetching, held, heads);
-    let key = parts::page_key(file as u64, page as u64);
-    calls::put_in(cached, fetching, held, key, gone);
-    heads::forget_arrived(heads, key, gone);
-    calls::arrival(gone)
-}
-
-// A turn ends in a Read: the array has the position of the record that it left, and the head of the reader's file is known no more.
-fn end_turn(
-    seats: &mut [u16; 72],
-    heads: &mut [u64; 8],
-    turn: u8,
-    r: Reader,
-    step: Step,
-    fetched: u16,
-) -> Turned
-    requires { (turn < 16) × (length heads.old ≡ 8) × (T (attached r) → r.file < 8) }
-    ensures value { result ≡ record { fetched = fetched; read = length (hit_page step.answer) } }
-    ensures placed { seats.new ≡ set seats.old turn step.reader.position }
-    ensures forgot { Forgot heads.old (λ f. NotRead f r) heads.new }
-{
-    let moved = step.reader;
-    seats[turn as usize] = moved.position;
-    heads::forget_read(heads, r);
-    let answer = step.answer;
-    let read = one_if_hit(answer);
-    Turned { fetched, read }
-}
-
-// One turn, of the slot whose record is `r`. Read refuses an empty slot and changes nothing, so the slot is not looked at before. The reader that waits for its
-// page runs again once it has arrived: the second Read is of the same record.
+// One turn, of the slot whose record is `r`. Read refuses an empty slot and changes nothing, so the slot is not looked at before.
 fn turn<'a>(
     t: Terms,
     sizes: &'a [u16; 8],
@@ -145,17 +100,25 @@ fn turn<'a>(
     ensures single { Single result }
     ensures counted { Held cached.new held.new }
 {
+    let slot = t.turn as usize;
     let first = calls::read_slot(cached, fetching, r);
     let answer = first.answer;
-    let Answer::Fetch { file, page } = answer else {
-        return end_turn(seats, heads, t.turn, r, first, 0);
+    let Answer::Fetch { file: _, page: _ } = answer else {
+        let moved = first.reader;
+        seats[slot] = moved.position;
+        heads::forget_read(heads, r);
+        return ended(answer, 0);
     };
     heads::forget_fetched(heads, t.fetch_time, r);
-    arrive(
-        t, sizes, weights, seats, cached, fetching, held, heads, file, page,
-    );
+    let gone = give_up(t, sizes, weights, seats, cached, fetching, held, heads);
+    let key = parts::next_key(r);
+    calls::put_in(cached, fetching, held, key, gone);
+    heads::forget_arrived(heads, key, gone);
     let second = calls::read_slot(cached, fetching, r);
-    end_turn(seats, heads, t.turn, r, second, 1)
+    let again = second.answer;
+    let moved = second.reader;
+    seats[slot] = moved.position;
+    ended(again, 1)
 }
 
 // The readers where the array has them.
