@@ -80,4 +80,5 @@ def main():
         turn(path, lambda text: re.sub("`[^`\n]*`", lambda quoted: TOKEN.sub(lambda m: respelled(m.group(0), fields), quoted.group(0)), text))
 
 
-main()
+if __name__ == "__main__":
+    main()

@@ -1,0 +1,15 @@
+-- Invariant: no bit with the value lies between the start and the place reached. Measure: the keys that are left.
+use mathlib.Core.Logic.{⊎_elim}
+use Prim.Native.Nat.{◌+◌, ◌-◌, ◌*◌, ◌/◌, ◌%◌, ◌≤◌}
+use native.Mathlib.Omega.{arith}
+use borrow.Author.Rules.{rules}
+use borrow.Author.Tests.{ltb-true, ltb-false}
+use Rattle.bits.proofs.Finds.{Without, Next, without-join, next_word, next-at, next-none}
+use Rattle.bits.proofs.next_bit.Given as goal
+
+-- the keys from `from` on to `at` lack the bit v
+abbrev pub invariant-loop-at : goal.invariant-loop-at
+invariant-loop-at l = (l.from ≤ l.at) × Without l.words l.v l.from l.at
+
+abbrev pub decreases-loop-at : goal.decreases-loop-at
+decreases-loop-at l = l.end - l.at

@@ -1,0 +1,15 @@
+-- Invariant: of the slots passed, no first absent page is used sooner than the best (`Soonest`). Measure: the slots that are left.
+use mathlib.Core.Path.{◌≡◌, refl, sym}
+use Prim.Native.Nat.{◌-◌, ◌≤◌}
+use native.Mathlib.Omega.{arith}
+use borrow.Author.Rules.{rules}
+use Rattle.rules.specs.Views.{state_of}
+use Rattle.fetch.specs.Soonest.{Soonest}
+use Rattle.fetch.proofs.Searching.{soonest-none, soonest-fetch, soonest-nothing}
+use Rattle.fetch.proofs.next_fetch.Given as goal
+
+abbrev pub invariant-loop-slot : goal.invariant-loop-slot
+invariant-loop-slot l = (l.slot ≤ 16) × Soonest (state_of l.v l.cached l.fetching) l.slot l.best
+
+abbrev pub decreases-loop-slot : goal.decreases-loop-slot
+decreases-loop-slot l = 16 - l.slot

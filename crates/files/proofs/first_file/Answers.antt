@@ -1,0 +1,8 @@
+-- The first digit of the set.
+use borrow.Author.Rules.{rules}
+use Rattle.files.proofs.Sets.{set_first}
+use Rattle.files.proofs.first_file.Goals as goal
+
+pub returns : goal.returns
+returns c =
+    set_first c.args.files c.next_one.result c.next_one.ensures

@@ -1,0 +1,10 @@
+-- By whether a page was chosen.
+use borrow.Author.Rules.{rules}
+use native.Mathlib.Omega.{arith}
+use Rattle.uses.proofs.Chosen.{chosen-key}
+use Rattle.heads.proofs.Keeping.{forgot-key, forgot-nothing}
+use Rattle.heads.proofs.forget_gone.Goals as goal
+
+pub returns-in-Nothing : goal.returns-in-Nothing
+returns-in-Nothing c =
+    forgot-nothing _ c.args.gone (search rules) c.requires.0

@@ -1,0 +1,18 @@
+-- Invariant: the first f numbers are in range. Measure: the files that are left.
+use mathlib.Core.Path.{◌≡◌}
+use mathlib.Core.Bool.{Bool, true}
+use mathlib.Core.List.{List}
+use Prim.Native.Nat.{ℕ, ◌-◌, ◌≤◌}
+use native.Mathlib.Omega.{arith}
+use borrow.Author.Rules.{rules}
+use lib.ListN.{get_or}
+use lib.Dec.{T, le→leb}
+use Rattle.rules.specs.Lists.{range, every, within}
+use Rattle.image.proofs.Checks.{every-none, every_more, every-stop, every-end, every-listed}
+use Rattle.image.proofs.restoring.eight_hold.Given as goal
+
+abbrev pub invariant-loop-f : goal.invariant-loop-f
+invariant-loop-f l = (l.f ≤ 8) × (every (low l.numbers l.high) (range 0 l.f) ≡ true)
+
+abbrev pub decreases-loop-f : goal.decreases-loop-f
+decreases-loop-f l = 8 - l.f

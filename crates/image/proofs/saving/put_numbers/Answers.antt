@@ -1,0 +1,21 @@
+-- Invariant: the buffer is what it was with the first k numbers put into it, and is as long. Measure: the numbers that are left.
+use mathlib.Core.Path.{◌≡◌}
+use Prim.Native.Nat.{◌-◌, ◌≤◌}
+use borrow.Author.Rules.{rules}
+use lib.ListN.{length, take}
+use Rattle.rules.specs.Lists.{each, written}
+use Rattle.rules.specs.Image.{bytes_of}
+use Rattle.rules.proofs.laws.Numbers.{bytes-length}
+use Rattle.image.proofs.Puts.{each_none, each_more, each_all}
+use Rattle.image.proofs.saving.put_numbers.Goals as goal
+
+pub loop-k-init : goal.loop-k-init
+loop-k-init c = search (each_none (bytes_of 2) 2 (bytes-length 2) 0 0, rules)
+
+pub loop-k-preserved : goal.loop-k-preserved
+loop-k-preserved c =
+    search (each_more (bytes_of 2) 2 (bytes-length 2) (length c.args.numbers.now) 0, rules)
+
+pub returns : goal.returns
+returns c =
+    search (each_all (bytes_of 2) 2 (bytes-length 2) (length c.args.numbers.now) 0, rules)

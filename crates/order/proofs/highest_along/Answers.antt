@@ -1,0 +1,163 @@
+-- Invariant: no cached page of the file past page n ranks higher than the best (`Raised`), and no reader from the place reached on is short of page n. Measure:
+-- page n and the place reached, neither of which rises.
+use mathlib.Core.Path.{◌≡◌}
+use Prim.Native.Nat.{ℕ, ◌+◌, ◌-◌, ◌*◌, ◌/◌, ◌≤◌, ◌<◌}
+use native.Mathlib.Decide.{dec_lt}
+use native.Mathlib.Omega.{arith}
+use borrow.Author.Rules.{rules}
+use borrow.Author.Tests.{ltb-false}
+use lib.ListN.{get_or}
+use Rattle.rules.specs.Pages.{file_of, page_of}
+use Rattle.rules.specs.declared.State.{State}
+use Rattle.rules.specs.declared.View.{View}
+use Rattle.uses.specs.Sights.{state_under, Sighted}
+use Rattle.uses.specs.Queues.{Queued}
+use Rattle.order.specs.Searches.{ShortOf, Looked}
+use Rattle.order.proofs.Sweeps.{short-at}
+use Rattle.order.proofs.Searching.{last_low, last-cached, raised-start, raised-last, is-ahead, raised-higher, raised-high, raised_all}
+use Rattle.order.proofs.highest_along.Goals.{After-short_of-at, Start, Then-first-at}
+use Rattle.order.proofs.highest_along.Goals as goal
+
+-- a view as the search reads it
+abbrev Seen : Start → View → Type 0
+Seen c v = Sighted c.args.t c.args.seats.now c.args.cached.now c.args.fetching.now v
+
+abbrev at : Start → View → State
+at c v = state_under c.args.t v c.args.cached.now c.args.fetching.now
+
+-- whose readers of the file are in the queue
+abbrev Stand : Start → View → Type 0
+Stand c v = Queued v.readers c.args.file 0 c.args.queue.now c.args.first c.args.end
+
+abbrev start : After-short_of-at → tie.Start invariant-loop decreases-loop
+start c = c.before.before.before.before.before.before
+
+-- the page found, and where the readers short of it end
+abbrev page : After-short_of-at → ℕ
+page c = c.last_set-n.result
+
+abbrev ends : After-short_of-at → ℕ
+ends c = c.short_of-at.result
+
+page_low : (c : After-short_of-at) → page c ≤ c.loop-at.n
+page_low c =
+    let a = (start c).args in
+    last_low (at (start c) (start c).requires.2.0) a.file c.loop-at.n _ c.last_set-n.ensures
+
+ends_low : (c : After-short_of-at) → ends c ≤ (start c).args.end
+ends_low c = omega (arith, c.short_of-at.ensures.low, c.loop-at.invariant.0)
+
+-- no reader from there on is short of it
+past : (c : After-short_of-at) (i : ℕ) → ends c ≤ i → i < (start c).args.end → page c ≤ get_or (start c).args.queue.now i 0 / 16
+past c i l u = by (dec_lt i c.loop-at.at)
+  where
+    by : Dec (i < c.loop-at.at) → page c ≤ get_or (start c).args.queue.now i 0 / 16
+    by (yes h) = c.short_of-at.ensures.past i l h
+    by (no h) = omega (arith, c.loop-at.invariant.2 i (omega arith) u, page_low c)
+
+-- and no cached page past it ranks higher than the best
+looked : (c : After-short_of-at) (v : View) → Seen (start c) v → Stand (start c) v
+    → Looked (at (start c) v) (start c).args.file (page c) (start c).args.kept c.loop-at.best
+looked c v g q files o free r =
+    let s = start c in
+    raised-last (at s v) files s.args.file s.args.kept c.loop-at.n c.loop-at.best (c.loop-at.invariant.3 v g q files o free r) (page c)
+    c.last_set-n.ensures
+
+-- ---- where some reader is short of it
+
+
+-- the nearest of them
+abbrev next : Then-first-at → ℕ
+next c =
+    get_or (start c.before).args.queue.now (ends c.before - 1) 0 / 16
+
+next-short : (c : Then-first-at) →
+    next c < page c.before
+next-short c =
+    c.short_of-at.ensures.short c.if-first-at.true
+
+short : (c : Then-first-at) →
+    let a = (start c.before).args in
+    (v : View) → Stand (start c.before) v
+    → ShortOf v.readers a.file a.queue.now a.first (ends c.before) (page c.before)
+short c v q =
+    let a = (start c.before).args in
+    short-at v.readers a.file a.queue.now a.first a.end (ends c.before) (page c.before) q c.if-first-at.true
+    (ends_low c.before) (past c.before) (next-short c)
+
+-- the page's key
+abbrev key : Then-first-at → ℕ
+key c =
+    (start c.before).args.file * 1024 + page c.before - 1
+
+key-is : (c : Then-first-at) →
+    (file_of (key c) ≡ (start c.before).args.file) × (page_of (key c) ≡ page c.before) × (key c < 8192)
+key-is c =
+    let l = page_low c.before in
+    let n = c.loop-at.invariant.1 in
+    let f = (start c.before).requires.0 in
+    let s = next-short c in
+    (omega arith, omega arith, omega arith)
+
+short-key : (c : Then-first-at) →
+    let a = (start c.before).args in
+    (v : View) → Stand (start c.before) v
+    → ShortOf v.readers (file_of (key c)) a.queue.now a.first (ends c.before) (page_of (key c))
+short-key c v q = rw ((key-is c).0, (key-is c).1) (short c v q)
+
+pub loop-at-init : goal.loop-at-init
+loop-at-init c = (omega arith, omega arith, (λ i l u. absurd (omega arith)), λ v g q files o free r. raised-start (at c v) files c.args.file _ r)
+
+pub overflow_add-key : goal.overflow_add-key
+overflow_add-key c =
+    omega (arith, page_low c.before, c.loop-at.invariant.1, (start c.before).requires.0)
+
+pub overflow_sub-key : goal.overflow_sub-key
+overflow_sub-key c = omega (arith, next-short c)
+
+pub higher-best-requires : goal.higher-best-requires
+higher-best-requires c =
+    let s = start c.before in
+    let sight = s.pre.2 in
+    record { key_bound = ((key-is c).2, omega (arith, ends_low c.before, s.pre.1)); sight_short = (sight.0, sight.1, short-key c sight.0 sight.2) }
+
+pub bounds-queue-at : goal.bounds-queue-at
+bounds-queue-at c =
+    omega (arith, ends_low c.before.before.before, (start c.before.before.before).requires.1)
+
+pub loop-at-smaller-then-first-at : goal.loop-at-smaller-then-first-at
+loop-at-smaller-then-first-at c =
+    omega (arith, c.position_in-n.ensures, next-short c.before.before.before.before.before, page_low c.before.before.before.before.before.before, c.short_of-at.ensures.low)
+
+pub loop-at-preserved-then-first-at : goal.loop-at-preserved-then-first-at
+loop-at-preserved-then-first-at c =
+    let s = start c.before.before.before.before.before.before in
+    let l = c.loop-at in
+    let k = key-is c.before.before.before.before.before in
+    let e = c.position_in-n.ensures in (
+      ends_low c.before.before.before.before.before.before,
+      omega (arith, e, next-short c.before.before.before.before.before, page_low c.before.before.before.before.before.before, l.inv.1),
+      λ i x u. omega (arith, e, next-short c.before.before.before.before.before, past c.before.before.before.before.before.before i x u),
+      λ v g q files o free r.
+          let so_far = looked c.before.before.before.before.before.before v g q files o free r in
+          let here = last-cached (at s v) s.args.file l.n _ c.last_set-n.ensures (omega (arith, next-short c.before.before.before.before.before)) in
+          let ahead = is-ahead (at s v) files s.args.file o (key c.before.before.before.before.before) here k.0 free in
+          rw (c.higher-best.ensures v g (short-key c.before.before.before.before.before v q) ahead)
+          (raised-higher (at s v) files s.args.file s.args.kept g.valid (key c.before.before.before.before.before) (page c.before.before.before.before.before.before) _ k.2 k.1 k.0 here l.best
+          so_far s.args.queue.now s.args.first (ends c.before.before.before.before.before.before) (short c.before.before.before.before.before v q)
+          (λ i x u. omega (arith, e, q.rising i (ends c.before.before.before.before.before.before - 1) x (omega arith) (omega (arith, ends_low c.before.before.before.before.before.before)))) o),
+    )
+
+pub loop-at-smaller : goal.loop-at-smaller
+loop-at-smaller c =
+    omega (arith, c.if-first-at.false, c.loop-at-test.true, page_low c.before)
+
+pub loop-at-preserved : goal.loop-at-preserved
+loop-at-preserved c =
+    (ends_low c.before, omega (arith, page_low c.before, c.loop-at.invariant.1), past c.before, looked c.before)
+
+pub returns-after-loop-at : goal.returns-after-loop-at
+returns-after-loop-at c = λ v g q files o free r.
+    let l = c.loop-at in
+    raised_all (at c.before.before v) files c.args.file _ l.n l.best (l.invariant.3 v g q files o free r) free o c.args.queue.now c.args.first c.args.end q
+    (λ i x u. l.invariant.2 i (omega (arith, c.loop-at-test.false)) u)

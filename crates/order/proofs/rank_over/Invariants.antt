@@ -1,0 +1,26 @@
+-- Invariant: the number kept is what the readers asked leave of the page's rank (`Swept`). Measure: the place reached, down the queue.
+use mathlib.Core.Path.{◌≡◌, refl}
+use Prim.Native.Nat.{ℕ, ◌+◌, ◌-◌, ◌/◌, ◌%◌, ◌≤◌, ◌<◌}
+use native.Mathlib.Omega.{arith}
+use borrow.Author.Rules.{rules}
+use borrow.Author.Tests.{ltb-false}
+use lib.Dec.{T}
+use lib.ListN.{get_or}
+use Rattle.rules.specs.Pages.{page_of}
+use Rattle.rules.specs.UseTimes.{ahead}
+use Rattle.rules.specs.declared.State.{State}
+use Rattle.rules.specs.declared.View.{View}
+use Rattle.uses.specs.Sights.{state_under, Sits, Sighted}
+use Rattle.order.specs.Searches.{ShortOf}
+use Rattle.order.proofs.Sweeps.{last-is, last_high, pace_is, stands-before, Swept, Asked, swept_none, swept-past, swept-more, swept_all}
+use Rattle.order.proofs.rank_over.Given as goal
+
+abbrev pub invariant-loop-at : goal.invariant-loop-at
+invariant-loop-at l =
+    (l.page ≡ l.key % 1024 + 1)
+    × (l.at ≤ l.end)
+    × ((v : View) → Sighted l.t l.seats l.cached l.fetching v → ShortOf v.readers (l.key / 1024) l.queue l.first l.end (page_of l.key)
+    → T (ahead (state_under l.t v l.cached l.fetching) l.key) → Swept (state_under l.t v l.cached l.fetching) l.key (Asked l.queue l.at l.end) l.top)
+
+abbrev pub decreases-loop-at : goal.decreases-loop-at
+decreases-loop-at l = l.at

@@ -1,0 +1,13 @@
+-- The first page goes, if there is one.
+use mathlib.Core.Path.{sym}
+use borrow.Author.Rules.{rules}
+use Rattle.order.proofs.Firsts.{first-victim, first-nothing}
+use Rattle.order.proofs.victim_among.Goals as goal
+
+pub returns-then-first-eq0 : goal.returns-then-first-eq0
+returns-then-first-eq0 c = λ v g e.
+    sym (first-nothing _ g.valid _ c.first_among-first.result (c.first_among-first.ensures v g e) c.if-first-eq0.true)
+
+pub returns : goal.returns
+returns c = λ v g e.
+    sym (first-victim _ g.valid _ c.first_among-first.result (c.first_among-first.ensures v g e) c.if-first-eq0.false)

@@ -1,0 +1,8 @@
+-- One more of the file.
+use native.Mathlib.Omega.{arith}
+use borrow.Author.Rules.{rules}
+use Rattle.parts.proofs.Carried.{held-put}
+use Rattle.parts.proofs.page_in.Goals as goal
+
+pub returns : goal.returns
+returns c = λ cached h b there. held-put cached _ _ 1 _ (omega arith) (omega arith) there h (omega arith)

@@ -1,0 +1,8 @@
+-- Assumes nothing.
+use mathlib.Core.Path.{refl}
+use borrow.Author.Rules.{rules}
+use Rattle.rules.proofs.laws.Lists.{written_one}
+use Rattle.text.proofs.put_byte.Goals as goal
+
+pub returns : goal.returns
+returns c = record { buffer = written_one _ _ _ c.requires; next_is = refl }
