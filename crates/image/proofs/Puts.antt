@@ -65,7 +65,8 @@ bytes-parts (suc w) v n =
 pub written-halves : (w : ℕ) (l b t : List ℕ) (at n : ℕ) → b ≡ written l at (bytes_of w (n % 256 ^ w)) → t ≡ written b (at + w) (bytes_of w (n / 256 ^ w))
     → at + (w + w) ≤ length l → t ≡ written l at (bytes_of (w + w) n)
 written-halves w l b t at n e f h =
-    written_next l b t at w (bytes_of w (n % 256 ^ w)) (bytes_of w (n / 256 ^ w)) (bytes-length w (n % 256 ^ w)) e f (omega (arith, bytes-length w (n / 256 ^ w)))
+    written_next l b t at w (bytes_of w (n % 256 ^ w)) (bytes_of w (n / 256 ^ w)) (bytes-length w (n % 256 ^ w)) e f
+    (omega (arith, bytes-length w (n / 256 ^ w)))
     ∙ ap (written l at) (bytes-parts w w n)
 
 each-suc : {A B : Type 0} (g : A → List B) (xs : List A) (d : A) (k : ℕ) → k < length xs → each g (take k xs) ++ g (get_or xs k d) ≡ each g (take (k + 1) xs)

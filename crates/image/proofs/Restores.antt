@@ -110,7 +110,8 @@ module _ (image : List ℕ) where
       refl)))))
 
   -- the tests are those of the rule
-  pub verdict-is : (sizes cached fetching : List ℕ) → sizes ≡ numbers_at 2 image sizes_at 8 → cached ≡ (state_in image).cached → fetching ≡ (state_in image).fetching
+  pub verdict-is : (sizes cached fetching : List ℕ) → sizes ≡ numbers_at 2 image sizes_at 8
+      → cached ≡ (state_in image).cached → fetching ≡ (state_in image).fetching
       → (t : Bool) → t ≡ verdict image sizes cached fetching → t ≡ accepts (image_numbers image)
   verdict-is sizes cached fetching z c f t e = e ∙ rw (z, sizes_read image, c, f) verdict-accepts
 
@@ -118,7 +119,8 @@ module _ (image : List ℕ) where
 pub sizes-low : (image sizes : List ℕ) (t : Bool) → t ≡ settings_from image sizes → not t ≡ false → SizesLow sizes
 sizes-low image sizes t e n =
     let all = passed (settings_from image sizes) (sym e ∙ not-false t n) in
-    (settings-in (number_at 2 image 0) (number_at 4 image 4) (number_at 4 image 8) sizes (number_at 1 image rule_at) (numbers_at 2 image expected_start 8) all).sizes-in
+    (settings-in (number_at 2 image 0) (number_at 4 image 4) (number_at 4 image 8) sizes (number_at 1 image rule_at)
+    (numbers_at 2 image expected_start 8) all).sizes-in
 
 -- the cached pages are counted: more than the frames
 pub room-stop : (words : List ℕ) (frames number n : ℕ) → n ≡ ones words 0 8192 → number ≡ frames → number < n → leb (ones words 0 8192) frames ≡ false

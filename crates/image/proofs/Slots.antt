@@ -77,7 +77,8 @@ module _ (image sizes fetching : List ℕ) (h : FromImage image sizes fetching) 
   record-holds r t e f = f ∙ rw (h.sizes_read, h.fetching_read, e) (holds-sized (state_in image) (reader_from (image_numbers image) j))
 
   -- the test of the condition's number
-  condition-holds : (n : ℕ) (t : Bool) → n ≡ number_at 1 image (readers_at + 8 * j) → t ≡ within 0 2 n → t ≡ within 0 2 (reader_number (image_numbers image) j 0)
+  condition-holds : (n : ℕ) (t : Bool) → n ≡ number_at 1 image (readers_at + 8 * j) → t ≡ within 0 2 n
+      → t ≡ within 0 2 (reader_number (image_numbers image) j 0)
   condition-holds n t e f =
       let start : readers_at + 8 * j + 0 ≡ readers_at + 8 * j = omega arith in
       f ∙ ap (within 0 2) (e ∙ ap (number_at 1 image) (sym start) ∙ sym (slot_at image j 0 low (omega arith)))

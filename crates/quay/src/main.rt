@@ -10,44 +10,45 @@ ghost use Rattle.answers.specs.Responses.{Roomy};
 ghost use Rattle.lines.specs.Sessions.{no_text, feed_of, finish_of, StandsIn};
 ghost use Rattle.quay.specs.Program.{Stands, Within, answers_in, handed_of, handed_in};
 
-use libc::{STDIN_FILENO, STDOUT_FILENO};
+use std::io;
+use std::io::{Read, Write};
 
 // What reading came to: so many bytes, the end of the input, or a failure.
-#[derive(Drop)]
+#[derive(Clone, Copy)]
 enum Input {
     Bytes(usize),
     End,
     Failed,
 }
 
-// Says on standard error why the last call of the system failed.
-fn complain() {
-    os::fail(&[b'q', b'u', b'a', b'y']);
+// Says on standard error why a call of the system failed.
+fn complain(rt: &HostRuntime, reason: &io::Error) {
+    let _said = eprintln!(rt; "quay: {reason}");
 }
 
 // Writes answers, or says why it cannot.
-fn put(answers: &[u8]) -> bool {
-    if io::write_all(STDOUT_FILENO, answers) {
-        return true;
+fn put(rt: &HostRuntime, answers: &[u8]) -> bool {
+    match rt.stdout().write_all(answers) {
+        Ok(()) => true,
+        Err(reason) => {
+            complain(rt, &reason);
+            false
+        }
     }
-    complain();
-    false
 }
 
 // Reads some bytes, or says why it cannot.
-fn get(chunk: &mut [u8]) -> Input
+fn get(rt: &HostRuntime, chunk: &mut [u8]) -> Input
     ensures { Within result chunk.new }
 {
-    let got = libc::read(STDIN_FILENO, chunk);
-    if got < 0 {
-        complain();
-        return Input::Failed;
+    match rt.stdin().read(chunk) {
+        Ok(0) => Input::End,
+        Ok(n) => Input::Bytes(n),
+        Err(reason) => {
+            complain(rt, &reason);
+            Input::Failed
+        }
     }
-    let n = io::count(got, chunk);
-    if n == 0 {
-        return Input::End;
-    }
-    Input::Bytes(n)
 }
 
 // Feeds the box a chunk from a place on. What is handed back, to be written, are the answers, and the place is moved on.
@@ -79,7 +80,7 @@ fn last<'a>(image: &mut [u8], text: &mut [u8], out: &'a mut [u8]) -> &'a [u8]
 }
 
 // Feeds the box the first n bytes of a chunk, and writes the answers. Answers whether all could be written.
-fn pump(image: &mut [u8], text: &mut [u8], chunk: &[u8], n: usize, out: &mut [u8]) -> bool
+fn pump(rt: &HostRuntime, image: &mut [u8], text: &mut [u8], chunk: &[u8], n: usize, out: &mut [u8]) -> bool
     requires { Stands image.old text.old × Roomy out.old × (n ≤ length chunk.now) }
     ensures stands { Stands image.new text.new }
     ensures whole { (f : Fed) → StandsIn image.old text.old f → result ≡ true
@@ -87,7 +88,7 @@ fn pump(image: &mut [u8], text: &mut [u8], chunk: &[u8], n: usize, out: &mut [u8
 {
     let mut next: usize = 0;
     while next < n {
-        if !put(answers(image, text, &chunk[..n], &mut next, out)) {
+        if !put(rt, answers(image, text, &chunk[..n], &mut next, out)) {
             return false;
         }
     }
@@ -96,20 +97,20 @@ fn pump(image: &mut [u8], text: &mut [u8], chunk: &[u8], n: usize, out: &mut [u8
 
 // Reads chunks until the input ends, cannot be read, or an answer cannot be written. Where it cannot be read, the text in hand is no line. A proved loop has
 // to end, and nothing says that an input does: so the loop counts its turns down, from a number that no run uses up.
-fn serve(image: &mut [u8], text: &mut [u8], chunk: &mut [u8], out: &mut [u8])
+fn serve(rt: &HostRuntime, image: &mut [u8], text: &mut [u8], chunk: &mut [u8], out: &mut [u8])
     requires { (image.old ≡ image_of idle) × (text.old ≡ no_text) × Roomy out.old }
 {
     let mut turns = u64::MAX;
     while turns > 0 {
-        let input = get(chunk);
+        let input = get(rt, chunk);
         match input {
             Input::Bytes(n) => {
-                if !pump(image, text, chunk, n, out) {
+                if !pump(rt, image, text, chunk, n, out) {
                     return;
                 }
             }
             Input::End => {
-                put(last(image, text, out));
+                put(rt, last(image, text, out));
                 return;
             }
             Input::Failed => return,
@@ -118,10 +119,10 @@ fn serve(image: &mut [u8], text: &mut [u8], chunk: &mut [u8], out: &mut [u8])
     }
 }
 
-fn main() {
+fn main(rt: HostRuntime) {
     let mut image = lines::idle_image();
     let mut text = lines::no_text();
-    let mut chunk = io::large_buffer();
+    let mut chunk = [0u8; 65536];
     let mut out = [0u8; 131072];
-    serve(&mut image, &mut text, &mut chunk, &mut out);
+    serve(&rt, &mut image, &mut text, &mut chunk, &mut out);
 }

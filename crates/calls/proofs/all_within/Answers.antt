@@ -1,9 +1,6 @@
 -- Invariant: the numbers passed are in range, so all are if the others are. Measure: the numbers that are left.
-use Prim.Native.Nat.{◌≤◌, ◌-◌}
-use mathlib.Core.Path.{◌≡◌}
 use borrow.Author.Rules.{rules}
-use lib.ListN.{length, drop}
-use Rattle.rules.specs.Lists.{within, every}
+use Rattle.rules.specs.Lists.{within}
 use Rattle.calls.proofs.Walks.{every_more, every-fails, every-end}
 use Rattle.calls.proofs.all_within.Goals as goal
 

@@ -13,3 +13,6 @@ pub returns : goal.returns
 returns c =
     let n = c.taken.ensures _ c.requires.held in
     rw c.victim.ensures (search (taken-victim, n, rules))
+
+pub taken-requires : goal.taken-requires
+taken-requires c = held_high _ _ c.requires.held

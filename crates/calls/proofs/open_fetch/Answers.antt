@@ -1,8 +1,6 @@
 -- File, page and fetch are tested one after the other, up to the first that fails.
-use borrow.Author.Rules.{rules}
 use Rattle.calls.specs.Inner.{open_fetch}
 use Rattle.calls.proofs.Outcomes.{keyed}
-use Rattle.parts.proofs.Files.{file_high, there-small, there-low}
 use Rattle.calls.proofs.open_fetch.Goals as goal
 
 pub returns-then-no_file : goal.returns-then-no_file

@@ -1,6 +1,5 @@
 -- The four cases of Read, each by the tests that lead to it and whatever the rest of the view. F goes by a law of its own: there two maps' bits, the
 -- key and the record that waits are results of calls.
-use borrow.Author.Rules.{rules}
 use Rattle.rules.specs.Views.{state_of}
 use Rattle.rules.specs.Calls.{read_running}
 use Rattle.calls.proofs.Outcomes.{keyed}
@@ -21,3 +20,12 @@ pub returns-then-has_bit-2 : goal.returns-then-has_bit-2
 unfolding read_running
 returns-then-has_bit-2 c v i e =
     rw (c.answered-then-has_bit-2.ensures, c.in_condition-waiting.ensures) (search keyed depth 12)
+
+pub returns : goal.returns
+returns c v i e =
+    let a = c.args in
+    rw c.answered-2.ensures
+    (read-fetch (state_of v a.cached.now a.fetching.now) i a.old _ _ _ _ _
+    c.if-old.false c.next_key-key.ensures
+    c.has_bit.ensures c.if-has_bit.false c.has_bit-2.ensures c.if-has_bit-2.false
+    c.in_condition-waiting.ensures c.set_bit.ensures)

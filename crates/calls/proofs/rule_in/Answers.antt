@@ -1,5 +1,4 @@
 -- The rule is tested, then the readers expected.
-use borrow.Author.Rules.{rules}
 use Rattle.parts.proofs.Tests.{tests}
 use Rattle.calls.proofs.rule_in.Goals as goal
 

@@ -1,5 +1,4 @@
 -- The settings are tested one after the other, up to the first that fails.
-use borrow.Author.Rules.{rules}
 use Rattle.rules.specs.Calls.{settings_in}
 use Rattle.parts.proofs.Tests.{tests}
 use Rattle.calls.proofs.Ranges.{settings-last}

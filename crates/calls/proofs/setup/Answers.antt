@@ -1,6 +1,5 @@
 -- The 1989 rule and no readers expected are in range.
 use mathlib.Core.Path.{refl}
-use borrow.Author.Rules.{rules}
 use Rattle.rules.specs.Lists.{every}
 use Rattle.calls.proofs.setup.Goals as goal
 

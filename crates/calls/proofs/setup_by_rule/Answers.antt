@@ -3,7 +3,6 @@ use Prim.Native.Nat.{◌≤◌}
 use mathlib.Core.Bool.{true}
 use mathlib.Core.Path.{◌≡◌, sym, ◌∙◌}
 use native.Mathlib.Omega.{arith}
-use borrow.Author.Rules.{rules}
 use Rattle.rules.specs.Lists.{within, every}
 use Rattle.rules.specs.Calls.{rule_in, setup_of}
 use Rattle.calls.proofs.Ranges.{settings-without, rule-low}
@@ -25,10 +24,10 @@ pub stored-readers-requires : goal.stored-readers-requires
 stored-readers-requires c = (low c).1
 
 pub overflow_cast-rule : goal.overflow_cast-rule
-overflow_cast-rule c = omega (arith, (low c.before).0)
+overflow_cast-rule c = omega (arith, (low (goal.at.overflow_cast-rule c).Then-rule_in).0)
 
 pub set_up-requires : goal.set_up-requires
-set_up-requires c = rw c.stored-readers.ensures (ranged c.before)
+set_up-requires c = rw c.stored-readers.ensures (ranged (goal.at.set_up-requires c).Then-rule_in)
 
 pub returns-then-rule_in : goal.returns-then-rule_in
 returns-then-rule_in c = rw (← c.stored-readers.ensures) c.set_up.ensures

@@ -1,9 +1,6 @@
 -- Invariant: the numbers passed are stored. Measure: the numbers that are left.
-use Prim.Native.Nat.{◌≤◌, ◌-◌}
-use mathlib.Core.Path.{◌≡◌}
 use native.Mathlib.Omega.{arith}
 use borrow.Author.Rules.{rules}
-use lib.ListN.{length, take}
 use Rattle.calls.proofs.Walks.{all-within, copied_more, copied-end}
 use Rattle.calls.proofs.stored.Goals as goal
 
@@ -12,3 +9,8 @@ loop-i-preserved c = search (copied_more, rules)
 
 pub returns : goal.returns
 returns c = search (copied-end, rules)
+
+pub overflow_cast-kept : goal.overflow_cast-kept
+overflow_cast-kept c =
+    let h = all-within 0 65535 c.args.numbers c.loop-i.i c.requires (search rules) in
+    omega arith

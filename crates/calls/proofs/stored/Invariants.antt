@@ -1,10 +1,7 @@
 -- Invariant: the numbers passed are stored. Measure: the numbers that are left.
 use Prim.Native.Nat.{◌≤◌, ◌-◌}
 use mathlib.Core.Path.{◌≡◌}
-use native.Mathlib.Omega.{arith}
-use borrow.Author.Rules.{rules}
 use lib.ListN.{length, take}
-use Rattle.calls.proofs.Walks.{all-within, copied_more, copied-end}
 use Rattle.calls.proofs.stored.Given as goal
 
 abbrev pub invariant-loop-i : goal.invariant-loop-i

@@ -1,10 +1,6 @@
 -- Invariant: the readers passed are woken, the others as they were. Measure: the slots that are left.
-use Prim.Native.Nat.{◌≤◌, ◌-◌}
-use mathlib.Core.Path.{◌≡◌}
 use borrow.Author.Rules.{rules}
-use lib.ListN.{length}
-use Rattle.rules.specs.Calls.{woken}
-use Rattle.calls.proofs.Walks.{changed, changed-none, changed-more, changed-end}
+use Rattle.calls.proofs.Walks.{changed-none, changed-more, changed-end}
 use Rattle.calls.proofs.wake.Goals as goal
 
 pub loop-i-init : goal.loop-i-init

@@ -1,5 +1,4 @@
 -- By the reader's condition, and for a waiting one by the key of its next page.
-use borrow.Author.Rules.{rules}
 use Rattle.rules.specs.Calls.{woken}
 use Rattle.calls.proofs.Outcomes.{keyed}
 use Rattle.calls.proofs.wake_reader.Goals as goal

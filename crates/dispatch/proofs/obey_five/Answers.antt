@@ -1,5 +1,4 @@
 -- The letter A, or none that takes five fields.
-use borrow.Author.Rules.{rules}
 use Rattle.rules.specs.Lines.{obeyed}
 use Rattle.dispatch.proofs.Letters.{other-five}
 use Rattle.answers.proofs.Replies.{gives-told}

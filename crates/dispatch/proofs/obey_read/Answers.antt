@@ -1,5 +1,4 @@
 -- What Read makes of the record, and its answer's line.
-use borrow.Author.Rules.{rules}
 use Rattle.answers.proofs.Replies.{gives-put}
 use Rattle.dispatch.proofs.obey_read.Goals as goal
 

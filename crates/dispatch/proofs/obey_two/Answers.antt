@@ -1,5 +1,4 @@
 -- The letter X, or none that comes here with two fields.
-use borrow.Author.Rules.{rules}
 use Rattle.rules.specs.Lines.{obeyed}
 use Rattle.dispatch.proofs.Letters.{other-two}
 use Rattle.answers.proofs.Replies.{gives-told}

@@ -1,19 +1,12 @@
 -- Invariant: the first f numbers are in range. Measure: the files that are left.
-use mathlib.Core.Path.{◌≡◌}
-use mathlib.Core.Bool.{Bool, true}
-use mathlib.Core.List.{List}
-use Prim.Native.Nat.{ℕ, ◌-◌, ◌≤◌}
+use Prim.Native.Nat.{ℕ}
 use native.Mathlib.Omega.{arith}
 use borrow.Author.Rules.{rules}
-use lib.ListN.{get_or}
 use lib.Dec.{T, le→leb}
-use Rattle.rules.specs.Lists.{range, every, within}
+use Rattle.rules.specs.Lists.{within}
 use Rattle.image.proofs.Checks.{every-none, every_more, every-stop, every-end, every-listed}
+use Rattle.image.proofs.restoring.eight_hold.Invariants.{low}
 use Rattle.image.proofs.restoring.eight_hold.Goals as goal
-
--- the number of file f is in range
-abbrev low : List ℕ → ℕ → ℕ → Bool
-low numbers high f = within 0 high (get_or numbers f 0)
 
 -- 0 is in every range
 least-within : (high : ℕ) → T (within 0 high 0)

@@ -1,5 +1,4 @@
 -- The numbers are read one after the other.
-use borrow.Author.Rules.{rules}
 use Rattle.image.proofs.restoring.eight_in.Goals as goal
 
 pub returns : goal.returns

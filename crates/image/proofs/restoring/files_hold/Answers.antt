@@ -1,10 +1,5 @@
 -- Invariant: no bit stands above the sizes of the first f files. Measure: the files that are left.
-use mathlib.Core.Path.{◌≡◌}
-use mathlib.Core.Bool.{true}
-use Prim.Native.Nat.{◌-◌, ◌≤◌}
 use borrow.Author.Rules.{rules}
-use Rattle.rules.specs.Lists.{range, every}
-use Rattle.image.specs.Tests.{size_holds}
 use Rattle.image.proofs.Checks.{every-none, every_more, every-stop, every-end}
 use Rattle.image.proofs.restoring.files_hold.Goals as goal
 

@@ -2,10 +2,8 @@
 use mathlib.Core.Path.{◌≡◌}
 use mathlib.Core.Bool.{true}
 use Prim.Native.Nat.{◌-◌, ◌≤◌}
-use borrow.Author.Rules.{rules}
 use Rattle.rules.specs.Lists.{range, every}
 use Rattle.image.specs.Tests.{size_holds}
-use Rattle.image.proofs.Checks.{every-none, every_more, every-stop, every-end}
 use Rattle.image.proofs.restoring.files_hold.Given as goal
 
 abbrev pub invariant-loop-f : goal.invariant-loop-f

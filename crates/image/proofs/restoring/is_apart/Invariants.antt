@@ -1,12 +1,10 @@
 -- Invariant: the joined words are 0 where no key of the first i words is in both maps. Measure: the words that are left.
 use mathlib.Core.Path.{◌≡◌}
 use Prim.Native.Nat.{◌*◌, ◌-◌, ◌≤◌}
-use borrow.Author.Rules.{rules}
 use lib.Dec.{eqb}
 use Rattle.rules.specs.Lists.{every}
 use Rattle.image.specs.Tests.{apart_at}
-use Rattle.image.proofs.Checks.{every-none}
-use Rattle.image.proofs.Clears.{up_to, more-told, all_told, both-tells}
+use Rattle.image.proofs.Clears.{up_to}
 use Rattle.image.proofs.restoring.is_apart.Given as goal
 
 abbrev pub invariant-loop-i : goal.invariant-loop-i

@@ -1,11 +1,10 @@
 -- Invariant: the joined words are 0 where no key from `from` up to word i is in a map. Measure: the words that are left.
 use mathlib.Core.Path.{◌≡◌}
 use Prim.Native.Nat.{◌*◌, ◌-◌, ◌≤◌}
-use borrow.Author.Rules.{rules}
 use lib.Dec.{eqb}
 use Rattle.rules.specs.Lists.{every}
 use Rattle.image.specs.Tests.{clear_at}
-use Rattle.image.proofs.Clears.{up_to, first-told, more-told, all_told, either-tells}
+use Rattle.image.proofs.Clears.{up_to}
 use Rattle.image.proofs.restoring.is_clear.Given as goal
 
 abbrev pub invariant-loop-i : goal.invariant-loop-i

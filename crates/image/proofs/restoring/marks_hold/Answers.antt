@@ -1,11 +1,5 @@
 -- Invariant: the first j marks hold. Measure: the marks that are left.
-use mathlib.Core.Path.{◌≡◌}
-use mathlib.Core.Bool.{true}
-use Prim.Native.Nat.{◌-◌, ◌≤◌}
 use borrow.Author.Rules.{rules}
-use Rattle.rules.specs.Lists.{range, every}
-use Rattle.rules.specs.Image.{mark_holds}
-use Rattle.image.specs.Bytes.{state_in}
 use Rattle.image.proofs.Checks.{every-none, every_more, every-stop, every-end}
 use Rattle.image.proofs.restoring.marks_hold.Goals as goal
 

@@ -1,6 +1,5 @@
 -- The numbers, read one after the other in their place, are the marks.
 use mathlib.Core.Path.{◌∙◌}
-use borrow.Author.Rules.{rules}
 use Rattle.image.proofs.States.{marks-read}
 use Rattle.image.proofs.restoring.marks_in.Goals as goal
 

@@ -1,6 +1,5 @@
 -- Each map is read in its place.
 use mathlib.Core.Path.{◌∙◌}
-use borrow.Author.Rules.{rules}
 use Rattle.image.proofs.States.{cached-read, fetching_read}
 use Rattle.image.proofs.restoring.read_maps.Goals as goal
 

@@ -1,11 +1,9 @@
 -- Invariant: the first k numbers are those of the image, the others as they were. Measure: the numbers that are left.
 use mathlib.Core.Path.{◌≡◌}
-use Prim.Native.Nat.{◌-◌, ◌≤◌, ◌<◌}
-use native.Mathlib.Omega.{arith}
-use borrow.Author.Rules.{rules}
+use Prim.Native.Nat.{◌-◌, ◌≤◌}
 use lib.ListN.{length}
 use Rattle.image.specs.Bytes.{number_from}
-use Rattle.image.proofs.Fills.{filled, filled_more, filled-all}
+use Rattle.image.proofs.Fills.{filled}
 use Rattle.image.proofs.restoring.read_numbers.Given as goal
 
 abbrev pub invariant-loop-k : goal.invariant-loop-k

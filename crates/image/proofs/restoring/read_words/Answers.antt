@@ -1,10 +1,7 @@
 -- Invariant: the first k words are those of the image, the others as they were. Measure: the words that are left.
-use mathlib.Core.Path.{◌≡◌}
-use Prim.Native.Nat.{◌-◌, ◌≤◌}
 use borrow.Author.Rules.{rules}
-use lib.ListN.{length}
 use Rattle.image.specs.Bytes.{number_from}
-use Rattle.image.proofs.Fills.{filled, filled_more, filled-all}
+use Rattle.image.proofs.Fills.{filled_more, filled-all}
 use Rattle.image.proofs.restoring.read_words.Goals as goal
 
 pub loop-k-preserved : goal.loop-k-preserved

@@ -5,7 +5,6 @@ use lib.Dec.{eqb}
 use Rattle.bits.specs.Map.{bit}
 use Rattle.rules.specs.Readers.{awaits}
 use Rattle.rules.proofs.laws.Cases.{and-stop, and-pass}
-use borrow.Author.Rules.{rules}
 use Rattle.image.proofs.restoring.reader_awaits.Goals as goal
 
 pub returns-then-r : goal.returns-then-r

@@ -1,11 +1,8 @@
 -- Invariant: the first j records are those of the image, the others as they were. Measure: the slots that are left.
-use Prim.Native.Nat.{◌-◌, ◌≤◌}
-use mathlib.Core.Path.{◌≡◌}
 use borrow.Author.Rules.{rules}
-use lib.ListN.{length}
 use Rattle.rules.specs.Image.{reader_from, image_numbers}
 use Rattle.rules.specs.Readers.{no_reader}
-use Rattle.image.proofs.Fills.{filled, filled_more, filled-all}
+use Rattle.image.proofs.Fills.{filled_more, filled-all}
 use Rattle.image.proofs.restoring.readers_in.Goals as goal
 
 pub loop-j-preserved : goal.loop-j-preserved

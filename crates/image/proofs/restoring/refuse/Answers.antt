@@ -1,5 +1,4 @@
 -- The idle state comes back, its maps cleared, and the counts of its cached pages.
-use borrow.Author.Rules.{rules}
 use Rattle.image.proofs.Restores.{held_none}
 use Rattle.image.proofs.restoring.refuse.Goals as goal
 

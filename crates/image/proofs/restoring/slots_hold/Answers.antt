@@ -1,10 +1,5 @@
 -- Invariant: the first j slots hold. Measure: the slots that are left.
-use mathlib.Core.Path.{◌≡◌}
-use mathlib.Core.Bool.{true}
-use Prim.Native.Nat.{◌-◌, ◌≤◌}
 use borrow.Author.Rules.{rules}
-use Rattle.rules.specs.Lists.{range, every}
-use Rattle.rules.specs.Image.{slot_holds, image_numbers}
 use Rattle.image.proofs.Checks.{every-none, every_more, every-stop, every-end}
 use Rattle.image.proofs.restoring.slots_hold.Goals as goal
 

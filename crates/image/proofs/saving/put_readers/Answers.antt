@@ -1,10 +1,6 @@
 -- Invariant: the buffer is what it was with the first j records put into it, and is as long. Measure: the records that are left.
-use mathlib.Core.Path.{◌≡◌}
-use Prim.Native.Nat.{◌-◌, ◌≤◌}
 use borrow.Author.Rules.{rules}
-use lib.ListN.{length, take}
 use Rattle.rules.specs.Readers.{no_reader}
-use Rattle.rules.specs.Lists.{each, written}
 use Rattle.image.specs.Bytes.{reader_bytes}
 use Rattle.image.proofs.Puts.{each_none, each_more, each_all, reader-wide}
 use Rattle.image.proofs.saving.put_readers.Goals as goal

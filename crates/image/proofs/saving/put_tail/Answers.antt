@@ -1,5 +1,4 @@
 -- The parts, put one after the other, are the tail.
-use borrow.Author.Rules.{rules}
 use Rattle.image.proofs.Saves.{written-tail}
 use Rattle.image.proofs.saving.put_tail.Goals as goal
 

@@ -1,9 +1,5 @@
 -- Invariant: the buffer is what it was with the first k words put into it, and is as long. Measure: the words that are left.
-use mathlib.Core.Path.{◌≡◌}
-use Prim.Native.Nat.{◌-◌, ◌≤◌}
 use borrow.Author.Rules.{rules}
-use lib.ListN.{length, take}
-use Rattle.rules.specs.Lists.{each, written}
 use Rattle.rules.specs.Image.{bytes_of}
 use Rattle.rules.proofs.laws.Numbers.{bytes-length}
 use Rattle.image.proofs.Puts.{each_none, each_more, each_all}

@@ -1,10 +1,7 @@
 -- Invariant: the first i bytes are those of the upgraded image, the others as they were. Measure: the bytes that are left.
-use mathlib.Core.Path.{◌≡◌}
-use Prim.Native.Nat.{◌-◌, ◌≤◌}
 use borrow.Author.Rules.{rules}
-use lib.ListN.{length}
 use Rattle.rules.specs.Image.{image_length}
-use Rattle.image.proofs.Fills.{filled, filled_more}
+use Rattle.image.proofs.Fills.{filled_more}
 use Rattle.image.proofs.Upgrades.{byte_at, all-bytes}
 use Rattle.image.proofs.upgrading.upgrade.Goals as goal
 
