@@ -1,6 +1,7 @@
 // The number of an answer, which a door for numbers returns: "The number returned is the refusal's, or the answer letter's ASCII code × 65,536 + ..".
 
 #![tactic(auto)]
+
 ghost use Rattle.std.specs.Prelude.{◌≡◌, ◌+◌, ◌*◌};
 ghost use Rattle.rules.specs.Pages.{key_of};
 ghost use Rattle.rules.specs.Entries.{code, carried_out};

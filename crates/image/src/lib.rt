@@ -2,6 +2,7 @@
 // makes an older image into one of the newest length.
 
 #![tactic(auto)]
+
 mod bytes;
 mod restoring;
 mod saving;

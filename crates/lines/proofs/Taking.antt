@@ -6,8 +6,6 @@ use mathlib.Core.Bool.{true, false, ◌&&◌, true≢false}
 use mathlib.Core.Logic.{⊎_elim}
 use mathlib.Core.List.{List, [], ◌∷◌, ◌++◌, append_assoc, append-nil}
 use native.Mathlib.Omega.{arith}
-use types.Run.{OneOf}
-use denote.Enum.Declared.{tag_of}
 use borrow.Rule.Slice.PartMut.{put_mid}
 use borrow.Author.Tests.{le-leb, lt-leb, eq-eqb, ne_eqb, leb-true, eqb-true}
 use lib.ListN.{length, get_or, take, drop, set, length-append, length-take, length-drop, length-set, drop_of_length-le, take-append-drop}
@@ -21,8 +19,8 @@ use Rattle.rules.specs.Lines.{split, Response, respond_of}
 use Rattle.rules.specs.declared.State.{State}
 use Rattle.rules.specs.declared.View.{View}
 use Rattle.rules.specs.declared.Reply.{Reply}
-use Rattle.rules.specs.declared.Answer.TheVariants.{Done}
-use Rattle.rules.specs.contracts.Answer.{the_type}
+use Rattle.rules.specs.declared.Answer.{Answer}
+use Rattle.rules.specs.declared.Answer.TheVariants.{Refused, Done, Hit, Wait, Fetch, End, Nothing, Stolen, Arrived, Replaced, Ran}
 use Rattle.rules.proofs.images.Images.{done-or-not, whole-refused}
 use Rattle.rules.proofs.laws.Cases.{and-true, cond-all}
 use Rattle.rules.specs.Lists.{written}
@@ -37,7 +35,6 @@ use Rattle.text.proofs.Asks.{parsed-long}
 use Rattle.answers.specs.Responses.{answer_room, Roomy, line_end, Answered, Gives}
 use Rattle.lines.specs.Sessions.{taken, start_of, Gone, gone_of, Left, Taken, left_in, fed_in, ready, saved, feed_of, finish_of}
 use Rattle.lines.proofs.Kept.{respond-kept}
-use Rattle.answers.proofs.Replies.{others, refused-by, carried-by}
 
 -- ---- can lines be taken?
 
@@ -331,13 +328,27 @@ module _ (image text chunk : List ℕ) (from : ℕ) (out : List ℕ) where
   unfolding feed_of
   feed-taken t e = rw (t, e)
 
+-- a call that is not refused was carried out
+carried-but : (a : Answer) → ((n : ℕ) → a ≡ Refused n → ⊥) → carried_out a ≡ true
+carried-but (Refused number) k = absurd (k number refl)
+carried-but Done k = refl
+carried-but (Hit file page) k = refl
+carried-but (Wait file page) k = refl
+carried-but (Fetch file page) k = refl
+carried-but End k = refl
+carried-but Nothing k = refl
+carried-but (Stolen file page) k = refl
+carried-but Arrived k = refl
+carried-but (Replaced file page) k = refl
+carried-but (Ran fetches reads) k = refl
+
 module _ (image : List ℕ) (r : Reply) (restored : r ≡ restore_whole image) where
   -- what Restore's answer says
-  pub answer-refused : OneOf (0 ∷ []) (tag_of the_type r.answer) → carried_out (restore_whole image).answer ≡ false
-  answer-refused k = rw (← restored) (refused-by r.answer k)
+  pub answer-refused : (n : ℕ) → r.answer ≡ Refused n → carried_out (restore_whole image).answer ≡ false
+  answer-refused n e = rw (← restored, e)
 
-  pub answer-taken : OneOf others (tag_of the_type r.answer) → carried_out (restore_whole image).answer ≡ true
-  answer-taken k = rw (← restored) (carried-by r.answer k)
+  pub answer-taken : ((n : ℕ) → r.answer ≡ Refused n → ⊥) → carried_out (restore_whole image).answer ≡ true
+  answer-taken k = rw (← restored) (carried-but r.answer k)
 
 -- an image that is not refused is done
 pub taken-done : (image : List ℕ) → carried_out (restore_whole image).answer ≡ true → (restore_whole image).answer ≡ Done

@@ -1,12 +1,11 @@
 -- What Restore and Setup give is valid; their numbers and Save's are small enough to stand in one; and a list of what Restore gives. Assumes nothing.
 use mathlib.Core.Path.{◌≡◌, refl, sym, ap, ◌∙◌}
-use mathlib.Core.Bool.{Bool, true, false, not, ◌&&◌}
+use mathlib.Core.Bool.{Bool, true, false, ◌&&◌}
 use mathlib.Core.List.{List}
 use Prim.Native.Nat.{ℕ, ◌+◌, ◌*◌, ◌<◌}
 use native.Mathlib.Omega.{arith}
 use mir.Syntax.{w8}
 use mir.Val.{Fits}
-use borrow.Author.Tests.{not-true, not-false}
 use lib.ListN.{get_or, length}
 use lib.Dec.{ltb, eqb}
 use Rattle.rules.specs.Valid.{Valid}
@@ -77,22 +76,22 @@ made-valid numbers r e =
 
 module _ (image : List ℕ) (r : Reply) (e : r ≡ restore_of image) (b : Bool) (f : b ≡ carried_out r.answer) where
   -- the image is refused
-  pub image-refused : not b ≡ true → carried_out (restore_of image).answer ≡ false
-  image-refused t = ap (λ q. carried_out q.answer) (sym e) ∙ sym f ∙ not-true b t
+  pub image-refused : b ≡ false → carried_out (restore_of image).answer ≡ false
+  image-refused t = ap (λ q. carried_out q.answer) (sym e) ∙ sym f ∙ t
 
   -- or taken
-  pub image-taken : not b ≡ false → carried_out (restore_of image).answer ≡ true
-  image-taken t = ap (λ q. carried_out q.answer) (sym e) ∙ sym f ∙ not-false b t
+  pub image-taken : b ≡ true → carried_out (restore_of image).answer ≡ true
+  image-taken t = ap (λ q. carried_out q.answer) (sym e) ∙ sym f ∙ t
 
 -- ---- a list of what Restore gives
 
 module _ (stealing : Bool) (image lent : List ℕ) (r : Reply) (e : r ≡ restore_of image) (b : Bool) (f : b ≡ carried_out r.answer) where
   -- the image is refused
-  pub list-refused : (n : ℕ) → not b ≡ true → n ≡ code r.answer → record { number = n; list = lent } ≡ list_probed stealing image lent
+  pub list-refused : (n : ℕ) → b ≡ false → n ≡ code r.answer → record { number = n; list = lent } ≡ list_probed stealing image lent
   list-refused n t g = rw (image-refused image r e b f t, g, e) refl
 
   -- the list is made
-  pub list-made : (n : ℕ) (a : Ordered) (after : List ℕ) (c : Bool) → not b ≡ false → stealing ≡ c
+  pub list-made : (n : ℕ) (a : Ordered) (after : List ℕ) (c : Bool) → b ≡ true → stealing ≡ c
       → ◌≡◌ {A = Written Ordered ℕ} (record { answer = a; list = after }) (list_of c r.state lent) → n ≡ order_number a
       → record { number = n; list = after } ≡ list_probed stealing image lent
   list-made n a after c t u w g =

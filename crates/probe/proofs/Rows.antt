@@ -1,6 +1,6 @@
 -- Questions made of numbers, the rows that are handed over, and the numbers of the answers. Assumes nothing.
 use mathlib.Core.Path.{◌≡◌, refl, sym, ap, ◌∙◌}
-use mathlib.Core.Bool.{Bool, true, false, not}
+use mathlib.Core.Bool.{Bool, true, false}
 use mathlib.Core.List.{List, [], ◌∷◌, ◌++◌, map}
 use Prim.Native.Nat.{ℕ, zero, suc, min, ◌+◌, ◌/◌, ◌≤◌, ◌<◌}
 use native.Mathlib.Nat.{zero-min, min-zero, suc-min-suc, not-suc-le-zero, le_of_suc-le-suc}
@@ -92,7 +92,7 @@ answers-long s questions lent =
 
 module _ (image numbers lent : List ℕ) (r : Reply) (e : r ≡ restore_of image) (b : Bool) (f : b ≡ carried_out r.answer) where
   -- the image is refused
-  pub when-refused : (n : ℕ) → not b ≡ true → n ≡ code r.answer → record { number = n; list = lent } ≡ when_probed image numbers lent
+  pub when-refused : (n : ℕ) → b ≡ false → n ≡ code r.answer → record { number = n; list = lent } ≡ when_probed image numbers lent
   when-refused n t g = rw (image-refused image r e b f t, g, e) refl
 
   -- the questions are answered
@@ -110,7 +110,7 @@ module _ (image numbers lent : List ℕ) (r : Reply) (e : r ≡ restore_of image
         let u : take room blank ≡ replicate (min 1025 (length lent)) unanswered = alike ∙ ap (λ i. replicate i unanswered) k in
         λ i. questions_of (e i).state (q i) (u i)
 
-    pub when-made : (n : ℕ) (l : Listing) (rows : List Forecast) (after : List ℕ) → not b ≡ false → l ≡ called.answer → rows ≡ called.list ++ drop room blank
+    pub when-made : (n : ℕ) (l : Listing) (rows : List Forecast) (after : List ℕ) → b ≡ true → l ≡ called.answer → rows ≡ called.list ++ drop room blank
         → after ≡ map forecast_number (take room rows) ++ drop room lent → n ≡ listing_number l
         → record { number = n; list = after } ≡ when_probed image numbers lent
     when-made n l rows after t g h put w =

@@ -1,6 +1,7 @@
 // The bytes of the program's lines: a line taken apart, an answer's bytes written, a stream cut into lines.
 
 #![tactic(auto)]
+
 ghost use Rattle.std.specs.Prelude.{◌≡◌, [], ◌∷◌, ◌++◌, ◌+◌, ◌<◌, ◌≤◌, length};
 ghost use Rattle.std.proofs.Math.Seq.{slice};
 ghost use Rattle.rules.specs.Lines.{digits_of, field_of};

@@ -1,5 +1,4 @@
 -- The word with its digit taken out is the map with the bit put to 0.
-use borrow.Author.Rules.{rules}
 use Rattle.bits.proofs.Bits.{xor_is}
 use Rattle.bits.proofs.clear_bit.Goals as goal
 

@@ -1,10 +1,7 @@
 -- Invariant: the words passed lack the other map's digits, the others are as they were. Measure: the words that are left.
-use mathlib.Core.Path.{◌≡◌}
-use Prim.Native.Nat.{◌-◌, ◌≤◌}
 use native.Mathlib.Omega.{arith}
 use borrow.Author.Rules.{rules}
-use lib.ListN.{length}
-use Rattle.bits.proofs.Runs.{Lacking, lacking-none, lacking-more, lacking-all}
+use Rattle.bits.proofs.Runs.{lacking-none, lacking-more, lacking-all}
 use Rattle.bits.proofs.clear_those.Goals as goal
 
 pub loop-i-init : goal.loop-i-init

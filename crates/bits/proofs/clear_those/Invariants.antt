@@ -1,10 +1,8 @@
 -- Invariant: the words passed lack the other map's digits, the others are as they were. Measure: the words that are left.
 use mathlib.Core.Path.{◌≡◌}
 use Prim.Native.Nat.{◌-◌, ◌≤◌}
-use native.Mathlib.Omega.{arith}
-use borrow.Author.Rules.{rules}
 use lib.ListN.{length}
-use Rattle.bits.proofs.Runs.{Lacking, lacking-none, lacking-more, lacking-all}
+use Rattle.bits.proofs.Runs.{Lacking}
 use Rattle.bits.proofs.clear_those.Given as goal
 
 abbrev pub invariant-loop-i : goal.invariant-loop-i

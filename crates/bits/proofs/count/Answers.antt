@@ -2,7 +2,6 @@
 use Prim.Native.Nat.{◌+◌, ◌*◌, ◌/◌, ◌≤◌}
 use native.Mathlib.Omega.{arith}
 use Rattle.bits.proofs.Counts.{ones-le, ones_cut}
-use borrow.Author.Rules.{rules}
 use Rattle.bits.proofs.count.Goals as goal
 
 pub overflow_add-result : goal.overflow_add-result

@@ -3,7 +3,6 @@ use Prim.Native.Nat.{◌-◌, ◌<◌, ◌%◌}
 use native.Mathlib.Omega.{arith}
 use Rattle.bits.specs.Map.{joined}
 use Rattle.bits.proofs.Counts.{ones-le, ones-parts}
-use borrow.Author.Rules.{rules}
 use Rattle.bits.proofs.count_either.Goals as goal
 
 pub overflow_add-result : goal.overflow_add-result

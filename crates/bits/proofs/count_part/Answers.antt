@@ -1,7 +1,6 @@
 -- The ones of a part of one word.
 use mathlib.Core.Path.{◌∙◌, sym}
 use Rattle.bits.proofs.Counts.{ones_none, ones-part}
-use borrow.Author.Rules.{rules}
 use Rattle.bits.proofs.count_part.Goals as goal
 
 pub returns-then-n-eq0 : goal.returns-then-n-eq0

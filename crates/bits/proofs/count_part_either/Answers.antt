@@ -2,7 +2,6 @@
 use mathlib.Core.Path.{sym, ap, ◌∙◌}
 use mathlib.Core.List.{List, [], ◌∷◌}
 use Prim.Native.Nat.{ℕ, ◌/◌, ◌%◌}
-use borrow.Author.Rules.{rules}
 use Rattle.bits.specs.Map.{joined, ones}
 use Rattle.bits.proofs.Counts.{ones_none, ones-part}
 use Rattle.bits.proofs.Joins.{joined_at}

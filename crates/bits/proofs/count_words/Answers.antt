@@ -1,11 +1,10 @@
 -- Invariant: the ones of the whole words passed are counted. Measure: the words that are left.
 use mathlib.Core.Path.{◌≡◌, sym}
-use Prim.Native.Nat.{◌-◌, ◌*◌, ◌≤◌}
+use Prim.Native.Nat.{◌-◌, ◌*◌}
 use mathlib.Core.List.{[], ◌∷◌}
 use native.Mathlib.Omega.{arith}
 use borrow.Author.Rules.{rules}
 use lib.ListN.{get_or}
-use Rattle.bits.specs.Map.{ones}
 use Rattle.bits.proofs.Counts.{ones_none, ones-le, ones-words}
 use Rattle.bits.proofs.count_words.Goals as goal
 

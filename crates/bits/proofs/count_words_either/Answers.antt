@@ -1,7 +1,7 @@
 -- Invariant: the ones of the whole words of the joined maps passed are counted. Measure: the words that are left.
 use mathlib.Core.Path.{◌≡◌, sym, ap, ◌∙◌}
-use mathlib.Core.List.{List, [], ◌∷◌}
-use Prim.Native.Nat.{ℕ, ◌-◌, ◌*◌, ◌≤◌}
+use mathlib.Core.List.{[], ◌∷◌}
+use Prim.Native.Nat.{ℕ, ◌-◌, ◌*◌}
 use native.Mathlib.Omega.{arith}
 use borrow.Author.Rules.{rules}
 use lib.ListN.{get_or}
@@ -35,12 +35,11 @@ overflow_add-n c =
     )
 
 pub loop-i-preserved : goal.loop-i-preserved
-loop-i-preserved c =
-    (
-      search rules,
-      search rules,
-      omega (arith, counted c, ones-words (joined c.args.a.now c.args.b.now) c.args.first c.loop-i.i c.loop-i.invariant.0),
-    )
+loop-i-preserved c = (
+  search rules,
+  search rules,
+  omega (arith, counted c, ones-words (joined c.args.a.now c.args.b.now) c.args.first c.loop-i.i c.loop-i.invariant.0),
+)
 
 pub returns : goal.returns
 returns c =

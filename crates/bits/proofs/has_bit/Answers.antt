@@ -1,5 +1,4 @@
 -- The digit of the word is the bit of the map.
-use borrow.Author.Rules.{rules}
 use Rattle.bits.specs.Map.{bit}
 use Rattle.bits.proofs.has_bit.Goals as goal
 

@@ -3,7 +3,6 @@ use Prim.Native.Nat.{◌-◌, ◌*◌, ◌%◌, ◌^◌}
 use native.Mathlib.Omega.{arith}
 use lib.Count.{leading_le}
 use Rattle.bits.proofs.Finds.{last-shl}
-use borrow.Author.Rules.{rules}
 use Rattle.bits.proofs.last_one.Goals as goal
 
 pub overflow_cast-z : goal.overflow_cast-z

@@ -1,9 +1,7 @@
 -- The part of the last word, else the whole words down to the one of the first key; a bit before the first key is none.
 use mathlib.Core.Path.{◌≡◌}
-use mathlib.Core.Logic.{⊎_elim}
 use Prim.Native.Nat.{◌+◌, ◌-◌, ◌*◌, ◌/◌, ◌%◌, ◌≤◌, ◌<◌}
 use native.Mathlib.Omega.{arith}
-use borrow.Author.Rules.{rules}
 use Rattle.bits.specs.Map.{bit}
 use Rattle.bits.proofs.Finds.{Without, Last, without-join, last-is, last-without, last-reached}
 use Rattle.bits.proofs.last_set.Goals.{After-last_part-part, After-last_words, Joined-part-eq0, then-part-eq0, else-part-eq0}
@@ -39,7 +37,7 @@ reached c =
     let p = part (goal.at.Joined-part-eq0 c).After-last_part-part in
     let past = cleared (goal.at.Joined-part-eq0 c).After-last_part-part in
     elim c.if-part-eq0.branch [
-      then-part-eq0 w ↦
+      | then-part-eq0 w ↦
           let t : Last a.words.now (f * 64) ((b - f) * 64) w.last_words.result = rw w.last_words.ensures (last-is a.words.now (f * 64) ((b - f) * 64)) in
           let e : f * 64 + (b - f) * 64 ≡ b * 64 = omega arith in
           let g : b * 64 + c.last_part-part.result ≡ b * 64 = omega (arith, w.if-part-eq0.true) in
@@ -49,7 +47,7 @@ reached c =
                 (rw e at (last-without a.words.now (f * 64) ((b - f) * 64) w.last_words.result t)) (rw g at past),
             λ l. t.found (omega arith),
           )
-    | else-part-eq0 w ↦ rw w.at-is (omega (arith, p.high), past, λ l. p.found (omega (arith, w.if-part-eq0.false)))
+      | else-part-eq0 w ↦ rw w.at-is (omega (arith, p.high), past, λ l. p.found (omega (arith, w.if-part-eq0.false)))
     ]
 
 pub overflow_add-at : goal.overflow_add-at

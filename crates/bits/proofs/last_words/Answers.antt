@@ -1,12 +1,9 @@
 -- Invariant: no bit is set behind the place reached, and the bit there is set if one was found. Measure: the word reached.
 use mathlib.Core.Path.{◌≡◌}
-use mathlib.Core.Logic.{⊎_elim}
-use Prim.Native.Nat.{◌+◌, ◌-◌, ◌*◌, ◌≤◌, ◌<◌}
+use Prim.Native.Nat.{◌+◌, ◌-◌, ◌*◌, ◌<◌}
 use native.Mathlib.Omega.{arith}
 use borrow.Author.Rules.{rules}
-use borrow.Author.Tests.{eqb-true, eqb-false}
-use Rattle.bits.specs.Map.{bit}
-use Rattle.bits.proofs.Finds.{Without, without-join, last_word, last-without, last-reached}
+use Rattle.bits.proofs.Finds.{without-join, last_word, last-without, last-reached}
 use Rattle.bits.proofs.last_words.Goals as goal
 
 pub loop-i-init : goal.loop-i-init

@@ -1,12 +1,8 @@
 -- Invariant: no bit is set behind the place reached, and the bit there is set if one was found. Measure: the word reached.
 use mathlib.Core.Path.{◌≡◌}
-use mathlib.Core.Logic.{⊎_elim}
 use Prim.Native.Nat.{◌+◌, ◌-◌, ◌*◌, ◌≤◌, ◌<◌}
-use native.Mathlib.Omega.{arith}
-use borrow.Author.Rules.{rules}
-use borrow.Author.Tests.{eqb-true, eqb-false}
 use Rattle.bits.specs.Map.{bit}
-use Rattle.bits.proofs.Finds.{Without, without-join, last_word, last-without, last-reached}
+use Rattle.bits.proofs.Finds.{Without}
 use Rattle.bits.proofs.last_words.Given as goal
 
 -- no bit is set from r digits into word i on, and the one before that is set, if r is not 0

@@ -1,5 +1,4 @@
 -- A full word, shifted down until n digits are left and up to digit s.
-use borrow.Author.Rules.{rules}
 use Rattle.bits.proofs.Runs.{mask-digit}
 use Rattle.bits.proofs.mask.Goals as goal
 

@@ -1,10 +1,9 @@
 -- Invariant: no bit with the value lies between the start and the place reached. Measure: the keys that are left.
-use mathlib.Core.Logic.{⊎_elim}
-use Prim.Native.Nat.{◌+◌, ◌-◌, ◌*◌, ◌/◌, ◌%◌, ◌≤◌}
+use Prim.Native.Nat.{◌+◌, ◌-◌, ◌*◌, ◌/◌, ◌%◌}
 use native.Mathlib.Omega.{arith}
 use borrow.Author.Rules.{rules}
-use borrow.Author.Tests.{ltb-true, ltb-false}
-use Rattle.bits.proofs.Finds.{Without, Next, without-join, next_word, next-at, next-none}
+use borrow.Author.Tests.{ltb-true}
+use Rattle.bits.proofs.Finds.{Next, without-join, next_word, next-at, next-none}
 use Rattle.bits.proofs.next_bit.Goals.{After-next_digit-r}
 use Rattle.bits.proofs.next_bit.Goals as goal
 

@@ -1,10 +1,6 @@
 -- Invariant: no bit with the value lies between the start and the place reached. Measure: the keys that are left.
-use mathlib.Core.Logic.{⊎_elim}
-use Prim.Native.Nat.{◌+◌, ◌-◌, ◌*◌, ◌/◌, ◌%◌, ◌≤◌}
-use native.Mathlib.Omega.{arith}
-use borrow.Author.Rules.{rules}
-use borrow.Author.Tests.{ltb-true, ltb-false}
-use Rattle.bits.proofs.Finds.{Without, Next, without-join, next_word, next-at, next-none}
+use Prim.Native.Nat.{◌-◌, ◌≤◌}
+use Rattle.bits.proofs.Finds.{Without}
 use Rattle.bits.proofs.next_bit.Given as goal
 
 -- the keys from `from` on to `at` lack the bit v

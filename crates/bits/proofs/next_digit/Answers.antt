@@ -2,7 +2,6 @@
 use mathlib.Core.Path.{◌≡◌, ◌∙◌}
 use native.Mathlib.Omega.{arith}
 use Rattle.bits.proofs.Finds.{next-not}
-use borrow.Author.Rules.{rules}
 use Rattle.bits.proofs.next_digit.Goals as goal
 
 pub returns-then-v-eq1 : goal.returns-then-v-eq1

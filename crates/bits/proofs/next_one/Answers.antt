@@ -3,7 +3,6 @@ use Prim.Native.Nat.{◌/◌, ◌^◌}
 use native.Mathlib.Omega.{arith}
 use lib.Count.{trailing_le}
 use Rattle.bits.proofs.Finds.{next-shr}
-use borrow.Author.Rules.{rules}
 use Rattle.bits.proofs.next_one.Goals as goal
 
 pub overflow_cast-r : goal.overflow_cast-r

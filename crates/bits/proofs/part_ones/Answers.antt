@@ -1,7 +1,6 @@
 -- Of a word, the digits from one to another: shifted out below and above, the ones that stay are theirs.
 use mathlib.Core.Path.{◌∙◌}
 use Rattle.bits.proofs.Counts.{ones_shl}
-use borrow.Author.Rules.{rules}
 use Rattle.bits.proofs.part_ones.Goals as goal
 
 pub returns : goal.returns

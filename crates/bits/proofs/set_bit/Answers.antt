@@ -1,5 +1,4 @@
 -- The word with its digit put in is the map with the bit put to 1.
-use borrow.Author.Rules.{rules}
 use Rattle.bits.proofs.Bits.{or_is}
 use Rattle.bits.proofs.set_bit.Goals as goal
 

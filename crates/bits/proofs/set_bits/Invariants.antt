@@ -1,12 +1,8 @@
 -- Invariant: of the run, the bits up to the place reached are set besides those of the start. Measure: the keys that are left.
 use mathlib.Core.Path.{◌≡◌}
 use mathlib.Core.Bool.{◌||◌}
-use mathlib.Core.Logic.{⊎_elim}
-use Prim.Native.Nat.{ℕ, ◌+◌, ◌-◌, ◌≤◌, ◌<◌, ◌%◌}
-use native.Mathlib.Omega.{arith}
-use borrow.Author.Rules.{rules}
+use Prim.Native.Nat.{ℕ, ◌-◌, ◌≤◌}
 use Rattle.bits.specs.Map.{on, one_of}
-use Rattle.bits.proofs.Runs.{run_none, run_more}
 use Rattle.bits.proofs.set_bits.Given as goal
 
 -- the bits from `from` on to `at` are set

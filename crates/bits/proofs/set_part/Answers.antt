@@ -1,5 +1,4 @@
 -- The word takes the digits of the run, which are the run's bits.
-use borrow.Author.Rules.{rules}
 use Rattle.bits.proofs.Runs.{run-set}
 use Rattle.bits.proofs.set_part.Goals as goal
 

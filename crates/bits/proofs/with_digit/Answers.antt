@@ -1,5 +1,4 @@
 -- A 1 at the digit's place, put into the word.
-use borrow.Author.Rules.{rules}
 use Rattle.bits.proofs.Words.{or_digits}
 use Rattle.bits.proofs.with_digit.Goals as goal
 

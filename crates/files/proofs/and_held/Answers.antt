@@ -1,6 +1,5 @@
 -- By whether the file has cached pages.
 use native.Mathlib.Omega.{arith}
-use borrow.Author.Rules.{rules}
 use Rattle.files.proofs.Leading.{set_grown}
 use Rattle.files.proofs.and_held.Goals as goal
 

@@ -1,8 +1,6 @@
 -- Invariant: the file that leads among those passed. Measure: the files that are left.
-use Prim.Native.Nat.{◌-◌, ◌≤◌}
 use native.Mathlib.Omega.{arith}
-use borrow.Author.Rules.{rules}
-use Rattle.files.proofs.Leading.{Led, led-none, led-more, led-all}
+use Rattle.files.proofs.Leading.{led-none, led-more, led-all}
 use Rattle.files.proofs.chosen_file.Goals as goal
 
 pub loop-file-init : goal.loop-file-init

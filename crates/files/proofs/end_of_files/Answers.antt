@@ -1,5 +1,4 @@
 -- Past the last digit of the set that is a file.
-use borrow.Author.Rules.{rules}
 use Rattle.files.proofs.Sets.{set_last}
 use Rattle.files.proofs.end_of_files.Goals as goal
 

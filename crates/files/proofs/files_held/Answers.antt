@@ -1,7 +1,6 @@
 -- Invariant: the set has the files passed that have cached pages. Measure: the files that are left.
-use Prim.Native.Nat.{ℕ, ◌-◌, ◌≤◌, ◌<◌}
+use Prim.Native.Nat.{◌<◌}
 use native.Mathlib.Omega.{arith}
-use borrow.Author.Rules.{rules}
 use lib.Dec.{T}
 use lib.ListN.{get_or}
 use Rattle.rules.proofs.laws.Below.{one_more}

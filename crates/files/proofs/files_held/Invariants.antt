@@ -1,10 +1,7 @@
 -- Invariant: the set has the files passed that have cached pages. Measure: the files that are left.
 use Prim.Native.Nat.{ℕ, ◌-◌, ◌≤◌, ◌<◌}
-use native.Mathlib.Omega.{arith}
-use borrow.Author.Rules.{rules}
 use lib.Dec.{T}
 use lib.ListN.{get_or}
-use Rattle.rules.proofs.laws.Below.{one_more}
 use Rattle.files.specs.Sets.{in_set}
 use Rattle.files.proofs.files_held.Given as goal
 

@@ -1,6 +1,5 @@
 -- No weights: the set of the files with cached pages. Else that of the file chosen.
 use native.Mathlib.Omega.{arith}
-use borrow.Author.Rules.{rules}
 use Rattle.files.proofs.Holding.{victim-of-held}
 use Rattle.files.proofs.Leading.{no-rule, victim-of-one}
 use Rattle.files.proofs.files_open.Goals as goal

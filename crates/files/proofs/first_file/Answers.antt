@@ -1,5 +1,4 @@
 -- The first digit of the set.
-use borrow.Author.Rules.{rules}
 use Rattle.files.proofs.Sets.{set_first}
 use Rattle.files.proofs.first_file.Goals as goal
 

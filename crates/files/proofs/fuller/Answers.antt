@@ -1,5 +1,4 @@
 -- A file without cached pages does not lead, and one with them leads by a higher number.
-use borrow.Author.Rules.{rules}
 use Rattle.files.proofs.Leading.{leads, follows, no-pages}
 use Rattle.files.proofs.fuller.Goals as goal
 

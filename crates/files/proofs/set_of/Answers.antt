@@ -1,5 +1,4 @@
 -- A 1 shifted by a file's number.
-use borrow.Author.Rules.{rules}
 use Rattle.files.proofs.Leading.{set-of-one}
 use Rattle.files.proofs.set_of.Goals as goal
 

@@ -1,10 +1,7 @@
 -- Invariant: the sum and the weights of the files passed stand in the array (`Filled`). Measure: the files that are left.
-use Prim.Native.Nat.{◌-◌, ◌≤◌}
 use mathlib.Core.Path.{◌≡◌, refl}
 use native.Mathlib.Omega.{arith}
-use borrow.Author.Rules.{rules}
-use Rattle.rules.specs.declared.View.{View}
-use Rattle.files.proofs.Leading.{Filled, filled_more}
+use Rattle.files.proofs.Leading.{filled_more}
 use Rattle.files.proofs.weights_of.Goals as goal
 
 pub returns-then-v-eq0 : goal.returns-then-v-eq0

@@ -16,3 +16,8 @@ pub returns-then-end-gt200 : goal.returns-then-end-gt200
 returns-then-end-gt200 c =
     c.parse-then-end-gt200.ensures
     ∙ command-long _ _ _ _ _ (sym c.requires) c.put_bytes.ensures c.append.ensures c.requires c.if-end-gt200.true
+
+pub returns : goal.returns
+returns c =
+    c.parse-2.ensures
+    ∙ command-short _ _ _ _ _ (sym c.requires) c.put_bytes.ensures c.append.ensures c.if-end-gt200.false

@@ -1,6 +1,5 @@
 -- No text, or one last line as if its line end followed. Assumes nothing.
 use Rattle.lines.proofs.Taking.{finish-short, finish-none, finish-line}
-use borrow.Author.Rules.{rules}
 use Rattle.lines.proofs.finish.Goals as goal
 
 pub returns-then-text-eq0 : goal.returns-then-text-eq0

@@ -1,9 +1,8 @@
 -- Invariant: the counts of the files passed stand in the array. Measure: the files that are left.
-use Prim.Native.Nat.{◌-◌, ◌*◌, ◌≤◌}
+use Prim.Native.Nat.{◌*◌}
 use native.Mathlib.Omega.{arith}
-use borrow.Author.Rules.{rules}
 use Rattle.bits.proofs.Counts.{ones-le}
-use Rattle.parts.proofs.Carried.{Counted, counted_none, counted-more, counted-all}
+use Rattle.parts.proofs.Carried.{counted_none, counted-more, counted-all}
 use Rattle.parts.proofs.count_held.Goals as goal
 
 pub loop-file-init : goal.loop-file-init

@@ -1,9 +1,6 @@
 -- Invariant: the counts of the files passed stand in the array. Measure: the files that are left.
-use Prim.Native.Nat.{◌-◌, ◌*◌, ◌≤◌}
-use native.Mathlib.Omega.{arith}
-use borrow.Author.Rules.{rules}
-use Rattle.bits.proofs.Counts.{ones-le}
-use Rattle.parts.proofs.Carried.{Counted, counted_none, counted-more, counted-all}
+use Prim.Native.Nat.{◌-◌, ◌≤◌}
+use Rattle.parts.proofs.Carried.{Counted}
 use Rattle.parts.proofs.count_held.Given as goal
 
 abbrev pub invariant-loop-file : goal.invariant-loop-file

@@ -1,5 +1,4 @@
 -- Sixteen empty records: the view's other fields are the arguments.
-use borrow.Author.Rules.{rules}
 use Rattle.parts.proofs.fresh.Goals as goal
 
 pub returns : goal.returns

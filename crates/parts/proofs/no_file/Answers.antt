@@ -1,5 +1,4 @@
 -- Two tests, of which the first can settle the answer: past it the file is an index of the sizes.
-use borrow.Author.Rules.{rules}
 use Rattle.parts.proofs.Tests.{tests}
 use Rattle.parts.proofs.no_file.Goals as goal
 

@@ -1,7 +1,6 @@
 -- The test of the page from 1 to the size, turned round.
 use mathlib.Core.Path.{ap}
 use mathlib.Core.Bool.{not}
-use borrow.Author.Rules.{rules}
 use Rattle.parts.proofs.no_page.Goals as goal
 
 pub returns : goal.returns

@@ -1,6 +1,5 @@
 -- One more of the file.
 use native.Mathlib.Omega.{arith}
-use borrow.Author.Rules.{rules}
 use Rattle.parts.proofs.Carried.{held-put}
 use Rattle.parts.proofs.page_in.Goals as goal
 

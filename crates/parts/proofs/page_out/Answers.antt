@@ -1,6 +1,5 @@
 -- One less of the file.
 use native.Mathlib.Omega.{arith}
-use borrow.Author.Rules.{rules}
 use Rattle.parts.proofs.Carried.{held-put}
 use Rattle.parts.proofs.page_out.Goals as goal
 

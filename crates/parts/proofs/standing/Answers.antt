@@ -4,7 +4,6 @@ use native.Mathlib.Omega.{arith}
 use borrow.Author.Rules.{rules}
 use Rattle.rules.specs.Orders.{surplus, standing}
 use Rattle.parts.proofs.Weights.{product}
-use Rattle.parts.proofs.standing.Lts as lts
 use Rattle.parts.proofs.standing.Goals as goal
 
 pub overflow_mul-result : goal.overflow_mul-result
@@ -40,9 +39,12 @@ overflow_add-result-2 c =
 
 pub returns : goal.returns
 unfolding standing surplus
-returns c = record { value = search rules; small = omega (
+returns c = record {
+  value = search rules;
+  small = omega (
     arith,
     product c.args.pages c.args.sum 1024 8192000 c.requires.file_bound.1 c.requires.frames_bound.2,
     product c.args.frames (c.args.sum - c.args.weight) 1024 8192000 c.requires.frames_bound.0 (omega (arith, c.requires.frames_bound.2)),
     c.requires.file_bound.0,
-  ) }
+  );
+}

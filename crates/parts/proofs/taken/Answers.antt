@@ -1,12 +1,9 @@
 -- Invariant: the counts of the files passed are summed. Measure: the files that are left.
-use Prim.Native.Nat.{ℕ, ◌-◌, ◌*◌, ◌≤◌}
+use Prim.Native.Nat.{◌*◌}
 use mathlib.Core.Path.{◌≡◌, ap, ◌∙◌}
-use mathlib.Core.List.{List}
 use native.Mathlib.Omega.{arith}
-use borrow.Author.Rules.{rules}
 use Rattle.bits.specs.Map.{ones}
 use Rattle.bits.proofs.Counts.{ones_none}
-use Rattle.parts.specs.Held.{Held}
 use Rattle.parts.proofs.Carried.{summed-more}
 use Rattle.parts.proofs.taken.Goals as goal
 

@@ -1,11 +1,7 @@
 -- Invariant: the weights of the files passed are summed, each below 2^32. Measure: the files that are left.
 use Prim.Native.Nat.{◌-◌, ◌*◌, ◌≤◌}
 use mathlib.Core.Path.{◌≡◌}
-use native.Mathlib.Omega.{arith}
-use borrow.Author.Rules.{rules}
 use Rattle.rules.specs.Lists.{total}
-use Rattle.rules.proofs.laws.Leasts.{total-none, total-more}
-use Rattle.parts.proofs.Weights.{sum-none, sum-some}
 use Rattle.parts.specs.Files.{weight_in}
 use Rattle.parts.proofs.weight_sum.Given as goal
 

@@ -1,11 +1,6 @@
--- Invariant: the first i numbers are those from the place on, the others as they were. Measure: the numbers that are left.
-use Prim.Native.Nat.{ℕ, ◌+◌, ◌-◌, ◌≤◌}
-use mathlib.Core.Path.{◌≡◌, refl}
-use mathlib.Core.List.{List}
-use native.Mathlib.Omega.{arith}
-use borrow.Author.Rules.{rules}
-use lib.ListN.{get_or, replicate}
-use Rattle.image.proofs.Fills.{filled, filled_more, filled-all}
+-- A turn puts one more number; after the last all eight are those from the place on.
+use Rattle.std.proofs.Common.{ℕ, ◌+◌, refl, List, arith, get_or, replicate}
+use Rattle.image.proofs.Fills.{filled_more, filled-all}
 use Rattle.probe.proofs.eight_from.Goals as goal
 
 -- the number behind the place
@@ -17,11 +12,9 @@ loop-i-init c = (omega arith, refl)
 
 pub loop-i-preserved : goal.loop-i-preserved
 loop-i-preserved c =
-    let less = c.loop-i-test.true in (
-      omega (arith, less),
-      filled_more (behind c.args.numbers.now c.args.from) 8 0 (replicate 8 0) _ c.loop-i.i _ c.loop-i.invariant.1
-          c.number_at.ensures less refl,
-    )
+    let from = behind c.args.numbers.now c.args.from in
+    let less = c.loop-i-test.true in
+    (omega arith, filled_more from 8 0 (replicate 8 0) _ c.loop-i.i _ c.loop-i.invariant.1 c.number_at.ensures less refl)
 
 pub returns : goal.returns
 returns c =

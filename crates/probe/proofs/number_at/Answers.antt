@@ -1,7 +1,6 @@
 -- The number there, or 0 past the end.
 use native.Mathlib.Omega.{arith}
 use mathlib.Core.Path.{sym}
-use borrow.Author.Rules.{rules}
 use lib.ListN.{get_or-eq_default}
 use Rattle.probe.proofs.number_at.Goals as goal
 

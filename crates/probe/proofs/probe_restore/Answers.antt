@@ -1,20 +1,17 @@
 -- What Restore gives is valid, so Save takes it; both numbers are below 4,294,967,296.
-use Prim.Native.Nat.{◌<◌}
-use borrow.Author.Rules.{rules}
+use Rattle.std.proofs.Common.{rules}
 use Rattle.probe.proofs.Numbers.{restore-low, save-low, probed-valid, probed}
-use Rattle.probe.proofs.probe_restore.Goals.{After-number-2}
 use Rattle.probe.proofs.probe_restore.Goals as goal
 
--- the two numbers are below 4,294,967,296
-low : (c : After-number-2) → (c.number.result < 4294967296) × (c.number-2.result < 4294967296)
-low c =
+pub save-saved-requires : goal.save-saved-requires
+save-saved-requires c = probed-valid c.args.image.now (λ i. search rules) _ c.restore-restored.ensures.fetching_after
+
+pub two_numbers-requires : goal.two_numbers-requires
+two_numbers-requires c =
     (
       restore-low _ _ _ c.restore-restored.ensures.fetching_after c.number.ensures,
       save-low _ _ _ _ _ c.save-saved.ensures c.number-2.ensures,
     )
-
-pub two_numbers-requires : goal.two_numbers-requires
-two_numbers-requires c = low c
 
 pub returns : goal.returns
 returns c =

@@ -1,11 +1,8 @@
 -- Invariant: the numbers of the first i rows are written, and the rest of the answers is as it was. Measure: the rows that are left.
-use mathlib.Core.Path.{◌≡◌, refl, sym, ◌∙◌}
+use mathlib.Core.Path.{◌≡◌}
 use Prim.Native.Nat.{◌-◌, ◌≤◌}
-use native.Mathlib.Numerals.{add-one}
-use native.Mathlib.Omega.{arith}
-use borrow.Author.Rules.{rules}
-use lib.ListN.{length, length-set}
-use Rattle.questions.proofs.Filled.{filled_to, filled_none, filled_more}
+use lib.ListN.{length}
+use Rattle.questions.proofs.Filled.{filled_to}
 use Rattle.probe.specs.Probes.{forecast_number}
 use Rattle.probe.proofs.put_numbers.Given as goal
 

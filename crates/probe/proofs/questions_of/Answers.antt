@@ -1,10 +1,7 @@
--- Invariant: the first i questions are made. Measure: the questions that are left.
+-- A turn makes one more question; after the last all that were asked are made.
 use mathlib.Core.Path.{◌≡◌, refl, ◌∙◌}
-use Prim.Native.Nat.{◌-◌, ◌≤◌}
 use native.Mathlib.Omega.{arith}
-use borrow.Author.Rules.{rules}
-use lib.ListN.{length, take, length-set, length-replicate}
-use Rattle.probe.specs.Probes.{questions_in}
+use lib.ListN.{length-set, length-replicate}
 use Rattle.rules.specs.declared.Question.{Question}
 use Rattle.probe.proofs.Rows.{made_more}
 use Rattle.probe.proofs.questions_of.Goals as goal

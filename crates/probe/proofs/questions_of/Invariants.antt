@@ -1,12 +1,8 @@
 -- Invariant: the first i questions are made. Measure: the questions that are left.
-use mathlib.Core.Path.{◌≡◌, refl, ◌∙◌}
+use mathlib.Core.Path.{◌≡◌}
 use Prim.Native.Nat.{◌-◌, ◌≤◌}
-use native.Mathlib.Omega.{arith}
-use borrow.Author.Rules.{rules}
-use lib.ListN.{length, take, length-set, length-replicate}
+use lib.ListN.{length, take}
 use Rattle.probe.specs.Probes.{questions_in}
-use Rattle.rules.specs.declared.Question.{Question}
-use Rattle.probe.proofs.Rows.{made_more}
 use Rattle.probe.proofs.questions_of.Given as goal
 
 abbrev pub invariant-loop-i : goal.invariant-loop-i

@@ -10,8 +10,8 @@ use Rattle.rules.specs.Pages.{key_of}
 use Rattle.rules.specs.declared.Question.{Question}
 use Rattle.rules.specs.declared.When.{When}
 use Rattle.rules.specs.declared.Forecast.{Forecast}
-use Rattle.parts.specs.Files.{no_file_in, no_page_in, Small}
-use Rattle.parts.proofs.Files.{file_high, there-small, there-low}
+use Rattle.parts.specs.Files.{no_file_in, no_page_in}
+use Rattle.parts.proofs.Files.{there-low}
 use Rattle.questions.specs.Rows.{when_by, row_by}
 use Rattle.rules.proofs.laws.Cases.{called-no, tests}
 use Rattle.questions.proofs.row_of.Goals.{Else-no_page}
@@ -28,13 +28,7 @@ unfolding row_by
 told-by sizes turn ahead table q f w b k r a x c y e g h =
     ap forecast (called-no f _ r _ _ a x (called-no w _ r _ _ c y (rw (← e, ← g) h)))
 
--- the page is there
-small : (c : Else-no_page) → Small c.args.q.file c.args.q.page
-small c =
-    there-small _ _ c.args.sizes _ _ c.no_file.ensures c.if-no_file.false c.no_page.ensures c.if-no_page.false
-    (c.requires c.args.q.file)
-
--- and its key k is below 8,192
+-- past both tests the page's key k is below 8,192
 low : (c : Else-no_page) (k : ℕ) → k ≡ key_of c.args.q.file c.args.q.page → k < 8192
 low c =
     there-low _ _ c.args.sizes _ _ c.no_file.ensures c.if-no_file.false c.no_page.ensures c.if-no_page.false

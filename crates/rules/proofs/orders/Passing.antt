@@ -10,7 +10,7 @@ use lib.Dec.{T, T_not}
 use Rattle.rules.specs.Pages.{file_of}
 use Rattle.rules.specs.Readers.{reader_at}
 use Rattle.rules.specs.Valid.{Valid}
-use Rattle.rules.specs.UseTimes.{sees, seat, never, use_for, use_key, ahead, seen}
+use Rattle.rules.specs.UseTimes.{sees, never, use_for, use_key, ahead, seen}
 use Rattle.rules.specs.Ranks.{rank}
 use Rattle.rules.proofs.laws.Tests.{side, sixteen}
 use Rattle.rules.proofs.orders.Ranks.{rank-behind, rank-unseen, rank-seen, seen-small}

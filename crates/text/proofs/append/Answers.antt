@@ -1,6 +1,5 @@
 -- By whether the text was too long, gets too long, or has room for the bytes. Assumes nothing.
 use native.Mathlib.Omega.{arith}
-use borrow.Author.Rules.{rules}
 use Rattle.text.proofs.Keeps.{append-long, append-over, append-fits}
 use Rattle.text.proofs.append.Goals as goal
 

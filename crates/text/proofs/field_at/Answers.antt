@@ -1,11 +1,6 @@
 -- Assumes nothing. At each turn the bytes from `from` to i are digits, of the value held.
-use Prim.Native.Nat.{◌-◌}
-use Prim.Native.Char.{code as ascii}
 use mathlib.Core.Path.{sym, ◌∙◌}
-use borrow.Author.Rules.{rules}
-use lib.ListN.{length}
-use Rattle.text.specs.Commands.{Digits}
-use Rattle.text.proofs.Pieces.{Walked, walked_none, walked_more}
+use Rattle.text.proofs.Pieces.{walked_none, walked_more}
 use Rattle.text.proofs.Decimals.{digits-start, digits_step, field-last, field-comma, field-bad}
 use Rattle.text.proofs.field_at.Goals as goal
 

@@ -1,10 +1,8 @@
 -- Assumes nothing. At each turn the bytes from `from` to i hold no line end.
 use Prim.Native.Nat.{◌-◌}
 use Prim.Native.Char.{code as ascii}
-use borrow.Author.Rules.{rules}
 use lib.ListN.{length}
-use Rattle.text.proofs.Keeps.{end-met, end-all}
-use Rattle.text.proofs.Pieces.{Walked, walked_none, walked_more}
+use Rattle.text.proofs.Pieces.{Walked}
 use Rattle.text.proofs.line_end.Given as goal
 
 abbrev pub invariant-loop-i : goal.invariant-loop-i

@@ -1,22 +1,7 @@
 -- Assumes nothing. At each turn the fields before `at` are read, and a comma or the line's end is there.
-use Prim.Native.Nat.{◌-◌, ◌<◌}
-use mathlib.Core.Path.{sym, ◌∙◌}
-use native.Mathlib.Omega.{arith}
-use borrow.Author.Rules.{rules}
-use borrow.Author.Tests.{not-true, not-false}
+use Prim.Native.Nat.{◌-◌}
 use lib.ListN.{length}
-use Rattle.text.proofs.Asks.{
-  starts-some,
-  Parsed,
-  parsed-start,
-  parsed-step,
-  parsed-bad,
-  parsed-full,
-  parsed-on,
-  parsed-all,
-  parsed-long,
-  parsed-unlettered,
-}
+use Rattle.text.proofs.Asks.{Parsed}
 use Rattle.text.proofs.parse.Given as goal
 
 abbrev pub invariant-loop-at : goal.invariant-loop-at

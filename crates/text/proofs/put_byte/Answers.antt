@@ -1,6 +1,5 @@
 -- Assumes nothing.
 use mathlib.Core.Path.{refl}
-use borrow.Author.Rules.{rules}
 use Rattle.rules.proofs.laws.Lists.{written_one}
 use Rattle.text.proofs.put_byte.Goals as goal
 

@@ -1,7 +1,7 @@
 -- Assumes nothing. At each turn the digits behind i are written, and those of the number left are still to come.
 use native.Mathlib.Omega.{arith}
 use borrow.Author.Rules.{rules}
-use Rattle.text.proofs.Puts.{digits-some, Back, back_start, back-room, back_step, back_end}
+use Rattle.text.proofs.Puts.{digits-some, back_start, back-room, back_step, back_end}
 use Rattle.text.proofs.put_digits.Goals as goal
 
 pub overflow_sub-i : goal.overflow_sub-i

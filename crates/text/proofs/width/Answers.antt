@@ -1,11 +1,8 @@
 -- Assumes nothing. At each turn the digits counted are a tail of those of n, and the number left has the others.
-use Prim.Native.Nat.{ℕ, suc}
-use mathlib.Core.Path.{◌≡◌, refl}
-use mathlib.Core.List.{List, []}
+use mathlib.Core.Path.{refl}
+use mathlib.Core.List.{[]}
 use native.Mathlib.Omega.{arith}
-use borrow.Author.Rules.{rules}
-use lib.ListN.{length}
-use Rattle.text.proofs.Puts.{Left, left-all, left-some, left_less, left-last, digits-length}
+use Rattle.text.proofs.Puts.{left-all, left-some, left_less, left-last, digits-length}
 use Rattle.text.proofs.width.Goals as goal
 
 pub loop-left-init : goal.loop-left-init

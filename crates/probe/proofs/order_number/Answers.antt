@@ -1,4 +1,0 @@
--- By the answer.
-use mathlib.Core.Path.{refl}
-use borrow.Author.Rules.{rules}
-use Rattle.probe.proofs.order_number.Goals as goal
