@@ -117,15 +117,32 @@ carried-by Arrived k = refl
 carried-by (Replaced file page) k = refl
 carried-by (Ran fetches reads) k = refl
 
+-- the same by what an arm says of the answer
+pub refused-is : (a : Answer) (n : ℕ) → a ≡ Refused n → carried_out a ≡ false
+refused-is a n e = rw e refl
+
+pub carried-not : (a : Answer) → ((n : ℕ) → a ≡ Refused n → ⊥) → carried_out a ≡ true
+carried-not (Refused number) k = absurd (k number refl)
+carried-not Done k = refl
+carried-not (Hit file page) k = refl
+carried-not (Wait file page) k = refl
+carried-not (Fetch file page) k = refl
+carried-not End k = refl
+carried-not Nothing k = refl
+carried-not (Stolen file page) k = refl
+carried-not Arrived k = refl
+carried-not (Replaced file page) k = refl
+carried-not (Ran fetches reads) k = refl
+
 module _ (s : State) (r : Reply) (before after : List ℕ) (a : Answered) where
   -- refused, it leaves the old state
-  pub setup-left : OneOf (0 ∷ []) (tag_of the_type r.answer)
+  pub setup-left : (n : ℕ) → r.answer ≡ Refused n
       → Gives (told (record { state = s; answer = r.answer })) before after a → Gives (told_setup s r) before after a
-  setup-left k g = rw (refused-by r.answer k) g
+  setup-left n k g = rw (refused-is r.answer n k) g
 
   -- carried out, it gives its own
-  pub setup-taken : OneOf others (tag_of the_type r.answer) → Gives (told r) before after a → Gives (told_setup s r) before after a
-  setup-taken k g = rw (carried-by r.answer k) g
+  pub setup-taken : ((n : ℕ) → r.answer ≡ Refused n → ⊥) → Gives (told r) before after a → Gives (told_setup s r) before after a
+  setup-taken k g = rw (carried-not r.answer k) g
 
 -- ---- lists
 

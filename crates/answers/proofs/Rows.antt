@@ -61,7 +61,8 @@ unfolding each
 pair-length a b = rw append-nil (length-append (field_of a) (field_of b))
 
 -- one, then the other
-pub put_both : (l m out : List ℕ) (at i j a b : ℕ) → Put l at (field_of a) m i → Put m i (field_of b) out j → at + length (each field_of (a ∷ b ∷ [])) ≤ length l
+pub put_both : (l m out : List ℕ) (at i j a b : ℕ) → Put l at (field_of a) m i → Put m i (field_of b) out j
+    → at + length (each field_of (a ∷ b ∷ [])) ≤ length l
     → Put l at (each field_of (a ∷ b ∷ [])) out j
 unfolding each
 put_both l m out at i j a b p q h = rw append-nil (put-more l m out at i j (field_of a) (field_of b) p q (omega (arith, pair-length a b)))

@@ -1,11 +1,8 @@
 -- Invariant: the first i pages are written behind the count. Measure: the pages that are left.
-use Prim.Native.Nat.{◌-◌, ◌≤◌}
-use mathlib.Core.Path.{◌≡◌, refl}
+use mathlib.Core.Path.{refl}
 use native.Mathlib.Omega.{arith}
 use borrow.Author.Rules.{rules}
-use lib.ListN.{length}
-use Rattle.text.specs.Written.{Put}
-use Rattle.answers.proofs.Rows.{row_of, row-none, row_room, row_step, one, field-one, clusters-room, clusters-end}
+use Rattle.answers.proofs.Rows.{row-none, row_room, row_step, one, field-one, clusters-room, clusters-end}
 use Rattle.answers.proofs.put_clusters.Goals as goal
 
 pub loop-i-init : goal.loop-i-init
@@ -14,7 +11,7 @@ loop-i-init c =
 
 pub overflow_cast-pages : goal.overflow_cast-pages
 overflow_cast-pages c =
-    omega (arith, c.shared_slice_known-in-loop-i-1.given c.loop-i.i)
+    omega (arith, c.type_inv.pages c.loop-i.i)
 
 pub loop-i-preserved : goal.loop-i-preserved
 loop-i-preserved c =
@@ -30,3 +27,10 @@ pub returns : goal.returns
 returns c =
     let l = c.loop-i in
     clusters-end _ _ _ _ _ c.requires.n_in_bounds c.put_number-at.ensures c.requires.in_bounds.1 _ _ _ l.invariant.0 c.loop-i-test.false l.invariant.2
+
+pub put_field-at-requires : goal.put_field-at-requires
+put_field-at-requires c =
+    let l = c.loop-i in
+    let room = clusters-room _ _ _ _ _ c.requires.n_in_bounds c.put_number-at.ensures c.requires.in_bounds.1 in
+    let next = row_room one _ _ c.requires.n_in_bounds _ _ _ _ _ c.loop-i-test.true (omega arith) l.invariant.2 l.invariant.1 in
+    (omega (arith, c.type_inv.pages l.i), rw field-one at next)

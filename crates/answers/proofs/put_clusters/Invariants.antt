@@ -1,11 +1,9 @@
 -- Invariant: the first i pages are written behind the count. Measure: the pages that are left.
 use Prim.Native.Nat.{◌-◌, ◌≤◌}
-use mathlib.Core.Path.{◌≡◌, refl}
-use native.Mathlib.Omega.{arith}
-use borrow.Author.Rules.{rules}
+use mathlib.Core.Path.{◌≡◌}
 use lib.ListN.{length}
 use Rattle.text.specs.Written.{Put}
-use Rattle.answers.proofs.Rows.{row_of, row-none, row_room, row_step, one, field-one, clusters-room, clusters-end}
+use Rattle.answers.proofs.Rows.{row_of, one}
 use Rattle.answers.proofs.put_clusters.Given as goal
 
 abbrev pub invariant-loop-i : goal.invariant-loop-i

@@ -1,12 +1,9 @@
 -- Invariant: the first i keys are written behind the count, each as file and page. Measure: the keys that are left.
-use Prim.Native.Nat.{◌-◌, ◌≤◌}
-use mathlib.Core.Path.{◌≡◌, refl}
+use mathlib.Core.Path.{refl}
 use native.Mathlib.Omega.{arith}
 use borrow.Author.Rules.{rules}
-use lib.ListN.{length}
 use Rattle.rules.specs.Lines.{pair_of}
-use Rattle.text.specs.Written.{Put}
-use Rattle.answers.proofs.Rows.{row_of, row-none, row_room, row_step, keys-room, keys-end}
+use Rattle.answers.proofs.Rows.{row-none, row_room, row_step, keys-room, keys-end}
 use Rattle.answers.proofs.put_keys.Goals as goal
 
 pub loop-i-init : goal.loop-i-init

@@ -3,15 +3,9 @@ use mathlib.Core.Path.{refl}
 use native.Mathlib.Omega.{arith}
 use borrow.Author.Rules.{rules}
 use Rattle.rules.specs.Views.{state_of}
-use Rattle.rules.specs.declared.State.{State}
 use Rattle.answers.proofs.Shown.{order-line}
 use Rattle.answers.proofs.Replies.{line-ended}
-use Rattle.answers.proofs.show_order.Goals.{Start}
 use Rattle.answers.proofs.show_order.Goals as goal
-
--- the state that the call finds
-abbrev the-state : Start → State
-the-state c = state_of c.args.v c.args.cached.now c.args.fetching.now
 
 pub put_keys-at-requires : goal.put_keys-at-requires
 put_keys-at-requires c =
@@ -19,12 +13,20 @@ put_keys-at-requires c =
         search rules,
         omega (
           arith,
-          order-line (the-state c.before.before.before.before.before.before) c.requires.valid _ _ c.args.letter c.args.stealing f,
+          order-line (state_of c.args.v c.args.cached.now c.args.fetching.now) c.requires.valid _ _ c.args.letter c.args.stealing f,
         ),
       ) }
 
 pub returns : goal.returns
 returns c =
     let f = c.list_order-n.ensures in
-    let short = rw f.is at (order-line (the-state c.before.before.before.before.before.before.before.before.before.before.before.before.before.before) c.requires.valid _ _ c.args.letter c.args.stealing f) in
+    let short = rw f.is at (order-line (state_of c.args.v c.args.cached.now c.args.fetching.now) c.requires.valid _ _ c.args.letter c.args.stealing f) in
     record { state = refl; line = line-ended _ _ _ _ _ _ (rw f.is at c.put_keys-at.ensures) c.put_byte-len.ensures (omega arith) }
+
+pub put_byte-len-requires : goal.put_byte-len-requires
+put_byte-len-requires c =
+    omega (
+      arith,
+      c.put_keys-at.ensures.next_is,
+      order-line (state_of c.args.v c.args.cached.now c.args.fetching.now) c.requires.valid _ _ c.args.letter c.args.stealing c.list_order-n.ensures,
+    )
