@@ -24,7 +24,7 @@ program:
 
 # the archive and the header for a server in C, in target/lib
 lib:
-	@rt staticlib capi
+	@scripts/prove capi
 	@mkdir -p $(LIB)
 	@cp target/staticlib/libcapi.a $(LIB)/libquay.a
 	@cp include/quay.h $(LIB)/quay.h
@@ -32,7 +32,7 @@ lib:
 
 # the archive of the calls to which no door leads, for the tests from outside alone, in target/staticlib
 probe:
-	@rt staticlib probe
+	@scripts/prove probe
 
 # the program that shows why a page stands where it stands, in target/bin; without cargo it is left out
 explain:

@@ -23,6 +23,7 @@ def turned(text):
     text = TOKEN.sub(lambda m: respelled(m.group(0), FIELDS), text)
     text = re.sub(r"(?<=[A-Za-z0-9'])-(?=[a-z])", "_", text) if "-" in text else text
     text = re.sub(r"Rattle·(\w+)·specs\.specs\.", r"Rattle.\1.specs.", text).replace("Rattle·", "Rattle.")
+    text = re.sub(r"(?<=Nat\.)_([-+*/%])_", r"◌\1◌", text)
     text = text.replace("«look_ahead»", "look_ahead").replace("«fetch_time»", "fetch_time")
     # a projection of a call: the call is in brackets, and the field behind them
     call = r"([A-Za-z_][A-Za-z0-9_']*(?: (?:[A-Za-z0-9_']+|\([^()]*\)))+) \.([A-Za-z_0-9]+)"

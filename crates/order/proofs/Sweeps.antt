@@ -138,7 +138,7 @@ module _ (s : State) (k : ℕ) (queue : List ℕ) (end : ℕ) where
     pub swept-past : ((reader_at s (get_or queue at 0 % 16)).last < page_of k) → Swept s k (Asked queue at end) top
     swept-past l =
         swept-one top a.bound (omega arith)
-        (λ g. absurd (omega (arith, l, (before-is (reader_at s (get_or queue at 0 % 16)) k (sees-before s (reader_at s (get_or queue at 0 % 16)) k g)).in_reach)))
+        (λ g. let r = reader_at s (get_or queue at 0 % 16) in absurd (omega (arith, l, (before-is r k (sees-before s r k g)).in_reach)))
 
     -- it has the page before it
     pub swept-more : (next : ℕ) → next ≡ lower s k (get_or queue at 0 % 16) top → Swept s k (Asked queue at end) next

@@ -2,7 +2,6 @@
 use Prim.Native.Nat.{ℕ, ◌≤◌, ◌<◌}
 use mathlib.Core.Path.{◌≡◌, refl, sym, ap, ◌∙◌}
 use mathlib.Core.Bool.{true, false, not}
-use mathlib.Core.List.{List}
 use lib.ListN.{length}
 use lib.Dec.{T, ltb, eqb}
 use Rattle.bits.specs.Map.{ones}
@@ -10,21 +9,13 @@ use Rattle.rules.specs.Pages.{in_fetch, fetching_pages}
 use Rattle.rules.specs.Valid.{Valid}
 use Rattle.rules.specs.Calls.{reply, refused}
 use Rattle.rules.specs.Run.{fetch_open, turns_of, run_of}
-use Rattle.rules.specs.Third.{ThirdStatement}
 use Rattle.rules.specs.declared.State.{State}
 use Rattle.rules.specs.declared.Reply.{Reply}
 use Rattle.rules.specs.declared.Answer.TheVariants.{Ran}
 use Rattle.rules.proofs.laws.Cases.{cond_yes, cond_no, outcomes}
-use Rattle.rules.proofs.third.Optimal.{third_of}
 use Rattle.rules.proofs.third.Turns.{none-in-fetch}
-use Rattle.parts.specs.Held.{Held}
 use Rattle.calls.proofs.Frames.{pages-ones}
 use Rattle.turns.specs.Tallies.{so_far}
-
--- what holds of a reply that is Run's: the third statement too; and of the counts
-pub with-third : (s : State) (n : ℕ) (r : Reply) (map held : List ℕ) → Held map held → r ≡ run_of s n
-    → (r ≡ run_of s n) × (ThirdStatement n s r.answer × Held map held)
-with-third s n r map held h e = (e, (third_of s n r e, h))
 
 -- 11
 pub run-many : (s : State) (n : ℕ) (r : Reply) → 16384 < n → r ≡ refused s 11 → r ≡ run_of s n

@@ -1,10 +1,8 @@
 -- Invariant: no page between the start and the place reached is in neither map. Measure: the keys that are left.
-use mathlib.Core.Logic.{⊎_elim}
-use Prim.Native.Nat.{◌+◌, ◌-◌, ◌*◌, ◌/◌, ◌%◌, ◌≤◌}
+use Prim.Native.Nat.{◌+◌, ◌-◌, ◌*◌, ◌/◌, ◌%◌}
 use native.Mathlib.Omega.{arith}
 use borrow.Author.Rules.{rules}
-use borrow.Author.Tests.{ltb-true, ltb-false}
-use Rattle.bits.proofs.Finds.{Without, Next, without-join, next-at, next-none}
+use Rattle.bits.proofs.Finds.{Next, without-join, next-at, next-none}
 use Rattle.bits.specs.Map.{joined}
 use Rattle.fetch.proofs.Lacks.{clear-word}
 use Rattle.fetch.proofs.next_absent.Goals.{After-next_clear-r}
@@ -29,7 +27,7 @@ returns-then-at-end c =
     let a = c.args in
     let maps = joined a.cached.now a.fetching.now in
     let q = c.loop-at.at / 64 * 64 + c.next_clear-r.result in
-    next-at maps 0 a.from a.n q (omega arith) (omega (arith, ltb-true))
+    next-at maps 0 a.from a.n q (omega arith) (omega arith)
     (without-join maps 0 a.from c.loop-at.at q c.loop-at.invariant.1 t.before) (t.found (omega arith))
 
 pub loop-at-preserved : goal.loop-at-preserved

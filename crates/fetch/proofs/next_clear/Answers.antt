@@ -3,7 +3,6 @@ use Prim.Native.Nat.{◌-◌, ◌/◌, ◌^◌}
 use native.Mathlib.Omega.{arith}
 use lib.Bits.{bit_or}
 use lib.Count.{trailing_le}
-use borrow.Author.Rules.{rules}
 use Rattle.fetch.proofs.Lacks.{clear_shr}
 use Rattle.fetch.proofs.next_clear.Goals as goal
 

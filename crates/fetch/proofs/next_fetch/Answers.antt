@@ -1,6 +1,6 @@
 -- Invariant: of the slots passed, no first absent page is used sooner than the best (`Soonest`). Measure: the slots that are left.
-use mathlib.Core.Path.{◌≡◌, refl, sym}
-use Prim.Native.Nat.{◌-◌, ◌≤◌}
+use mathlib.Core.Path.{◌≡◌, sym}
+use Prim.Native.Nat.{◌-◌}
 use native.Mathlib.Omega.{arith}
 use borrow.Author.Rules.{rules}
 use Rattle.rules.specs.Views.{state_of}
@@ -11,7 +11,7 @@ use Rattle.fetch.proofs.next_fetch.Goals as goal
 
 -- all slots
 all : (c : After-loop-slot) →
-    Soonest (state_of c.args.t1 c.args.cached.now c.args.fetching.now) 16 c.loop-slot.best
+    Soonest (state_of c.args.v c.args.cached.now c.args.fetching.now) 16 c.loop-slot.best
 all c =
     let l = c.loop-slot in
     let e : l.slot ≡ 16 = omega arith in
@@ -19,3 +19,13 @@ all c =
 
 pub loop-slot-init : goal.loop-slot-init
 loop-slot-init c = search (soonest-none, rules)
+
+pub returns-then-best-eq-NEVER : goal.returns-then-best-eq-NEVER
+returns-then-best-eq-NEVER c =
+    sym (soonest-nothing (state_of c.args.v c.args.cached.now c.args.fetching.now) c.requires
+    c.loop-slot.best (all (goal.at.returns-then-best-eq-NEVER c).After-loop-slot) c.if-best-eq-NEVER.true)
+
+pub returns : goal.returns
+returns c =
+    sym (soonest-fetch (state_of c.args.v c.args.cached.now c.args.fetching.now) c.requires
+    c.loop-slot.best (all (goal.at.returns c).After-loop-slot) c.if-best-eq-NEVER.false)

@@ -1,11 +1,7 @@
 -- Invariant: of the slots passed, no first absent page is used sooner than the best (`Soonest`). Measure: the slots that are left.
-use mathlib.Core.Path.{◌≡◌, refl, sym}
 use Prim.Native.Nat.{◌-◌, ◌≤◌}
-use native.Mathlib.Omega.{arith}
-use borrow.Author.Rules.{rules}
 use Rattle.rules.specs.Views.{state_of}
 use Rattle.fetch.specs.Soonest.{Soonest}
-use Rattle.fetch.proofs.Searching.{soonest-none, soonest-fetch, soonest-nothing}
 use Rattle.fetch.proofs.next_fetch.Given as goal
 
 abbrev pub invariant-loop-slot : goal.invariant-loop-slot

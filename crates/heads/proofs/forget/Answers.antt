@@ -1,5 +1,4 @@
 -- The file's head is 0 now.
-use borrow.Author.Rules.{rules}
 use Rattle.heads.proofs.Keeping.{forgot-one}
 use Rattle.heads.proofs.forget.Goals as goal
 

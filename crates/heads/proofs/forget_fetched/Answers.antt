@@ -1,5 +1,4 @@
 -- Fetches take time, or nothing is forgotten.
-use borrow.Author.Rules.{rules}
 use native.Mathlib.Omega.{arith}
 use Rattle.heads.proofs.Keeping.{forgot_none, forgot-as}
 use Rattle.heads.proofs.forget_fetched.Goals as goal

@@ -1,5 +1,4 @@
 -- The reader's file is forgotten, or the slot is empty.
-use borrow.Author.Rules.{rules}
 use mathlib.Core.Path.{sym, ◌∙◌}
 use native.Mathlib.Omega.{arith}
 use Rattle.rules.proofs.laws.Cases.{passed}

@@ -1,5 +1,4 @@
 -- The head kept is the file's; else the page found is put.
-use borrow.Author.Rules.{rules}
 use native.Mathlib.Omega.{arith}
 use Rattle.heads.proofs.Besting.{first-low, head-put}
 use Rattle.heads.proofs.head_kept.Goals as goal

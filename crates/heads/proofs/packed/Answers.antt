@@ -1,5 +1,4 @@
 -- By whether there is a page, and whether its rank is a use key.
-use borrow.Author.Rules.{rules}
 use Rattle.heads.proofs.Besting.{packed_none, packed-near, packed-far}
 use Rattle.heads.proofs.packed.Goals as goal
 

@@ -1,14 +1,9 @@
 -- Invariant: of the set's pages in the files passed none goes before the best, and the heads kept are their files'. Measure: the files that are left.
 use Prim.Native.Nat.{◌-◌, ◌≤◌}
-use mathlib.Core.Path.{sym, ◌∙◌}
-use mathlib.Core.Logic.{⊎_elim}
-use native.Mathlib.Omega.{arith}
-use borrow.Author.Rules.{rules}
 use Rattle.rules.specs.declared.View.{View}
 use Rattle.files.specs.Sets.{in_set}
 use Rattle.uses.specs.Sights.{state_under}
 use Rattle.heads.specs.Heads.{HeadIs, Kept, SightedAll}
-use Rattle.heads.proofs.Besting.{best_none, best-more, best-skip, best-all, best-victim, best-nothing}
 use Rattle.heads.proofs.victim_kept.Given as goal
 
 abbrev pub invariant-loop-file : goal.invariant-loop-file

@@ -1,14 +1,8 @@
 -- Invariant: the slots passed are so many pages on (`Advanced`), and their pages are counted. Measure: the slots that are left.
-use Prim.Native.Nat.{◌+◌, ◌-◌, ◌*◌, ◌≤◌}
+use Prim.Native.Nat.{◌-◌, ◌*◌, ◌≤◌}
 use mathlib.Core.Path.{◌≡◌}
-use native.Mathlib.Omega.{arith}
-use borrow.Author.Rules.{rules}
 use Rattle.rules.specs.Lists.{total}
-use Rattle.rules.specs.Readers.{reader_in}
-use Rattle.rules.proofs.laws.Leasts.{total-none, total-more}
-use Rattle.calls.proofs.Slots.{readable}
 use Rattle.hits.specs.Hits.{reads_of, Advanced}
-use Rattle.hits.proofs.Slots.{advanced-none, advanced-more}
 use Rattle.hits.proofs.pass_turns.Given as goal
 
 abbrev pub invariant-loop-slot : goal.invariant-loop-slot

@@ -1,10 +1,5 @@
 -- Invariant: of so many turns, and of fewer, none of the slots passed meets F. Measure: the slots that are left.
 use Prim.Native.Nat.{ℕ, ◌-◌, ◌≤◌}
-use mathlib.Core.Path.{◌≡◌}
-use native.Mathlib.Omega.{arith}
-use borrow.Author.Rules.{rules}
-use Rattle.rules.proofs.laws.Below.{one_more}
-use Rattle.calls.proofs.Slots.{readable}
 use Rattle.hits.specs.Hits.{Clear}
 use Rattle.hits.proofs.turns_ahead.Given as goal
 

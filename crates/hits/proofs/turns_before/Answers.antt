@@ -1,7 +1,6 @@
 -- All pages up to the last are cached, or the turns end with the reader's own one that comes to the first that is not.
 use Prim.Native.Nat.{ℕ, ◌+◌, ◌-◌, ◌/◌, ◌≤◌}
 use native.Mathlib.Omega.{arith}
-use borrow.Author.Rules.{rules}
 use Rattle.hits.proofs.Slots.{stretch-bounds, stretch-cached, own-few}
 use Rattle.hits.proofs.turns_before.Goals.{After-lesser}
 use Rattle.hits.proofs.turns_before.Goals as goal

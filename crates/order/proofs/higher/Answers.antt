@@ -1,5 +1,4 @@
 -- The page's rank is higher, or the best stays.
-use borrow.Author.Rules.{rules}
 use Rattle.order.proofs.Sweeps.{higher-take, higher-keep}
 use Rattle.order.proofs.higher.Goals as goal
 

@@ -1,14 +1,10 @@
 -- Invariant: no cached page of the files passed that are of the set ranks higher than the best (`Highest`). Measure: the files left up to the set's last.
-use Prim.Native.Nat.{◌-◌, ◌<◌}
-use mathlib.Core.Path.{sym, ◌∙◌}
-use mathlib.Core.Logic.{⊎_elim}
-use native.Mathlib.Omega.{arith}
-use borrow.Author.Rules.{rules}
+use Prim.Native.Nat.{◌-◌}
 use Rattle.rules.specs.declared.View.{View}
 use Rattle.files.specs.Sets.{in_set}
 use Rattle.uses.specs.Sights.{state_under, Sighted}
 use Rattle.order.specs.Searches.{AllAhead}
-use Rattle.order.proofs.Searching.{Highest, highest-none, highest-more, highest-skip, highest-all}
+use Rattle.order.proofs.Searching.{Highest}
 use Rattle.order.proofs.highest.Given as goal
 
 abbrev pub invariant-loop-file : goal.invariant-loop-file

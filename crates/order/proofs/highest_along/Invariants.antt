@@ -1,20 +1,11 @@
 -- Invariant: no cached page of the file past page n ranks higher than the best (`Raised`), and no reader from the place reached on is short of page n. Measure:
 -- page n and the place reached, neither of which rises.
-use mathlib.Core.Path.{◌≡◌}
-use Prim.Native.Nat.{ℕ, ◌+◌, ◌-◌, ◌*◌, ◌/◌, ◌≤◌, ◌<◌}
-use native.Mathlib.Decide.{dec_lt}
-use native.Mathlib.Omega.{arith}
-use borrow.Author.Rules.{rules}
-use borrow.Author.Tests.{ltb-false}
+use Prim.Native.Nat.{ℕ, ◌+◌, ◌-◌, ◌/◌, ◌≤◌, ◌<◌}
 use lib.ListN.{get_or}
-use Rattle.rules.specs.Pages.{file_of, page_of}
-use Rattle.rules.specs.declared.State.{State}
 use Rattle.rules.specs.declared.View.{View}
 use Rattle.uses.specs.Sights.{state_under, Sighted}
 use Rattle.uses.specs.Queues.{Queued}
-use Rattle.order.specs.Searches.{ShortOf, Looked}
-use Rattle.order.proofs.Sweeps.{short-at}
-use Rattle.order.proofs.Searching.{last_low, last-cached, raised-start, raised-last, is-ahead, raised-higher, raised-high, raised_all}
+use Rattle.order.specs.Searches.{Looked}
 use Rattle.order.proofs.highest_along.Given as goal
 
 abbrev pub invariant-loop-at : goal.invariant-loop-at

@@ -1,18 +1,13 @@
 -- Invariant: the number kept is what the readers asked leave of the page's rank (`Swept`). Measure: the place reached, down the queue.
-use mathlib.Core.Path.{◌≡◌, refl}
-use Prim.Native.Nat.{ℕ, ◌+◌, ◌-◌, ◌/◌, ◌%◌, ◌≤◌, ◌<◌}
-use native.Mathlib.Omega.{arith}
-use borrow.Author.Rules.{rules}
-use borrow.Author.Tests.{ltb-false}
+use mathlib.Core.Path.{◌≡◌}
+use Prim.Native.Nat.{◌+◌, ◌-◌, ◌/◌, ◌%◌, ◌≤◌}
 use lib.Dec.{T}
-use lib.ListN.{get_or}
 use Rattle.rules.specs.Pages.{page_of}
 use Rattle.rules.specs.UseTimes.{ahead}
-use Rattle.rules.specs.declared.State.{State}
 use Rattle.rules.specs.declared.View.{View}
-use Rattle.uses.specs.Sights.{state_under, Sits, Sighted}
+use Rattle.uses.specs.Sights.{state_under, Sighted}
 use Rattle.order.specs.Searches.{ShortOf}
-use Rattle.order.proofs.Sweeps.{last-is, last_high, pace_is, stands-before, Swept, Asked, swept_none, swept-past, swept-more, swept_all}
+use Rattle.order.proofs.Sweeps.{Swept, Asked}
 use Rattle.order.proofs.rank_over.Given as goal
 
 abbrev pub invariant-loop-at : goal.invariant-loop-at

@@ -1,6 +1,5 @@
 -- The first page goes, if there is one.
 use mathlib.Core.Path.{sym}
-use borrow.Author.Rules.{rules}
 use Rattle.order.proofs.Firsts.{first-victim, first-nothing}
 use Rattle.order.proofs.victim_among.Goals as goal
 

@@ -1,13 +1,7 @@
 -- The file has none, or the loop finds it. Invariant: every cached page after the one reached is ahead of a reader, and the next one is that to
 -- which its own step leads. Measure: the page reached.
-use Prim.Native.Nat.{◌≤◌}
 use mathlib.Core.Path.{◌≡◌}
-use mathlib.Core.List.{List}
 use native.Mathlib.Omega.{arith}
-use borrow.Author.Rules.{rules}
-use Rattle.rules.specs.declared.Reader.{Reader}
-use Rattle.uses.specs.Seats.{Seated}
-use Rattle.rears.specs.Rears.{Back, Free}
 use Rattle.rears.proofs.Rearing.{back_more}
 use Rattle.rears.proofs.behind_all.Goals as goal
 
@@ -32,4 +26,7 @@ loop-next-preserved c =
 pub returns : goal.returns
 returns c =
     let l = c.loop-next in
-    let e : l.next ≡ l.page = omega (arith, l.invariant.1, c.loop-next-test.false) in record { back = λ readers g. let i = l.invariant.2 readers g in (i.0, rw e at (i.1.1 e)); low = l.invariant.0 }
+    let e : l.next ≡ l.page = omega (arith, l.invariant.1, c.loop-next-test.false) in record {
+      back = λ readers g. let i = l.invariant.2 readers g in (i.0, rw e at (i.1.1 e));
+      low = l.invariant.0;
+    }

@@ -3,12 +3,9 @@
 use Prim.Native.Nat.{◌≤◌}
 use mathlib.Core.Path.{◌≡◌}
 use mathlib.Core.List.{List}
-use native.Mathlib.Omega.{arith}
-use borrow.Author.Rules.{rules}
 use Rattle.rules.specs.declared.Reader.{Reader}
 use Rattle.uses.specs.Seats.{Seated}
 use Rattle.rears.specs.Rears.{Back, Free}
-use Rattle.rears.proofs.Rearing.{back_more}
 use Rattle.rears.proofs.behind_all.Given as goal
 
 abbrev pub invariant-loop-next : goal.invariant-loop-next

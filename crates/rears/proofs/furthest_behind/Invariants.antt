@@ -1,18 +1,13 @@
 -- Invariant: of the files passed no page of the set that is ahead of no reader goes before the best (`Rear`). Measure: the files left up to the set's last.
-use Prim.Native.Nat.{ℕ, ◌-◌, ◌<◌}
-use mathlib.Core.Path.{◌≡◌, sym, ap, ◌∙◌}
+use Prim.Native.Nat.{ℕ, ◌-◌}
+use mathlib.Core.Path.{◌≡◌}
 use mathlib.Core.List.{List}
-use mathlib.Core.Logic.{⊎_elim}
-use native.Mathlib.Omega.{arith}
-use borrow.Author.Rules.{rules}
-use lib.ListN.{get_or}
 use Rattle.rules.specs.Valid.{Valid}
 use Rattle.rules.specs.Views.{state_of}
 use Rattle.rules.specs.declared.View.{View}
 use Rattle.files.specs.Sets.{in_set}
 use Rattle.uses.specs.Seats.{Seated}
 use Rattle.rears.specs.Rears.{Rear}
-use Rattle.rears.proofs.Rearing.{rear-none, rear-skip, rear-all}
 use Rattle.rears.proofs.furthest_behind.Given as goal
 
 abbrev pub invariant-loop-file : goal.invariant-loop-file

@@ -3,22 +3,21 @@ use mathlib.Core.Path.{◌≡◌}
 use mathlib.Core.List.{List}
 use Prim.Native.Nat.{◌+◌, ◌-◌, ◌≤◌, ◌<◌}
 use native.Mathlib.Omega.{arith}
-use borrow.Author.Rules.{rules}
 use lib.ListN.{get_or}
 use Rattle.rules.specs.declared.Reader.{Reader}
 use Rattle.uses.specs.Seats.{Seated}
-use Rattle.rears.specs.Rears.{Least}
 use Rattle.uses.proofs.Seating.{Linked, chain_first, chain-position, chain-reach, chain-is, chain-less, chain_next}
 use Rattle.rears.proofs.Rearing.{least-none, least_more}
-use Rattle.rears.proofs.least_ahead.Goals.{After-at-1, At-loop-at}
+use Rattle.rears.proofs.least_ahead.Goals.{At-loop-at, Start}
 use Rattle.rears.proofs.least_ahead.Goals as goal
 
 -- the file's first slot
-first : (c : After-at-1) →
-    (readers : List Reader) → Seated readers 16 c.args.seats.now
+first : (c : Start) → (readers : List Reader) → Seated readers 16 c.args.seats.now
     → Linked readers c.args.file (get_or c.args.seats.now (48 + c.args.file) 0)
-first c readers g =
-    chain_first readers c.args.seats.now g c.args.file c.requires.0
+first c readers g = chain_first readers c.args.seats.now g c.args.file c.requires.0
+
+first_high : (c : Start) → get_or c.args.seats.now (48 + c.args.file) 0 ≤ 16
+first_high c = (first c c.requires.1.0 c.requires.1.1).high
 
 -- the slot before the turn's
 less : (c : At-loop-at) →
@@ -29,15 +28,14 @@ less c h =
     chain-less readers c.args.seats.now g c.args.file c.loop-at.at h (c.loop-at.invariant.2 readers g).0
 
 pub overflow_cast-at : goal.overflow_cast-at
-overflow_cast-at c =
-    omega (arith, (first c c.requires.1.0 c.requires.1.1).high)
+overflow_cast-at c = omega (arith, first_high (goal.at.overflow_cast-at c).Start)
 
 pub loop-at-init : goal.loop-at-init
 loop-at-init c =
-    (
+    let start = (goal.at.loop-at-init c).Start in (
       omega arith,
-      (first c c.requires.1.0 c.requires.1.1).high,
-      λ readers g. (first c readers g, least-none readers c.args.file c.args.page _ (g.last c.args.file c.requires.0)),
+      first_high start,
+      λ readers g. (first start readers g, least-none readers c.args.file c.args.page _ (g.last c.args.file c.requires.0)),
     )
 
 pub overflow_cast-at-in-loop-at : goal.overflow_cast-at-in-loop-at

@@ -1,11 +1,21 @@
 -- A frame is free, or the head of the steal order goes.
 use mathlib.Core.Path.{refl, ◌∙◌}
 use native.Mathlib.Omega.{arith}
-use borrow.Author.Rules.{rules}
 use Rattle.parts.proofs.Carried.{held_high}
 use Rattle.files.proofs.Leading.{weights-in}
 use Rattle.calls.proofs.Frames.{free-none, taken-victim}
 use Rattle.turns.proofs.give_up.Goals as goal
+
+pub taken-requires : goal.taken-requires
+taken-requires c = held_high _ _ c.requires.done_bound.1
+
+pub files_open-files-requires : goal.files_open-files-requires
+files_open-files-requires c =
+    let g = c.requires.choosing.1 in (
+      omega (arith, g.sighted.valid.frames_high),
+      weights-in _ _ _ _ g.sighted.valid g.weights_are,
+      held_high _ _ c.requires.done_bound.1,
+    )
 
 pub returns-then-taken-t : goal.returns-then-taken-t
 returns-then-taken-t c = λ w g k.

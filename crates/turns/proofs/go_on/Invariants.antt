@@ -1,11 +1,8 @@
 -- Invariant: the first i turns are made, and the array and the maps are as they left them (`Underway`). Measure: the turns that are left.
 use Prim.Native.Nat.{◌-◌, ◌≤◌, ◌<◌}
-use mathlib.Core.Path.{◌≡◌, refl}
-use native.Mathlib.Omega.{arith}
-use borrow.Author.Rules.{rules}
 use Rattle.rules.specs.Views.{state_of}
 use Rattle.parts.specs.Held.{Held}
-use Rattle.turns.proofs.Legs.{Underway, underway-none, underway-few, underway-turning, underway-more, underway-all}
+use Rattle.turns.proofs.Legs.{Underway}
 use Rattle.turns.proofs.go_on.Given as goal
 
 abbrev pub invariant-loop-i : goal.invariant-loop-i

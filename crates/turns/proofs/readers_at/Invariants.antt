@@ -1,8 +1,6 @@
 -- Invariant: the records passed are at their positions, and the others are as they were. Measure: the records that are left.
 use Prim.Native.Nat.{◌-◌, ◌≤◌}
-use native.Mathlib.Omega.{arith}
-use borrow.Author.Rules.{rules}
-use Rattle.turns.proofs.Seatings.{Moved, moved_none, moved_more}
+use Rattle.turns.proofs.Seatings.{Moved}
 use Rattle.turns.proofs.readers_at.Given as goal
 
 abbrev pub invariant-loop-j : goal.invariant-loop-j

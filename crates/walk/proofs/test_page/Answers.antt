@@ -1,6 +1,5 @@
 -- The bit is set, or it is not.
 use mathlib.Core.Path.{refl, sym, ◌∙◌}
-use borrow.Author.Rules.{rules}
 use Rattle.walk.proofs.test_page.Goals as goal
 
 pub returns-then-has_digit : goal.returns-then-has_digit

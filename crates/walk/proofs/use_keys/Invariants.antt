@@ -1,17 +1,10 @@
 -- Invariant: the table and the maps are those of the slots passed, and so are the pages tested and the words read. Measure: the slots that are left.
-use mathlib.Core.Path.{◌≡◌, refl, sym, ap, ◌∙◌}
+use mathlib.Core.Path.{◌≡◌}
 use Prim.Native.Nat.{◌-◌, ◌*◌, ◌≤◌}
-use native.Mathlib.Omega.{arith}
-use borrow.Author.Rules.{rules}
-use lib.ListN.{length, length-replicate}
-use Rattle.rules.specs.UseTimes.{never}
+use lib.ListN.{length}
 use Rattle.rules.specs.Views.{state_of}
-use Rattle.rules.specs.declared.State.{State}
-use Rattle.rules.proofs.orders.Local.{maps-present}
-use Rattle.walk.specs.Walks.{Asked}
 use Rattle.walk.specs.Tables.{KeyedBy}
-use Rattle.walk.proofs.Slots.{valid-in-file, keyed-none, keyed-all, tested_by, words_by, counts_all}
-use Rattle.rules.proofs.laws.Leasts.{total-none, total-more}
+use Rattle.walk.proofs.Slots.{tested_by, words_by}
 use Rattle.walk.proofs.use_keys.Given as goal
 
 abbrev pub invariant-loop-slot : goal.invariant-loop-slot

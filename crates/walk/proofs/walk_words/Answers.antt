@@ -4,13 +4,7 @@ use mathlib.Core.Path.{◌≡◌, refl, ◌∙◌}
 use mathlib.Core.Logic.{◌⊎◌, inl, inr, ⊎_elim}
 use Prim.Native.Nat.{ℕ, ◌+◌, ◌-◌, ◌%◌, ◌≤◌, ◌<◌}
 use native.Mathlib.Omega.{arith}
-use borrow.Author.Rules.{rules}
-use borrow.Author.Tests.{ltb-true, ltb-false}
-use lib.ListN.{length}
-use Rattle.rules.specs.UseTimes.{seat}
-use Rattle.rules.specs.Ranks.{Presents}
-use Rattle.rules.specs.declared.State.{State}
-use Rattle.walk.specs.Walks.{at_start, Small, Further, Course, Along, spanned}
+use Rattle.walk.specs.Walks.{at_start, Further, spanned}
 use Rattle.walk.proofs.Alongs.{along-none, course-less, word-shown}
 use Rattle.walk.proofs.Words.{Fresh, spanned-none, spanned-small, spanned-more}
 use Rattle.walk.proofs.walk_words.Goals.{After-lesser-end, After-walk_word-at, At-loop-at}
@@ -32,9 +26,9 @@ end_low c =
 further : (c : After-walk_word-at) →
     (c.loop-at.at.tested < c.walk_word-at.result.tested) × (c.walk_word-at.result.tested ≤ c.args.reach)
 further c =
-    let l = end_low c.before.before.before.before.before.before.before in
+    let l = end_low (goal.at.After-walk_word-at c).After-lesser-end in
     let f = c.walk_word-at.ensures.far.1 in
-    let m = ltb-true c.loop-at.at.missing c.args.go.most c.if-at-go.true in
+    let m = c.if-at-go.true in
     (⊎_elim (λ e. omega (arith, e, l)) (λ e. omega (arith, e, f.gaps, f.on, m)) f.ends, omega (arith, f.within, l))
 
 -- the words of the pages that are tested now are one more; and where the walk goes on, it has come to the border
@@ -45,10 +39,10 @@ counted : (c : After-walk_word-at) →
 counted c =
     let a = c.args in
     let at = c.loop-at.at in
-    let i = c.loop-at.inv.1 in
-    let p = end_low c.before.before.before.before.before.before.before in
+    let i = c.loop-at.invariant.1 in
+    let p = end_low (goal.at.After-walk_word-at c).After-lesser-end in
     let f = c.walk_word-at.ensures.far.1 in
-    let fresh = i.1 (omega (arith, p)) (ltb-true at.missing a.go.most c.if-at-go.true) in (
+    let fresh = i.1 (omega (arith, p)) c.if-at-go.true in (
       spanned-more a.from at.tested c.walk_word-at.result.tested c.loop-at.words fresh (further c).0
           (omega (arith, f.within, p.border)) i.0,
       λ l m.
@@ -84,3 +78,44 @@ pub loop-at-smaller : goal.loop-at-smaller
 loop-at-smaller c =
     let l = further (goal.at.loop-at-smaller c).After-walk_word-at in
     omega arith
+
+pub overflow_add-words : goal.overflow_add-words
+overflow_add-words c =
+    let i = c.loop-at.invariant in
+    omega (arith, i.1.0, spanned-small c.args.from c.loop-at.at.tested, i.0.0.tested_high)
+
+pub walk_word-at-requires : goal.walk_word-at-requires
+walk_word-at-requires c =
+    let i = c.loop-at.invariant.0 in
+    let l = end_low (goal.at.walk_word-at-requires c).After-lesser-end in
+    record { small = (i.0, omega (arith, l)); end_bound = (omega (arith, l, c.requires.reach_bound), omega (arith, l, c.requires.reach_bound), i.2) }
+
+pub loop-at-preserved : goal.loop-at-preserved
+loop-at-preserved c =
+    let a = c.args in
+    let at = c.loop-at.at in
+    let e = c.walk_word-at.ensures in
+    let l = end_low (goal.at.loop-at-preserved c).After-lesser-end in (
+      (e.far.0, omega (arith, e.far.1.within, l), c.walk_word-at.auto.table ∙ c.loop-at.invariant.0.2),
+      counted (goal.at.loop-at-preserved c).After-walk_word-at,
+      λ s j course shows seat_is.
+          e.along s j a.table.now (course-less s j a.go a.from a.reach c.lesser-end.result course (omega (arith, l)))
+          (word-shown s a.cached.now a.fetching.now a.from at.tested c.lesser-end.result shows (omega (arith, l)))
+          (c.loop-at.invariant.2 s j course shows seat_is),
+    )
+
+pub returns-else-at-go : goal.returns-else-at-go
+returns-else-at-go c =
+    let i = c.loop-at.invariant in record {
+      far = (i.0.0, from_start (goal.at.returns-else-at-go c).At-loop-at (inr c.if-at-go.false));
+      words = i.1.0;
+      along = i.2;
+    }
+
+pub returns-after-loop-at : goal.returns-after-loop-at
+returns-after-loop-at c =
+    let i = c.loop-at.invariant in record {
+      far = (i.0.0, from_start (goal.at.returns-after-loop-at c).At-loop-at (inl (omega (arith, i.0.1, c.loop-at-test.false))));
+      words = i.1.0;
+      along = i.2;
+    }

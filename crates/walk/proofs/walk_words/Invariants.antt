@@ -1,18 +1,13 @@
 -- Invariant: the walk has come as far as its progress says, the words counted are those of the pages tested, and where it goes on a word begins. Measure: the
 -- pages that are left in reach.
-use mathlib.Core.Path.{◌≡◌, refl, ◌∙◌}
-use mathlib.Core.Logic.{◌⊎◌, inl, inr, ⊎_elim}
-use Prim.Native.Nat.{ℕ, ◌+◌, ◌-◌, ◌%◌, ◌≤◌, ◌<◌}
-use native.Mathlib.Omega.{arith}
-use borrow.Author.Rules.{rules}
-use borrow.Author.Tests.{ltb-true, ltb-false}
+use mathlib.Core.Path.{◌≡◌}
+use Prim.Native.Nat.{ℕ, ◌-◌, ◌≤◌, ◌<◌}
 use lib.ListN.{length}
 use Rattle.rules.specs.UseTimes.{seat}
 use Rattle.rules.specs.Ranks.{Presents}
 use Rattle.rules.specs.declared.State.{State}
-use Rattle.walk.specs.Walks.{at_start, Small, Further, Course, Along, spanned}
-use Rattle.walk.proofs.Alongs.{along-none, course-less, word-shown}
-use Rattle.walk.proofs.Words.{Fresh, spanned-none, spanned-small, spanned-more}
+use Rattle.walk.specs.Walks.{Small, Course, Along, spanned}
+use Rattle.walk.proofs.Words.{Fresh}
 use Rattle.walk.proofs.walk_words.Given as goal
 
 abbrev pub invariant-loop-at : goal.invariant-loop-at
