@@ -1,6 +1,7 @@
 // The entries for the server in C: on numbers and an image, which C passes as the address of its first byte and their count.
 
 #![tactic(auto)]
+
 ghost use Rattle.std.specs.Prelude.{◌≡◌, length};
 ghost use Rattle.rules.specs.Views.{state_of, reply_of};
 ghost use Rattle.rules.specs.Valid.{Valid};

@@ -17,6 +17,7 @@
 // the answers, the call's 12, or 4,294,967,296 + count of words.
 
 #![tactic(auto)]
+
 ghost use Rattle.std.specs.Prelude.{◌≡◌, true, false, ◌++◌, map, min, ◌+◌, ◌*◌, ◌≤◌, ◌<◌, get_or, length, take, drop};
 ghost use Rattle.rules.specs.Valid.{Valid};
 ghost use Rattle.rules.specs.Views.{state_of};

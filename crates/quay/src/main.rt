@@ -80,7 +80,14 @@ fn last<'a>(image: &mut [u8], text: &mut [u8], out: &'a mut [u8]) -> &'a [u8]
 }
 
 // Feeds the box the first n bytes of a chunk, and writes the answers. Answers whether all could be written.
-fn pump(rt: &HostRuntime, image: &mut [u8], text: &mut [u8], chunk: &[u8], n: usize, out: &mut [u8]) -> bool
+fn pump(
+    rt: &HostRuntime,
+    image: &mut [u8],
+    text: &mut [u8],
+    chunk: &[u8],
+    n: usize,
+    out: &mut [u8],
+) -> bool
     requires { Stands image.old text.old × Roomy out.old × (n ≤ length chunk.now) }
     ensures stands { Stands image.new text.new }
     ensures whole { (f : Fed) → StandsIn image.old text.old f → result ≡ true

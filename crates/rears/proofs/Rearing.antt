@@ -69,7 +69,7 @@ module _ (readers : List Reader) (f page : ℕ) where
       -- the slot met before
       still : r < page
           → (j : ℕ) × (next ≤ j) × (j < 16) × T (reads_file f (reader_in readers j)) × ((reader_in readers j).position ≡ r)
-              × (page ≤ (reader_in readers j).last)
+          × (page ≤ (reader_in readers j).last)
       still h = let m = a.met h in (m.0, omega (arith, m.1, e, low), m.2, m.3, m.4, m.5)
 
       go : Dec (c < r) → Dec (page ≤ (reader_in readers n).last) → Least readers f page next (cond (ltb c r && leb page (reader_in readers n).last) c r)

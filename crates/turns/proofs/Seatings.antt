@@ -70,8 +70,11 @@ posed-next readers seats after n p l e a = record {
     by : (j : ℕ) → j < 16 → Dec (j ≡ n)
         → reader_in (set after n (moved_to p (reader_in after n))) j ≡ moved_to (get_or (set seats n p) j 0) (reader_in readers j)
     by j u (yes z) =
-        rw (z, get_or-set_same after n (moved_to p (reader_in after n)) no_reader (omega (arith, e)),
-        get_or-set_same seats n p 0 (omega (arith, a.seated.long)))
+        rw (
+          z,
+          get_or-set_same after n (moved_to p (reader_in after n)) no_reader (omega (arith, e)),
+          get_or-set_same seats n p 0 (omega (arith, a.seated.long)),
+        )
         (ap (moved_to p) (a.moved n l))
     by j u (no z) = rw (get_or-set_other after n j (moved_to p (reader_in after n)) no_reader z, get_or-set_other seats n j p 0 z) (a.moved j u)
 

@@ -27,13 +27,16 @@ overflow_mul-n c =
 
 pub put_clusters-at-requires : goal.put_clusters-at-requires
 put_clusters-at-requires c =
-    let k = paired (goal.at.put_clusters-at-requires c).In-Count in record { n_in_bounds = k.1.room; in_bounds = (
+    let k = paired (goal.at.put_clusters-at-requires c).In-Count in record {
+      n_in_bounds = k.1.room;
+      in_bounds = (
         search rules,
         omega (
           arith,
           clusters-line (state_of c.args.v c.args.cached.now c.args.fetching.now) c.requires.valid _ _ c.args.file k.1,
         ),
-      ) }
+      );
+    }
 
 pub returns-in-Count : goal.returns-in-Count
 returns-in-Count c =

@@ -9,13 +9,16 @@ use Rattle.answers.proofs.show_order.Goals as goal
 
 pub put_keys-at-requires : goal.put_keys-at-requires
 put_keys-at-requires c =
-    let f = c.list_order-n.ensures in record { n_in_bounds = f.room; in_bounds = (
+    let f = c.list_order-n.ensures in record {
+      n_in_bounds = f.room;
+      in_bounds = (
         search rules,
         omega (
           arith,
           order-line (state_of c.args.v c.args.cached.now c.args.fetching.now) c.requires.valid _ _ c.args.letter c.args.stealing f,
         ),
-      ) }
+      );
+    }
 
 pub returns : goal.returns
 returns c =

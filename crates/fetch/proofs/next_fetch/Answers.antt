@@ -1,6 +1,5 @@
 -- Invariant: of the slots passed, no first absent page is used sooner than the best (`Soonest`). Measure: the slots that are left.
 use mathlib.Core.Path.{◌≡◌, sym}
-use Prim.Native.Nat.{◌-◌}
 use native.Mathlib.Omega.{arith}
 use borrow.Author.Rules.{rules}
 use Rattle.rules.specs.Views.{state_of}

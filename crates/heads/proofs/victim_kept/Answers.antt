@@ -1,5 +1,4 @@
 -- Invariant: of the set's pages in the files passed none goes before the best, and the heads kept are their files'. Measure: the files that are left.
-use Prim.Native.Nat.{◌-◌}
 use mathlib.Core.Path.{sym, ◌∙◌}
 use native.Mathlib.Omega.{arith}
 use Rattle.heads.proofs.Besting.{best_none, best-more, best-skip, best-all, best-victim, best-nothing}
@@ -22,14 +21,14 @@ loop-file-preserved c =
           let i = l.invariant.1 v g a in
           let w = g.sighted.valid in
           elim c.if-has_digit.branch [
-            then-has_digit x ↦
+            | then-has_digit x ↦
                 let q = x.head_kept-head.ensures v g i.1 in
                 rw (x.heads-is, x.best-is, x.larger-best.ensures) (
                   best-more _ w _ c.requires.0 _ l.file l.best i.0 _ (omega (arith, c.loop-file-test.true))
                       (sym c.has_digit.ensures ∙ x.if-has_digit.true) q.0,
                   q.1,
                 )
-          | else-has_digit x ↦
+            | else-has_digit x ↦
                 rw (x.heads-is, x.best-is)
                 (best-skip _ w _ c.requires.0 _ l.file l.best i.0 (sym c.has_digit.ensures ∙ x.if-has_digit.false), i.1)
           ],

@@ -44,20 +44,20 @@ loop-end-preserved c =
     let taken = c.take_command-c.ensures in
     let more = going_more _ _ _ _ _ _ _ _ _ _ _ c.loop-end.invariant.0 c.loop-end-test.true c.if-out-len-ge-ROOM.true in
     elim c.if-is_read.branch [
-      then-is_read w ↦
-        let read = responds-read _ _ _ taken.value (sym c.is_read.ensures ∙ w.if-is_read.true) in
-        let given = gives_same _ _ _ _ _ read.1 (w.obey_read-a.ensures c.loop-end.v _ read.0 refl) in
-        going-joined _ _ _ _ _ _ _ _ _ _ _ _ _ _ _ _ _ _ _ _ w.cached-is w.fetching-is w.held-is w.out-is w.v-is w.len-is
-        (more _ _ given (search rules) _ taken.emptied _ c.line_end-end-in-loop-end.ensures) c.loop-end.invariant.1
-    | else-is_read+then-is_arrive w ↦
-        let responded = responds-arrive _ _ _ taken.value (sym w.is_arrive.ensures ∙ w.if-is_arrive.true) in
-        let given = gives_same _ _ _ _ _ responded w.obey_arrive-a.ensures.gives in
-        going-joined _ _ _ _ _ _ _ _ _ _ _ _ _ _ _ _ _ _ _ _ w.cached-is w.fetching-is w.held-is w.out-is w.v-is w.len-is
-        (more _ _ given (search rules) _ taken.emptied _ c.line_end-end-in-loop-end.ensures) w.obey_arrive-a.ensures.counted
-    | else-is_read+else-is_arrive w ↦
-        let given = gives_same _ _ _ _ _ (responds-as _ _ _ taken.value) w.obey-a.ensures.gives in
-        going-joined _ _ _ _ _ _ _ _ _ _ _ _ _ _ _ _ _ _ _ _ w.cached-is w.fetching-is w.held-is w.out-is w.v-is w.len-is
-        (more _ _ given (search rules) _ taken.emptied _ c.line_end-end-in-loop-end.ensures) w.obey-a.ensures.counted
+      | then-is_read w ↦
+          let read = responds-read _ _ _ taken.value (sym c.is_read.ensures ∙ w.if-is_read.true) in
+          let given = gives_same _ _ _ _ _ read.1 (w.obey_read-a.ensures c.loop-end.v _ read.0 refl) in
+          going-joined _ _ _ _ _ _ _ _ _ _ _ _ _ _ _ _ _ _ _ _ w.cached-is w.fetching-is w.held-is w.out-is w.v-is w.len-is
+          (more _ _ given (search rules) _ taken.emptied _ c.line_end-end-in-loop-end.ensures) c.loop-end.invariant.1
+      | else-is_read+then-is_arrive w ↦
+          let responded = responds-arrive _ _ _ taken.value (sym w.is_arrive.ensures ∙ w.if-is_arrive.true) in
+          let given = gives_same _ _ _ _ _ responded w.obey_arrive-a.ensures.gives in
+          going-joined _ _ _ _ _ _ _ _ _ _ _ _ _ _ _ _ _ _ _ _ w.cached-is w.fetching-is w.held-is w.out-is w.v-is w.len-is
+          (more _ _ given (search rules) _ taken.emptied _ c.line_end-end-in-loop-end.ensures) w.obey_arrive-a.ensures.counted
+      | else-is_read+else-is_arrive w ↦
+          let given = gives_same _ _ _ _ _ (responds-as _ _ _ taken.value) w.obey-a.ensures.gives in
+          going-joined _ _ _ _ _ _ _ _ _ _ _ _ _ _ _ _ _ _ _ _ w.cached-is w.fetching-is w.held-is w.out-is w.v-is w.len-is
+          (more _ _ given (search rules) _ taken.emptied _ c.line_end-end-in-loop-end.ensures) w.obey-a.ensures.counted
     ]
 
 pub returns : goal.returns
@@ -65,7 +65,7 @@ returns c =
     let k = c.loop-end.invariant.0 in
     let kept = c.keep_rest-next.ensures in
     elim c.loop-end-test.branch [
-      then-loop-end-test+else-out-len-ge-ROOM w ↦
-        going-full _ _ _ _ _ _ _ _ _ _ _ k w.loop-end-test.true w.if-out-len-ge-ROOM.false c.requires.3 _ _ (kept.value w.loop-end-test.true)
-    | else-loop-end-test w ↦ going-rest _ _ _ _ _ _ _ _ _ _ _ k w.loop-end-test.false _ _ (kept.rest w.loop-end-test.false)
+      | then-loop-end-test+else-out-len-ge-ROOM w ↦
+          going-full _ _ _ _ _ _ _ _ _ _ _ k w.loop-end-test.true w.if-out-len-ge-ROOM.false c.requires.3 _ _ (kept.value w.loop-end-test.true)
+      | else-loop-end-test w ↦ going-rest _ _ _ _ _ _ _ _ _ _ _ k w.loop-end-test.false _ _ (kept.rest w.loop-end-test.false)
     ]

@@ -1,5 +1,5 @@
 -- Invariant: no cached page of the files passed that are of the set ranks higher than the best (`Highest`). Measure: the files left up to the set's last.
-use Prim.Native.Nat.{◌-◌, ◌<◌}
+use Prim.Native.Nat.{◌<◌}
 use mathlib.Core.Path.{sym, ◌∙◌}
 use native.Mathlib.Omega.{arith}
 use Rattle.order.proofs.Searching.{highest-none, highest-more, highest-skip, highest-all}
@@ -25,9 +25,9 @@ loop-file-preserved c = λ v g free.
     let l = c.loop-file in
     let i = l.invariant v g free in
     elim c.if-has_digit.branch [
-      then-has_digit w ↦
+      | then-has_digit w ↦
           rw w.best-is (highest-more _ _ l.file l.best i _ (w.highest_of-best.ensures v g _ (sym c.has_digit.ensures ∙ w.if-has_digit.true) free i.page))
-    | else-has_digit w ↦ rw w.best-is (highest-skip _ _ l.file l.best i (sym c.has_digit.ensures ∙ w.if-has_digit.false))
+      | else-has_digit w ↦ rw w.best-is (highest-skip _ _ l.file l.best i (sym c.has_digit.ensures ∙ w.if-has_digit.false))
     ]
 
 pub overflow_add-file : goal.overflow_add-file

@@ -94,13 +94,12 @@ short-key : (c : Then-first-at) (v : View) → Stand (start (found c)) v
 short-key c v q = rw ((key-is c).0, (key-is c).1) (short c v q)
 
 pub loop-at-init : goal.loop-at-init
-loop-at-init c =
-    (
-      omega arith,
-      omega arith,
-      λ i l u. absurd (omega arith),
-      λ v g q files o free r. raised-start (at (goal.at.loop-at-init c).Start v) files c.args.file _ r,
-    )
+loop-at-init c = (
+  omega arith,
+  omega arith,
+  λ i l u. absurd (omega arith),
+  λ v g q files o free r. raised-start (at (goal.at.loop-at-init c).Start v) files c.args.file _ r,
+)
 
 pub overflow_add-key : goal.overflow_add-key
 overflow_add-key c = omega (arith, page_low (goal.at.overflow_add-key c).After-short_of-at, c.loop-at.invariant.1, c.requires.0)

@@ -1,6 +1,6 @@
 -- Invariant: no cached page of the file past page n ranks higher than the best (`Raised`), and no reader from the place reached on is short of page n. Measure:
 -- page n and the place reached, neither of which rises.
-use Prim.Native.Nat.{ℕ, ◌+◌, ◌-◌, ◌/◌, ◌≤◌, ◌<◌}
+use Prim.Native.Nat.{ℕ, ◌+◌, ◌/◌, ◌≤◌, ◌<◌}
 use lib.ListN.{get_or}
 use Rattle.rules.specs.declared.View.{View}
 use Rattle.uses.specs.Sights.{state_under, Sighted}

@@ -1,6 +1,6 @@
 -- Invariant: the number kept is what the readers asked leave of the page's rank (`Swept`). Measure: the place reached, down the queue.
 use mathlib.Core.Path.{◌≡◌}
-use Prim.Native.Nat.{◌+◌, ◌-◌, ◌/◌, ◌%◌, ◌≤◌}
+use Prim.Native.Nat.{◌+◌, ◌/◌, ◌%◌, ◌≤◌}
 use lib.Dec.{T}
 use Rattle.rules.specs.Pages.{page_of}
 use Rattle.rules.specs.UseTimes.{ahead}

@@ -7,11 +7,10 @@ pub save-saved-requires : goal.save-saved-requires
 save-saved-requires c = probed-valid c.args.image.now (λ i. search rules) _ c.restore-restored.ensures.fetching_after
 
 pub two_numbers-requires : goal.two_numbers-requires
-two_numbers-requires c =
-    (
-      restore-low _ _ _ c.restore-restored.ensures.fetching_after c.number.ensures,
-      save-low _ _ _ _ _ c.save-saved.ensures c.number-2.ensures,
-    )
+two_numbers-requires c = (
+  restore-low _ _ _ c.restore-restored.ensures.fetching_after c.number.ensures,
+  save-low _ _ _ _ _ c.save-saved.ensures c.number-2.ensures,
+)
 
 pub returns : goal.returns
 returns c =

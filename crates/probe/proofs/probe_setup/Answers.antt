@@ -17,11 +17,10 @@ save-saved-requires c =
     made-valid c.args.numbers.now _ (made (goal.at.save-saved-requires c).After-setup_by_rule-made)
 
 pub two_numbers-requires : goal.two_numbers-requires
-two_numbers-requires c =
-    (
-      setup-low c.args.numbers.now _ _ (made (goal.at.two_numbers-requires c).After-setup_by_rule-made) c.number.ensures,
-      save-low _ _ _ _ _ c.save-saved.ensures c.number-2.ensures,
-    )
+two_numbers-requires c = (
+  setup-low c.args.numbers.now _ _ (made (goal.at.two_numbers-requires c).After-setup_by_rule-made) c.number.ensures,
+  save-low _ _ _ _ _ c.save-saved.ensures c.number-2.ensures,
+)
 
 pub returns : goal.returns
 returns c =

@@ -7,12 +7,11 @@ use Rattle.probe.proofs.Rows.{take-alike, when-refused, when-made}
 use Rattle.probe.proofs.probe_when_read.Goals as goal
 
 pub in_arrays-answered-requires : goal.in_arrays-answered-requires
-in_arrays-answered-requires c =
-    (
-      probed-valid c.args.image.now (λ i. search rules) _ c.restore-restored.ensures.fetching_after,
-      omega (arith, c.rows_handed-asked.ensures),
-      omega (arith, c.rows_handed-room.ensures),
-    )
+in_arrays-answered-requires c = (
+  probed-valid c.args.image.now (λ i. search rules) _ c.restore-restored.ensures.fetching_after,
+  omega (arith, c.rows_handed-asked.ensures),
+  omega (arith, c.rows_handed-room.ensures),
+)
 
 pub returns-then-not-carried_out : goal.returns-then-not-carried_out
 returns-then-not-carried_out c =

@@ -3,7 +3,6 @@ use mathlib.Core.Path.{sym, ap}
 use lib.Seq.{length-take-le}
 use Rattle.quay.specs.Program.{handed_of}
 use Rattle.lines.proofs.Taking.{feed-fits}
-use borrow.Author.Rules.{rules}
 use Rattle.quay.proofs.answers.Goals as goal
 
 pub slice_bounds-result-end : goal.slice_bounds-result-end

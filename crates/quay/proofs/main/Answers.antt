@@ -1,6 +1,5 @@
 -- The program starts idle, with no text and room for any answer. Assumes nothing.
 use native.Mathlib.Omega.{arith}
-use borrow.Author.Rules.{rules}
 use Rattle.quay.proofs.main.Goals as goal
 
 pub serve-requires : goal.serve-requires

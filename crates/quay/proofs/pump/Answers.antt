@@ -1,13 +1,12 @@
 -- The loop's invariant: the chunk is fed so far (`FedTo`), and the buffer has room. The measure is what is left of the chunk. Assumes nothing.
-use Prim.Native.Nat.{◌-◌, ◌<◌}
-use mathlib.Core.Path.{◌≡◌, refl, sym}
+use Prim.Native.Nat.{◌<◌}
+use mathlib.Core.Path.{refl, sym}
 use mathlib.Core.Bool.{true≢false}
 use native.Mathlib.Omega.{arith}
 use borrow.Author.Rules.{rules}
 use lib.ListN.{length, take}
 use lib.Seq.{length-take-le}
-use Rattle.answers.specs.Responses.{Roomy}
-use Rattle.quay.proofs.Pumping.{FedTo, fed-none, fed-more, fed-far, fed-all}
+use Rattle.quay.proofs.Pumping.{fed-none, fed-more, fed-far, fed-all}
 use Rattle.quay.proofs.pump.Goals as goal
 
 pub loop-next-init : goal.loop-next-init

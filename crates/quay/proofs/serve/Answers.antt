@@ -1,10 +1,7 @@
 -- The loop's invariant: the image and the text stand for the program after some input, and the buffers keep their lengths. The measure is the count of
 -- turns. Assumes nothing.
-use mathlib.Core.Path.{◌≡◌, refl}
+use mathlib.Core.Path.{refl}
 use borrow.Author.Rules.{rules}
-use lib.ListN.{length}
-use Rattle.answers.specs.Responses.{Roomy}
-use Rattle.quay.specs.Program.{Stands}
 use Rattle.quay.proofs.Pumping.{starts, bytes-within}
 use Rattle.quay.proofs.serve.Goals as goal
 

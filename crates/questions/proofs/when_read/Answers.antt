@@ -15,5 +15,5 @@ returns c =
     let made = c.walk_all-words in
     let rows = c.answer_rows in
     let e : ◌≡◌ {A = Written Listing Forecast} (record { answer = rows.result; list = rows.new.answers }) (questions_of s a.questions.now a.answers.now) =
-        rows.ensures ∙ asked-looked s c.requires made.new.ahead made.new.table made.ensures.1 made.result a.questions.now a.answers.now made.ensures.0 in
+    rows.ensures ∙ asked-looked s c.requires made.new.ahead made.new.table made.ensures.1 made.result a.questions.now a.answers.now made.ensures.0 in
     record { words = (answer-few s c.requires rows.result rows.new.answers a.answers.now a.questions.now e, e) }

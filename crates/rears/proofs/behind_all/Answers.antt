@@ -6,12 +6,11 @@ use Rattle.rears.proofs.Rearing.{back_more}
 use Rattle.rears.proofs.behind_all.Goals as goal
 
 pub loop-next-init : goal.loop-next-init
-loop-next-init c =
-    (
-      c.back_from-page.ensures.low,
-      c.back_from-next.ensures.low,
-      λ readers g. ((c.back_from-page.ensures.back readers g).0, c.back_from-next.ensures.back readers g),
-    )
+loop-next-init c = (
+  c.back_from-page.ensures.low,
+  c.back_from-next.ensures.low,
+  λ readers g. ((c.back_from-page.ensures.back readers g).0, c.back_from-next.ensures.back readers g),
+)
 
 pub loop-next-preserved : goal.loop-next-preserved
 loop-next-preserved c =

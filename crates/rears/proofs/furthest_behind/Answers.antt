@@ -1,5 +1,5 @@
 -- Invariant: of the files passed no page of the set that is ahead of no reader goes before the best (`Rear`). Measure: the files left up to the set's last.
-use Prim.Native.Nat.{◌-◌, ◌<◌}
+use Prim.Native.Nat.{◌<◌}
 use mathlib.Core.Path.{sym, ap, ◌∙◌}
 use native.Mathlib.Omega.{arith}
 use lib.ListN.{get_or}
@@ -30,10 +30,10 @@ loop-file-preserved c = λ v fetching w g e.
     let l = c.loop-file in
     let i = l.invariant v fetching w g e in
     elim c.if-has_digit.branch [
-      then-has_digit x ↦
+      | then-has_digit x ↦
           rw x.best-is (x.further_behind-best.ensures v fetching w g (ap (λ sizes. get_or sizes l.file 0) e) _
           (sym c.has_digit.ensures ∙ x.if-has_digit.true) i)
-    | else-has_digit x ↦ rw x.best-is (rear-skip _ w _ l.file l.best i (sym c.has_digit.ensures ∙ x.if-has_digit.false))
+      | else-has_digit x ↦ rw x.best-is (rear-skip _ w _ l.file l.best i (sym c.has_digit.ensures ∙ x.if-has_digit.false))
     ]
 
 pub returns : goal.returns

@@ -9,16 +9,15 @@ use Rattle.run.proofs.Legs.{leg-none, leg-then, leg-few}
 use Rattle.run.proofs.make_turns.Goals as goal
 
 pub loop-made-init : goal.loop-made-init
-loop-made-init c =
-    (
-      leg-none _ _ _ _ _ _ (record {
-        valid = c.requires.0;
-        quiet = c.requires.1;
-        seated = c.seats_of-seats.ensures;
-        kept = kept-none _ _ _ refl (λ f. get_or-replicate 8 f 0 0);
-      }),
-      c.requires.2,
-    )
+loop-made-init c = (
+  leg-none _ _ _ _ _ _ (record {
+    valid = c.requires.0;
+    quiet = c.requires.1;
+    seated = c.seats_of-seats.ensures;
+    kept = kept-none _ _ _ refl (λ f. get_or-replicate 8 f 0 0);
+  }),
+  c.requires.2,
+)
 
 pub and_then-made-requires : goal.and_then-made-requires
 and_then-made-requires c =

@@ -1,6 +1,5 @@
 -- Invariant: the table and the maps are those of the slots passed, and so are the pages tested and the words read. Measure: the slots that are left.
 use mathlib.Core.Path.{◌≡◌, refl, sym, ap, ◌∙◌}
-use Prim.Native.Nat.{◌-◌}
 use native.Mathlib.Omega.{arith}
 use lib.ListN.{length, length-replicate}
 use Rattle.rules.specs.UseTimes.{never}

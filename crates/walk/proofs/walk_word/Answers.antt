@@ -1,7 +1,7 @@
 -- Invariant: the walk has come as far as its progress says, from where it was. Measure: the pages that are left.
 use mathlib.Core.Path.{ap}
 use mathlib.Core.Logic.{inl, inr}
-use Prim.Native.Nat.{◌+◌, ◌-◌, ◌%◌, ◌<◌}
+use Prim.Native.Nat.{◌+◌, ◌%◌, ◌<◌}
 use native.Mathlib.Omega.{arith}
 use lib.Dec.{eqb}
 use lib.ListN.{length-set}
