@@ -74,7 +74,8 @@ put_other words k v j p n = rw (put_is words k v) (by (ℕ_discrete (j / 64) (k 
     w : ℕ
     w = put (get_or words (k / 64) 0) (k % 64) v
 
-    by : Dec (j / 64 ≡ k / 64) → Dec (k / 64 < length words) → digit (get_or (set words (k / 64) w) (j / 64) 0) (j % 64) ≡ digit (get_or words (j / 64) 0) (j % 64)
+    by : Dec (j / 64 ≡ k / 64) → Dec (k / 64 < length words)
+        → digit (get_or (set words (k / 64) w) (j / 64) 0) (j % 64) ≡ digit (get_or words (j / 64) 0) (j % 64)
     by (yes e) (yes h) = rw (e, get_or-set_same words (k / 64) w 0 h) (put-digits (get_or words (k / 64) 0) (k % 64) v (j % 64) (λ q. n (omega arith)) p)
     by (yes e) (no h) = rw (set_out words (k / 64) w (omega arith))
     by (no e) d = rw (get_or-set_other words (k / 64) (j / 64) w 0 e)

@@ -20,7 +20,8 @@ SizesLow sizes = (f : ℕ) → get_or sizes f 0 ≤ 1024
 -- filler
 abbrev pub settings_from : List ℕ → List ℕ → Bool
 settings_from image sizes =
-    settings_in (number_at 2 image 0) (number_at 4 image 4) (number_at 4 image 8) sizes (number_at 1 image unruled_length) (numbers_at 2 image (unruled_length + 2) 8)
+    settings_in (number_at 2 image 0) (number_at 4 image 4) (number_at 4 image 8) sizes (number_at 1 image unruled_length)
+    (numbers_at 2 image (unruled_length + 2) 8)
 
 -- the page of key k is not in both maps
 abbrev pub apart_at : List ℕ → List ℕ → ℕ → Bool

@@ -35,7 +35,8 @@ eight_from numbers from = map (λ i. get_or numbers (from + i) 0) (range 0 8)
 
 -- Setup of frames, L, T, the sizes, the rule and the E
 abbrev pub setup_from : List ℕ → Reply
-setup_from numbers = setup_of (get_or numbers 0 0) (get_or numbers 1 0) (get_or numbers 2 0) (eight_from numbers 3) (get_or numbers 11 0) (eight_from numbers 12)
+setup_from numbers = setup_of (get_or numbers 0 0) (get_or numbers 1 0) (get_or numbers 2 0) (eight_from numbers 3)
+    (get_or numbers 11 0) (eight_from numbers 12)
 
 abbrev pub setup_probed : List ℕ → List ℕ → Entered
 setup_probed numbers buffer = saved_after (setup_from numbers) buffer

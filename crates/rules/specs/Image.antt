@@ -1,5 +1,33 @@
 -- Save and Restore: 01, "Calls", with the last pages of A.1, the marks of A.2 and what the rule of A.6 goes by. Assumes nothing: these are definitions.
-use Rattle.std.specs.Prelude.{ℕ, zero, suc, ◌+◌, ◌*◌, ◌/◌, ◌%◌, ◌≡◌, ◌⊎◌, Bool, not, cond, ◌&&◌, ◌||◌, List, [], ◌∷◌, ◌++◌, map, get_or, length, take, drop, replicate, leb, ltb, eqb}
+use Rattle.std.specs.Prelude.{
+  ℕ,
+  zero,
+  suc,
+  ◌+◌,
+  ◌*◌,
+  ◌/◌,
+  ◌%◌,
+  ◌≡◌,
+  ◌⊎◌,
+  Bool,
+  not,
+  cond,
+  ◌&&◌,
+  ◌||◌,
+  List,
+  [],
+  ◌∷◌,
+  ◌++◌,
+  map,
+  get_or,
+  length,
+  take,
+  drop,
+  replicate,
+  leb,
+  ltb,
+  eqb,
+}
 use Rattle.rules.specs.Lists.{range, each, every, within}
 use Rattle.rules.specs.Pages.{size, file_of, page_of, cached, in_fetch, cached_pages}
 use Rattle.rules.specs.Readers.{reader_at, mark_at, by_condition, awaits}

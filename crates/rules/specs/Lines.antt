@@ -1,5 +1,32 @@
 -- The program's lines and answers: 01, "The program quay". Assumes nothing: these are definitions.
-use Rattle.std.specs.Prelude.{ℕ, zero, suc, ◌+◌, ◌*◌, ◌-◌, ◌/◌, ◌%◌, Bool, true, false, not, cond, ◌&&◌, List, [], ◌∷◌, ◌++◌, map, get_or, length, drop, replicate, leb, ltb, eqb}
+use Rattle.std.specs.Prelude.{
+  ℕ,
+  zero,
+  suc,
+  ◌+◌,
+  ◌*◌,
+  ◌-◌,
+  ◌/◌,
+  ◌%◌,
+  Bool,
+  true,
+  false,
+  not,
+  cond,
+  ◌&&◌,
+  List,
+  [],
+  ◌∷◌,
+  ◌++◌,
+  map,
+  get_or,
+  length,
+  drop,
+  replicate,
+  leb,
+  ltb,
+  eqb,
+}
 use Prim.Native.Char.{code as ascii}
 use Rattle.rules.specs.Lists.{each, every, within}
 use Rattle.rules.specs.Pages.{file_of, page_of, clusters}

@@ -29,7 +29,8 @@ whole c =
 -- no bit is set from `at` on, and the one before it is set, if it is one of the keys
 reached : (c : Joined-part-eq0) →
     let a = c.args in
-    (c.if-part-eq0.at ≤ a.from + a.n) × Without a.words.now 1 c.if-part-eq0.at (a.from + a.n) × (a.from < c.if-part-eq0.at → bit a.words.now (c.if-part-eq0.at - 1) ≡ 1)
+    (c.if-part-eq0.at ≤ a.from + a.n) × Without a.words.now 1 c.if-part-eq0.at (a.from + a.n)
+    × (a.from < c.if-part-eq0.at → bit a.words.now (c.if-part-eq0.at - 1) ≡ 1)
 reached c =
     let a = c.args in
     let b = (a.from + a.n) / 64 in

@@ -10,7 +10,11 @@ pub overflow_mul-result : goal.overflow_mul-result
 overflow_mul-result c = omega (arith, product c.args.pages c.args.sum 1024 8192000 c.requires.file_bound.1 c.requires.frames_bound.2)
 
 pub overflow_mul-result-2 : goal.overflow_mul-result-2
-overflow_mul-result-2 c = omega (arith, product c.args.frames (c.args.sum - c.args.weight) 1024 8192000 c.requires.frames_bound.0 (omega (arith, c.requires.frames_bound.2)))
+overflow_mul-result-2 c = omega (
+  arith,
+  product c.args.frames (c.args.sum - c.args.weight) 1024 8192000 c.requires.frames_bound.0
+      (omega (arith, c.requires.frames_bound.2)),
+)
 
 pub overflow_add-result : goal.overflow_add-result
 overflow_add-result c =

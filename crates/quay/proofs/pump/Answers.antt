@@ -21,7 +21,10 @@ pub returns-then-not-put : goal.returns-then-not-put
 returns-then-not-put c =
     let long = length-take-le c.args.n c.args.chunk.now c.requires.2 in
     let inside : c.loop-next.next < length (take c.args.n c.args.chunk.now) = omega (arith, long, c.loop-next-test.true) in
-    record { stands = (fed-more _ _ _ _ _ _ c.loop-next.invariant.0 _ c.loop-next.invariant.1 inside _ _ _ _ c.answers.ensures).stands; whole = λ f at e. absurd (true≢false (sym e)) }
+    record {
+      stands = (fed-more _ _ _ _ _ _ c.loop-next.invariant.0 _ c.loop-next.invariant.1 inside _ _ _ _ c.answers.ensures).stands;
+      whole = λ f at e. absurd (true≢false (sym e));
+    }
 
 pub loop-next-smaller : goal.loop-next-smaller
 loop-next-smaller c =
@@ -44,4 +47,7 @@ loop-next-preserved c =
 pub returns : goal.returns
 returns c =
     let long = length-take-le c.args.n c.args.chunk.now c.requires.2 in
-    record { stands = c.loop-next.invariant.0.stands; whole = λ f at _. fed-all _ _ _ _ _ _ c.loop-next.invariant.0 (omega (arith, long, c.loop-next-test.false)) f at }
+    record {
+      stands = c.loop-next.invariant.0.stands;
+      whole = λ f at _. fed-all _ _ _ _ _ _ c.loop-next.invariant.0 (omega (arith, long, c.loop-next-test.false)) f at;
+    }

@@ -8,7 +8,8 @@ use Rattle.quay.proofs.pump.Given as goal
 
 abbrev pub invariant-loop-next : goal.invariant-loop-next
 invariant-loop-next l =
-    FedTo l.initial.image l.initial.text (take l.n l.chunk) l.image l.text l.next × Roomy l.out × (length l.image ≡ length l.initial.image) × (length l.text ≡ length l.initial.text) × (length l.out ≡ length l.initial.out)
+    FedTo l.initial.image l.initial.text (take l.n l.chunk) l.image l.text l.next × Roomy l.out
+    × (length l.image ≡ length l.initial.image) × (length l.text ≡ length l.initial.text) × (length l.out ≡ length l.initial.out)
 
 abbrev pub decreases-loop-next : goal.decreases-loop-next
 decreases-loop-next l = l.n - l.next

@@ -8,7 +8,8 @@ use Rattle.quay.proofs.serve.Given as goal
 
 abbrev pub invariant-loop-turns : goal.invariant-loop-turns
 invariant-loop-turns l =
-    Stands l.image l.text × Roomy l.out × (length l.image ≡ length l.initial.image) × (length l.text ≡ length l.initial.text) × (length l.chunk ≡ length l.initial.chunk) × (length l.out ≡ length l.initial.out)
+    Stands l.image l.text × Roomy l.out × (length l.image ≡ length l.initial.image) × (length l.text ≡ length l.initial.text)
+    × (length l.chunk ≡ length l.initial.chunk) × (length l.out ≡ length l.initial.out)
 
 abbrev pub decreases-loop-turns : goal.decreases-loop-turns
 decreases-loop-turns l = l.turns

@@ -208,7 +208,8 @@ module _ (s : State) (v : Valid s) where
       all-changed s s.turn s.readers s.marks attaches s.cached s.fetching v (seats s.turn v.turn_high) n same-maps (λ j _ q. q)
 
   -- other readers, none of which stands before its mark
-  pub readers-changed : (readers : List Reader) → length readers ≡ 16 → ((j : ℕ) → ReaderIn (get_or readers j no_reader).condition s (get_or readers j no_reader))
+  pub readers-changed : (readers : List Reader) → length readers ≡ 16
+      → ((j : ℕ) → ReaderIn (get_or readers j no_reader).condition s (get_or readers j no_reader))
       → ((j : ℕ) → mark_at s j ≤ (get_or readers j no_reader).position) → Valid (with_readers s readers)
   readers-changed readers n h m =
       slots-changed readers s.marks (record { low = v.turn_high; all = n; each_in = h; marks_all = v.marks_all; marks_in = m })

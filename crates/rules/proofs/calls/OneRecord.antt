@@ -149,7 +149,8 @@ set-either P (y ∷ l) (suc i) x d p q = set-either P l i x d p q
 
 -- of the slot, Measure changes nothing but pace and mark, and it leaves the fetch map
 pub pace-and-mark : (s : State) (slot interval blocked : ℕ)
-    → ButPace (reader_at s slot) (reader_at (measure_of s slot interval blocked).state slot) × ((measure_of s slot interval blocked).state.fetching ≡ s.fetching)
+    → ButPace (reader_at s slot) (reader_at (measure_of s slot interval blocked).state slot)
+    × ((measure_of s slot interval blocked).state.fetching ≡ s.fetching)
 unfolding measure_of
 pace-and-mark s slot interval blocked = search (cond-all Only, condition-all Only, left, done) depth 12
   where

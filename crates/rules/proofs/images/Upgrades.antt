@@ -51,7 +51,8 @@ last-raw v j none =
     (λ taken. key n 0 (λ b. cond b x n ≡ n) (λ e. absurd (none taken e)) (λ _. refl))
 
 -- 0 in a taken slot is read as its file's size
-pub last-filled : (v : List ℕ) (j : ℕ) → (reader_number v j 0 ≡ 0 → ⊥) → reader_number v j 4 ≡ 0 → last_from v j ≡ get_or (take 8 (drop 5 v)) (reader_number v j 1) 0
+pub last-filled : (v : List ℕ) (j : ℕ) → (reader_number v j 0 ≡ 0 → ⊥) → reader_number v j 4 ≡ 0
+    → last_from v j ≡ get_or (take 8 (drop 5 v)) (reader_number v j 1) 0
 last-filled v j taken old =
     let n = reader_number v j 4 in
     let x = get_or (take 8 (drop 5 v)) (reader_number v j 1) 0 in

@@ -105,7 +105,8 @@ pub for-fetch-all : (P : Reply → Type 0) (s : State) (file page : ℕ) (done :
     → (in_fetch s (key_of file page) ≡ true → P done) → P (for_fetch s file page done)
 unfolding for_fetch
 for-fetch-all P s file page done a b c d =
-    cond-all P (no_file s file) _ _ (λ _. a) (λ _. cond-all P (no_page s file page) _ _ (λ _. b) (λ _. cond-all P (in_fetch s (key_of file page)) _ _ d (λ _. c)))
+    cond-all P (no_file s file) _ _ (λ _. a) (λ _. cond-all P (no_page s file page) _ _ (λ _. b)
+    (λ _. cond-all P (in_fetch s (key_of file page)) _ _ d (λ _. c)))
 
 -- a test that passed
 pub passed : (b : Bool) → b ≡ true → T b

@@ -33,7 +33,8 @@ module _ (s : State) (w : Valid s) where
 -- no reader of k's file stands from page k up to the page before i
 abbrev pub Clear : State → ℕ → ℕ → Type 0
 Clear s k i =
-    (j : ℕ) → j < 16 → T (attached (reader_at s j)) → (reader_at s j).file ≡ file_of k → page_of k ≤ (reader_at s j).position → page_of i ≤ (reader_at s j).position
+    (j : ℕ) → j < 16 → T (attached (reader_at s j)) → (reader_at s j).file ≡ file_of k → page_of k ≤ (reader_at s j).position
+    → page_of i ≤ (reader_at s j).position
 
 module _ (s : State) (w : Valid s) (k i : ℕ) (one-file : file_of k ≡ file_of i) (later : page_of k < page_of i) (clear : Clear s k i) where
   before-earlier : (j : ℕ) → j < 16 → T (before (reader_at s j) i) → T (before (reader_at s j) k)

@@ -156,7 +156,10 @@ module _ (s : State) (w : Valid s) where
       let r : Reader = reader_at s a.0 in
       let b = before-is r k (sees-before s r k a.2) in
       let p = placed_at s w a.0 b.here in
-      record { low = omega (arith, p.file_high, b.in_its_file); there = subst (λ f. page_of k ≤ size s f) b.in_its_file (omega (arith, b.in_reach, p.last_high)) }
+      record {
+        low = omega (arith, p.file_high, b.in_its_file);
+        there = subst (λ f. page_of k ≤ size s f) b.in_its_file (omega (arith, b.in_reach, p.last_high));
+      }
 
   -- the slot that the use key of a page in a look-ahead is of
   pub met_by : (k : ℕ) → T (seen s k) → (j : ℕ) × (j < 16) × T (sees s (reader_at s j) k) × (use_key s k ≡ use_for s k j)

@@ -128,7 +128,8 @@ module _ (s : State) (w : Valid s) (k : ℕ) (c : T (cached s k)) where
 
   module _ (top : (j : ℕ) → T (cached s j) → file_of j ≡ file_of k → rank s j ≤ rank s k) where
     -- a slot that sees a page behind the dropped one is not the slot that uses it soonest
-    later : (i x : ℕ) → i < 16 → T (cached s x) → file_of x ≡ file_of k → T (sees s (reader_at s i) x) → (reader_at s i).position < page_of k → page_of k < page_of x
+    later : (i x : ℕ) → i < 16 → T (cached s x) → file_of x ≡ file_of k → T (sees s (reader_at s i) x)
+        → (reader_at s i).position < page_of k → page_of k < page_of x
         → use_key s x < use_for s x i
     later i x l cx f h a b =
         let r : Reader = reader_at s i in

@@ -59,7 +59,8 @@ count-other x l f ne =
 -- a page that stands there counts for its file
 pub times-count : (k : ℕ) (l : List ℕ) → times k l ≤ count_of l (file_of k)
 times-count k l =
-    only-mono (λ j. eqb j k) (λ j. eqb (file_of j) (file_of k)) l (λ j h. subst (λ i. T (eqb (file_of i) (file_of k))) (sym (eqb→eq j k h)) (eqb_refl (file_of k)))
+    only-mono (λ j. eqb j k) (λ j. eqb (file_of j) (file_of k)) l
+    (λ j h. subst (λ i. T (eqb (file_of i) (file_of k))) (sym (eqb→eq j k h)) (eqb_refl (file_of k)))
 
 -- the sum of the weights is above 0
 pub sum-positive : (weight : ℕ → ℕ) → 1 ≤ weight_sum weight
@@ -225,7 +226,8 @@ module _ (frames : ℕ) (weight : ℕ → ℕ) where
         }
 
     -- the page itself stands in front
-    part-self : (l : List ℕ) → All Low l → times u l ≡ 0 → u < 8192 → B ≡ at f (count_of (u ∷ l) f) → All (λ j. file_number (u ∷ l) j ≤ B) l → Parted (u ∷ l) u x
+    part-self : (l : List ℕ) → All Low l → times u l ≡ 0 → u < 8192 → B ≡ at f (count_of (u ∷ l) f) → All (λ j. file_number (u ∷ l) j ≤ B) l
+        → Parted (u ∷ l) u x
     unfolding weighed only
     part-self l low out lu b top =
         let under : All (λ z. z < B * 8192) (packs l) =

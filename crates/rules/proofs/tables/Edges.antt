@@ -141,7 +141,8 @@ saves-hold = refl
 
 -- two readers, the first without its last page, and an empty slot between them; by the 1993 rule, with readers expected and attached
 abbrev unfilled : State
-unfilled = state_by 1 (7 ∷ []) (8 ∷ []) 1 0 1 0 (1024 ∷ 300 ∷ []) (reader Running 1 10 299 0 ∷ no_reader ∷ reader Running 0 10 2 3 ∷ replicate 13 no_reader) [] []
+unfilled = state_by 1 (7 ∷ []) (8 ∷ []) 1 0 1 0 (1024 ∷ 300 ∷ [])
+    (reader Running 1 10 299 0 ∷ no_reader ∷ reader Running 0 10 2 3 ∷ replicate 13 no_reader) [] []
 
 -- an image's length and its bytes that are not 0 behind the first 28
 unfoldable pub laid_out : List ℕ → List ℕ
@@ -313,7 +314,8 @@ refusals =
     ∷ []
 
 pub refusals-hold : Hold refusals
-unfolding refusals bit put_bit range each only pages fetching_pages attach_of read_of read_running detach_of for_fetch arrive_of lost_of fetch_open run_of measure_of code
+unfolding refusals bit put_bit range each only pages fetching_pages attach_of read_of read_running detach_of for_fetch arrive_of lost_of
+    fetch_open run_of measure_of code
 refusals-hold = refl
 
 -- ---- Measure: A.2: "the pace becomes (interval − blocked) divided by n, rounded down, held to 1 through 1,000; with n = 0 it stays"

@@ -53,8 +53,10 @@ weightings =
     -- shares of 16 and 8 thirds, and both files below them: −10/3 and −5/3
     ∷ row (steal_order (still 1 8 (8 ∷ 4 ∷ []) (1 ∷ 1 ∷ []) [] (key_of 0 1 ∷ key_of 0 2 ∷ key_of 1 1 ∷ []))) (key_of 1 1 ∷ key_of 0 2 ∷ key_of 0 1 ∷ [])
     -- "(E − R, or 0 if negative)": as many attached as expected, and one more
-    ∷ row (steal_order (still 1 4 (8 ∷ 8 ∷ []) (2 ∷ 1 ∷ []) (2 ∷ 0 ∷ []) (key_of 0 1 ∷ key_of 1 1 ∷ key_of 1 2 ∷ []))) (key_of 0 1 ∷ key_of 1 2 ∷ key_of 1 1 ∷ [])
-    ∷ row (steal_order (still 1 4 (8 ∷ 8 ∷ []) (2 ∷ 1 ∷ []) (3 ∷ 0 ∷ []) (key_of 0 1 ∷ key_of 1 1 ∷ key_of 1 2 ∷ []))) (key_of 0 1 ∷ key_of 1 2 ∷ key_of 1 1 ∷ [])
+    ∷ row (steal_order (still 1 4 (8 ∷ 8 ∷ []) (2 ∷ 1 ∷ []) (2 ∷ 0 ∷ []) (key_of 0 1 ∷ key_of 1 1 ∷ key_of 1 2 ∷ [])))
+    (key_of 0 1 ∷ key_of 1 2 ∷ key_of 1 1 ∷ [])
+    ∷ row (steal_order (still 1 4 (8 ∷ 8 ∷ []) (2 ∷ 1 ∷ []) (3 ∷ 0 ∷ []) (key_of 0 1 ∷ key_of 1 1 ∷ key_of 1 2 ∷ [])))
+    (key_of 0 1 ∷ key_of 1 2 ∷ key_of 1 1 ∷ [])
     -- "compared without rounding": 1 − 4/3 and 2 − 8/3, which with shares rounded down are equal
     ∷ row (steal_order (still 1 4 (4 ∷ 8 ∷ []) (1 ∷ 1 ∷ []) [] (key_of 0 1 ∷ key_of 1 1 ∷ key_of 1 2 ∷ []))) (key_of 0 1 ∷ key_of 1 2 ∷ key_of 1 1 ∷ [])
     ∷ []

@@ -130,7 +130,8 @@ run-1989 = refl
 -- page 2 is dropped for page 1, and fetched again
 pub run-1993 : (run_of (held 1) 17).answer ≡ Ran 2 2
 unfolding bit put_bit range each only every put sorted least some_of total pages cached_pages fetching_pages before present missing pruned sees
-    time_for use_for use_key ahead seen not_ahead not_seen use_time order1989 weight_sum surplus standing from_chosen choice repeated order1993 steal_order victim
+    time_for use_for use_key ahead seen not_ahead not_seen use_time order1989 weight_sum surplus standing from_chosen
+    choice repeated order1993 steal_order victim
     read_running read_of full dropped woken landed for_fetch arrive_of fetch_open read_turn turn_of turns_of run_of
 run-1993 = refl
 

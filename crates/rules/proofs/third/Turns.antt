@@ -164,7 +164,8 @@ goes-not r a h = go (attached r) (at_end r) a h
 
 -- a turn that leaves these readers and maps
 abbrev pub turned : State → List Reader → List ℕ → List ℕ → ℕ → List ℕ → Turn
-turned s readers held fs fetched hits = record { after = with_fetching (with_cached (with_readers (next_turn s) readers) held) fs; fetched = fetched; hit = hits }
+turned s readers held fs fetched hits =
+    record { after = with_fetching (with_cached (with_readers (next_turn s) readers) held) fs; fetched = fetched; hit = hits }
 
 module _ (s : State) (v : Valid s) (closed : (k : ℕ) → T (in_fetch s k) → ⊥) where
   pub awake : (j : ℕ) → T (attached (reader_at s j)) → (reader_at s j).condition ≡ Running
