@@ -10,8 +10,9 @@ ghost use Rattle.answers.specs.Responses.{Roomy};
 ghost use Rattle.lines.specs.Sessions.{no_text, feed_of, finish_of, StandsIn};
 ghost use Rattle.quay.specs.Program.{Stands, Within, answers_in, handed_of, handed_in};
 
-use std::io;
-use std::io::{Read, Write};
+use std::fmt::Write as _;
+use std::io::{Read, Stderr, Write};
+use std::{fmt, io};
 
 // What reading came to: so many bytes, the end of the input, or a failure.
 #[derive(Clone, Copy)]
@@ -21,9 +22,36 @@ enum Input {
     Failed,
 }
 
+// Standard error, for the words of an error alone: std writes the system's number behind them, in brackets, which says no more.
+#[derive(Drop)]
+struct Words {
+    to: Stderr,
+    ended: bool,
+}
+
+impl fmt::Write for Words {
+    fn write_str(&mut self, words: &str) -> fmt::Result {
+        if words == " (os error " {
+            self.ended = true;
+        }
+        if self.ended {
+            return Ok(());
+        }
+        match self.to.write_all(words.as_bytes()) {
+            Ok(()) => Ok(()),
+            Err(_) => Err(fmt::Error),
+        }
+    }
+}
+
 // Says on standard error why a call of the system failed.
 fn complain(rt: &HostRuntime, reason: &io::Error) {
-    let _said = eprintln!(rt; "quay: {reason}");
+    let mut words = Words {
+        to: rt.stderr(),
+        ended: false,
+    };
+    let _said = write!(words, "quay: {reason}");
+    let _end = rt.stderr().write_all(b"\n");
 }
 
 // Writes answers, or says why it cannot.
