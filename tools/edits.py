@@ -59,6 +59,7 @@ def main():
             if line.startswith("file: "):
                 with open(os.path.join(crate, line[6:]), encoding="utf-8") as source:
                     text = source.read()
+                definition = line.endswith(".antt")
                 out.append(line)
             elif line.startswith("old: "):
                 found = [c for c in candidates(line[5:]) if text.count(c) == 1]
@@ -69,7 +70,8 @@ def main():
                     out.append("old: " + found[0])
                     way = list(candidates(line[5:])).index(found[0])
             elif line.startswith("new: "):
-                new = line[5:] if said else list(candidates(line[5:]))[way]
+                # a definition's new text may name what its old text does not
+                new = line[5:] if said else turned(line[5:]) if definition else list(candidates(line[5:]))[way]
                 out.append("new: " + new)
                 if not said:
                     text = text.replace(out[-2][5:], new)
