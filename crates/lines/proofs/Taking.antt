@@ -19,8 +19,7 @@ use Rattle.rules.specs.Lines.{split, Response, respond_of}
 use Rattle.rules.specs.declared.State.{State}
 use Rattle.rules.specs.declared.View.{View}
 use Rattle.rules.specs.declared.Reply.{Reply}
-use Rattle.rules.specs.declared.Answer.{Answer}
-use Rattle.rules.specs.declared.Answer.TheVariants.{Refused, Done, Hit, Wait, Fetch, End, Nothing, Stolen, Arrived, Replaced, Ran}
+use Rattle.rules.specs.declared.Answer.TheVariants.{Refused, Done}
 use Rattle.rules.proofs.images.Images.{done-or-not, whole-refused}
 use Rattle.rules.proofs.laws.Cases.{and-true, cond-all}
 use Rattle.rules.specs.Lists.{written}
@@ -33,6 +32,7 @@ use Rattle.text.proofs.Pieces.{split-some}
 use Rattle.text.proofs.Keeps.{by_most, end_line, end-last, text-none, kept-over, kept-fits, kept-front, kept-length, kept_same, kept-none, copied-whole}
 use Rattle.text.proofs.Asks.{parsed-long}
 use Rattle.answers.specs.Responses.{answer_room, Roomy, line_end, Answered, Gives}
+use Rattle.answers.proofs.Replies.{carried-not}
 use Rattle.lines.specs.Sessions.{taken, start_of, Gone, gone_of, Left, Taken, left_in, fed_in, ready, saved, feed_of, finish_of}
 use Rattle.lines.proofs.Kept.{respond-kept}
 
@@ -328,27 +328,13 @@ module _ (image text chunk : List ℕ) (from : ℕ) (out : List ℕ) where
   unfolding feed_of
   feed-taken t e = rw (t, e)
 
--- a call that is not refused was carried out
-carried-but : (a : Answer) → ((n : ℕ) → a ≡ Refused n → ⊥) → carried_out a ≡ true
-carried-but (Refused number) k = absurd (k number refl)
-carried-but Done k = refl
-carried-but (Hit file page) k = refl
-carried-but (Wait file page) k = refl
-carried-but (Fetch file page) k = refl
-carried-but End k = refl
-carried-but Nothing k = refl
-carried-but (Stolen file page) k = refl
-carried-but Arrived k = refl
-carried-but (Replaced file page) k = refl
-carried-but (Ran fetches reads) k = refl
-
 module _ (image : List ℕ) (r : Reply) (restored : r ≡ restore_whole image) where
   -- what Restore's answer says
   pub answer-refused : (n : ℕ) → r.answer ≡ Refused n → carried_out (restore_whole image).answer ≡ false
   answer-refused n e = rw (← restored, e)
 
   pub answer-taken : ((n : ℕ) → r.answer ≡ Refused n → ⊥) → carried_out (restore_whole image).answer ≡ true
-  answer-taken k = rw (← restored) (carried-but r.answer k)
+  answer-taken k = rw (← restored) (carried-not r.answer k)
 
 -- an image that is not refused is done
 pub taken-done : (image : List ℕ) → carried_out (restore_whole image).answer ≡ true → (restore_whole image).answer ≡ Done
