@@ -1,8 +1,9 @@
 -- Setup, Attach, Read, Steal, Arrive, Detach, Lost and Prefetch: 01, "Calls"; a start and a last page: A.1; Measure: A.2; the rule, the readers expected and
 -- the count of attaches: A.6. Numbers are any numbers; where several refusals apply, the one listed first for the call is given. Assumes nothing: these are
 -- definitions.
-use Rattle.std.specs.Prelude.{ℕ, min, ◌+◌, ◌-◌, ◌/◌, Bool, not, cond, ◌&&◌, ◌||◌, List, map, set, length, replicate, leb, ltb, eqb}
-use Rattle.std.proofs.Math.Option.{Option, none}
+use Rattle.std.specs.Prelude.{ℕ, zero, suc, min, ◌+◌, ◌-◌, ◌/◌, Bool, not, cond, ◌&&◌, ◌||◌, List, map, set, length, replicate, leb, ltb, eqb}
+use Rattle.std.specs.declared.option.Option.{Option}
+use Rattle.std.specs.declared.option.Option.TheVariants.{None}
 use Rattle.bits.specs.Map.{put_bit}
 use Rattle.rules.specs.Lists.{every, within, head, on_option}
 use Rattle.rules.specs.Pages.{size, file_of, page_of, key_of, cached, in_fetch, cached_pages}
@@ -14,13 +15,17 @@ use Rattle.rules.specs.declared.Reply.{Reply}
 use Rattle.rules.specs.declared.Answer.{Answer}
 use Rattle.rules.specs.declared.Answer.TheVariants.{Refused, Done, Hit, Wait, Fetch, End, Nothing, Stolen, Arrived, Replaced}
 use Rattle.rules.specs.declared.Condition.TheVariants.{Running, Waiting}
+use Rattle.rules.specs.declared.Rule.{Rule}
+use Rattle.rules.specs.declared.Rule.TheVariants.{Of1989, Of1993}
+use Rattle.rules.specs.declared.Refusal.{Refusal}
+use Rattle.rules.specs.declared.Refusal.TheVariants.{OutOfRange, NoSlot, NoFile, NoPace, SlotTaken, SlotEmpty, ReaderWaits, NoPage, NotInFetch, NoRange, NoInterval}
 
 abbrev pub reply : State → Answer → Reply
 reply s a = record { state = s; answer = a }
 
 -- a refusal. But for Setup and Restore the state is the one before: "Other refused calls change nothing"
-abbrev pub refused : State → ℕ → Reply
-refused s number = reply s (Refused number)
+abbrev pub refused : State → Refusal → Reply
+refused s why = reply s (Refused why)
 
 -- a state with some parts changed: every call that changes a state, but Setup and Restore, makes the new one by the names below, and they by this record
 abbrev remade : State → ℕ → List Reader → List ℕ → List ℕ → List ℕ → List ℕ → State
@@ -92,6 +97,11 @@ no_range s file start last = no_page s file last || ltb last start
 abbrev pub rule_in : ℕ → List ℕ → Bool
 rule_in rule expected = within 0 1 rule && every (within 0 1000) expected
 
+-- the rule of a number: "0 for 1989, 1 for 1993"; a number above 1 is that of neither
+abbrev pub rule_of : ℕ → Rule
+rule_of zero = Of1989
+rule_of (suc n) = Of1993
+
 -- frames, L, T and the sizes in range; A.6: and the rule with E
 unfoldable pub settings_in : ℕ → ℕ → ℕ → List ℕ → ℕ → List ℕ → Bool
 settings_in frames look time sizes rule expected =
@@ -100,7 +110,7 @@ settings_in frames look time sizes rule expected =
     && (within 0 2000000 time && (every (within 0 1024) sizes && rule_in rule expected)))
 
 -- "a state without readers, pages or fetches"; "The turn is a slot number, 0 at first"; A.6: nothing is attached yet, so R is 0
-abbrev pub fresh : ℕ → ℕ → ℕ → List ℕ → ℕ → List ℕ → State
+abbrev pub fresh : ℕ → ℕ → ℕ → List ℕ → Rule → List ℕ → State
 fresh frames look time sizes rule expected =
     record {
       frames = frames;
@@ -119,12 +129,12 @@ fresh frames look time sizes rule expected =
 
 -- "the idle state .. (frames 1, L 1, T 0, sizes 0)"; A.6: the 1989 rule, E and R 0
 abbrev pub idle : State
-idle = fresh 1 1 0 (replicate 8 0) 0 (replicate 8 0)
+idle = fresh 1 1 0 (replicate 8 0) Of1989 (replicate 8 0)
 
 -- of the eight sizes and the eight E. 1: any value out of range, A.6: "or a rule other than the two"; the idle state comes back
 unfoldable pub setup_of : ℕ → ℕ → ℕ → List ℕ → ℕ → List ℕ → Reply
 setup_of frames look time sizes rule expected =
-    cond (settings_in frames look time sizes rule expected) (reply (fresh frames look time sizes rule expected) Done) (refused idle 1)
+    cond (settings_in frames look time sizes rule expected) (reply (fresh frames look time sizes (rule_of rule) expected) Done) (refused idle OutOfRange)
 
 -- ---- Attach
 
@@ -139,12 +149,12 @@ counted_attach s file = with_attaches s (set s.attaches file (min 65535 (attache
 -- 2; 3; 4: pace out of range; 15, "after 4 and before 5"; 5: slot not empty. A.2: the mark is "the position .. at Attach"
 unfoldable pub attach_of : State → ℕ → ℕ → ℕ → ℕ → ℕ → Reply
 attach_of s slot file pace start last =
-    cond (no_slot slot) (refused s 2)
-    (cond (no_file s file) (refused s 3)
-    (cond (not (within 1 1000 pace)) (refused s 4)
-    (cond (no_range s file start last) (refused s 15)
+    cond (no_slot slot) (refused s NoSlot)
+    (cond (no_file s file) (refused s NoFile)
+    (cond (not (within 1 1000 pace)) (refused s NoPace)
+    (cond (no_range s file start last) (refused s NoRange)
     (by_condition (reader_at s slot).condition (reply (counted_attach (with_slot s slot (docked file pace start last) start) file) Done)
-    (refused s 5) (refused s 5)))))
+    (refused s SlotTaken) (refused s SlotTaken)))))
 
 -- ---- Read
 
@@ -160,8 +170,8 @@ read_running s slot r =
 -- 2; 6: slot empty; 7: reader waiting
 unfoldable pub read_of : State → ℕ → Reply
 read_of s slot =
-    cond (no_slot slot) (refused s 2)
-    (by_condition (reader_at s slot).condition (refused s 6) (read_running s slot (reader_at s slot)) (refused s 7))
+    cond (no_slot slot) (refused s NoSlot)
+    (by_condition (reader_at s slot).condition (refused s SlotEmpty) (read_running s slot (reader_at s slot)) (refused s ReaderWaits))
 
 -- ---- Steal
 
@@ -184,7 +194,7 @@ full s = leb s.frames (length (cached_pages s))
 
 -- "If all frames are taken, the head of the steal order is dropped first": the page that arrives is still in fetch then, and so present (A.5)
 unfoldable pub dropped : State → Option ℕ
-dropped s = cond (full s) (victim s) none
+dropped s = cond (full s) (victim s) None
 
 -- a reader waiting for page k runs
 unfoldable pub woken : ℕ → Reader → Reader
@@ -203,9 +213,9 @@ landed s k =
 -- Arrive and Lost: 3; 8; 9: page not in fetch
 unfoldable pub for_fetch : State → ℕ → ℕ → Reply → Reply
 for_fetch s file page done =
-    cond (no_file s file) (refused s 3)
-    (cond (no_page s file page) (refused s 8)
-    (cond (in_fetch s (key_of file page)) done (refused s 9)))
+    cond (no_file s file) (refused s NoFile)
+    (cond (no_page s file page) (refused s NoPage)
+    (cond (in_fetch s (key_of file page)) done (refused s NotInFetch)))
 
 -- "The answer I names the dropped page, if any"
 unfoldable pub arrive_of : State → ℕ → ℕ → Reply
@@ -216,7 +226,7 @@ arrive_of s file page =
 
 -- Detach and Measure: 2; 6: slot empty
 abbrev pub for_reader : State → ℕ → Reply → Reply
-for_reader s slot done = cond (no_slot slot) (refused s 2) (by_condition (reader_at s slot).condition (refused s 6) done done)
+for_reader s slot done = cond (no_slot slot) (refused s NoSlot) (by_condition (reader_at s slot).condition (refused s SlotEmpty) done done)
 
 -- "The slot's record becomes empty and all 0; an open fetch stays open"; A.2: the mark is "0 for an empty slot"
 unfoldable pub detach_of : State → ℕ → Reply
@@ -253,4 +263,4 @@ measured s slot interval blocked =
 -- "Turned away: 16 .., after 2 and 6"
 unfoldable pub measure_of : State → ℕ → ℕ → ℕ → Reply
 measure_of s slot interval blocked =
-    for_reader s slot (cond (no_interval interval blocked) (refused s 16) (reply (measured s slot interval blocked) Done))
+    for_reader s slot (cond (no_interval interval blocked) (refused s NoInterval) (reply (measured s slot interval blocked) Done))

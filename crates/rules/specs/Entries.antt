@@ -5,6 +5,7 @@ use Rattle.rules.specs.Pages.{key_of}
 use Rattle.rules.specs.Calls.{attach_of, read_of, steal_of, arrive_of, detach_of, lost_of, prefetch_of, measure_of}
 use Rattle.rules.specs.Run.{run_of}
 use Rattle.rules.specs.Image.{image_of, restore_whole}
+use Rattle.rules.specs.Refusals.{refusal_number}
 use Rattle.rules.specs.declared.State.{State}
 use Rattle.rules.specs.declared.Reply.{Reply}
 use Rattle.rules.specs.declared.Answer.{Answer}
@@ -12,7 +13,7 @@ use Rattle.rules.specs.declared.Answer.TheVariants.{Refused, Done, Hit, Wait, Fe
 
 -- the answer's letter; E stands on a refusal's line
 abbrev pub letter : Answer → ℕ
-letter (Refused number) = ascii "E"
+letter (Refused why) = ascii "E"
 letter Done = ascii "O"
 letter (Hit file page) = ascii "H"
 letter (Wait file page) = ascii "W"
@@ -30,7 +31,7 @@ lettered a n = letter a * 65536 + n
 
 -- "The number returned is the refusal's, or the answer letter's ..; for Run 4,294,967,296 + fetches × 65,536 + reads"
 unfoldable pub code : Answer → ℕ
-code (Refused number) = number
+code (Refused why) = refusal_number why
 code Done = lettered Done 0
 code (Hit file page) = lettered (Hit file page) (key_of file page + 1)
 code (Wait file page) = lettered (Wait file page) (key_of file page + 1)
@@ -44,7 +45,7 @@ code (Ran fetches reads) = 4294967296 + fetches * 65536 + reads
 
 -- the call was carried out
 abbrev pub carried_out : Answer → Bool
-carried_out (Refused number) = false
+carried_out (Refused why) = false
 carried_out Done = true
 carried_out (Hit file page) = true
 carried_out (Wait file page) = true

@@ -31,7 +31,10 @@ use Rattle.std.specs.Prelude.{
 use Rattle.rules.specs.Lists.{range, each, every, within}
 use Rattle.rules.specs.Pages.{size, file_of, page_of, cached, in_fetch, cached_pages}
 use Rattle.rules.specs.Readers.{reader_at, mark_at, by_condition, awaits}
-use Rattle.rules.specs.Calls.{reply, refused, settings_in, idle, no_file}
+use Rattle.rules.specs.Calls.{reply, refused, settings_in, rule_of, idle, no_file}
+use Rattle.rules.specs.Orders.{by_rule}
+use Rattle.rules.specs.declared.Rule.{Rule}
+use Rattle.rules.specs.declared.Refusal.TheVariants.{NoRoom, NoImage}
 use Rattle.rules.specs.declared.State.{State}
 use Rattle.rules.specs.declared.Reader.{Reader}
 use Rattle.rules.specs.declared.Reply.{Reply}
@@ -59,10 +62,14 @@ abbrev pub reader_fields : Reader → List Field
 reader_fields r =
     field 1 (condition_number r.condition) ∷ field 1 r.file ∷ field 2 r.pace ∷ field 2 r.position ∷ field 2 r.last ∷ []
 
+-- A.6: "(0 for 1989, 1 for 1993)"
+abbrev pub rule_number : Rule → ℕ
+rule_number rule = by_rule rule 0 1
+
 -- the fields behind those of 01. A.2: "The image grows to 2,240 bytes by sixteen 2-byte marks at its end"; A.6: "The image of 2,274 bytes adds a rule byte
 -- (0 for 1989, 1 for 1993), a 0 byte, then eight 2-byte E and eight R"
 abbrev pub tail : State → List Field
-tail s = map (field 2) s.marks ++ (field 1 s.rule ∷ field 1 0 ∷ (map (field 2) s.expected ++ map (field 2) s.attaches))
+tail s = map (field 2) s.marks ++ (field 1 (rule_number s.rule) ∷ field 1 0 ∷ (map (field 2) s.expected ++ map (field 2) s.attaches))
 
 -- the one table: "frames (2), turn (1), 0 (1), L (4), T (4), sizes (8 of 2), sixteen readers .., 4 bytes of 0, cached map 1,024, fetch map 1,024",
 -- and the tail. A map's word is 8 bytes, lowest first, so that "page 1 [is] in the lowest bit of the first".
@@ -98,7 +105,7 @@ pub record Saved : Type 0 where
 -- "12: buffer shorter; bytes after" the image "keep"; A.6: "Saving and the C buffer use this length"
 unfoldable pub save_of : State → List ℕ → Saved
 save_of s buffer =
-    cond (ltb (length buffer) image_length) (record { answer = Refused 12; buffer = buffer })
+    cond (ltb (length buffer) image_length) (record { answer = Refused NoRoom; buffer = buffer })
     (record { answer = Done; buffer = image_of s ++ drop image_length buffer })
 
 -- ---- Restore
@@ -149,7 +156,7 @@ state_from numbers =
       sizes = take 8 (drop 5 numbers);
       readers = map (reader_from numbers) (range 0 16);
       marks = take 16 (drop 350 numbers);
-      rule = get_or numbers 366 0;
+      rule = rule_of (get_or numbers 366 0);
       expected = take 8 (drop 368 numbers);
       attaches = take 8 (drop 376 numbers);
       cached = take 128 (drop 94 numbers);
@@ -188,7 +195,7 @@ gaps_hold numbers = eqb (get_or numbers 2 0) 0 && (eqb (get_or numbers 93 0) 0 &
 unfoldable pub accepts : List ℕ → Bool
 accepts numbers =
     settings_in (state_from numbers).frames (state_from numbers).look_ahead (state_from numbers).fetch_time (state_from numbers).sizes
-    (state_from numbers).rule (state_from numbers).expected
+    (get_or numbers 366 0) (state_from numbers).expected
     && (within 0 15 (state_from numbers).turn
     && (every (slot_holds numbers) (range 0 16)
     && (every (key_holds (state_from numbers)) (range 0 8192)
@@ -198,7 +205,7 @@ accepts numbers =
 -- Restore of an image as long as Save writes it. "13: another length, ..": that of an older image too. "The idle state comes back"
 unfoldable pub restore_whole : List ℕ → Reply
 restore_whole image =
-    cond (eqb (length image) image_length && accepts (image_numbers image)) (reply (state_from (image_numbers image)) Done) (refused idle 13)
+    cond (eqb (length image) image_length && accepts (image_numbers image)) (reply (state_from (image_numbers image)) Done) (refused idle NoImage)
 
 -- ---- older images
 

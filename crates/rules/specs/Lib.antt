@@ -1,6 +1,7 @@
 -- The scope paper as definitions, in its order; what a request changed or added stands beside the rule that it is about. Lists has the words about lists,
 -- Views the state as the code holds it, Ranks the orders and look-aheads by numbers.
 pub mod Views
+pub mod Refusals
 pub mod Lists
 pub mod Pages
 pub mod Readers

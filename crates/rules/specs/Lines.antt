@@ -34,6 +34,8 @@ use Rattle.rules.specs.Orders.{steal_order, fetch_order}
 use Rattle.rules.specs.Calls.{refused, no_file, idle, setup_of, attach_of, read_of, steal_of, arrive_of, detach_of, lost_of, prefetch_of}
 use Rattle.rules.specs.Run.{run_of}
 use Rattle.rules.specs.Entries.{letter, carried_out}
+use Rattle.rules.specs.Refusals.{refusal_number}
+use Rattle.rules.specs.declared.Refusal.TheVariants.{NoFile, NoRequest}
 use Rattle.rules.specs.declared.State.{State}
 use Rattle.rules.specs.declared.Reply.{Reply}
 use Rattle.rules.specs.declared.Answer.{Answer}
@@ -95,7 +97,7 @@ line_of first numbers = first ∷ each field_of numbers
 
 -- what stands behind the letter: "E,number"; "H, W or F with file,page"; ".. S,file,page; I alone or with file,page; N,fetches,reads"
 abbrev pub numbers_of : Answer → List ℕ
-numbers_of (Refused number) = number ∷ []
+numbers_of (Refused why) = refusal_number why ∷ []
 numbers_of Done = []
 numbers_of (Hit file page) = file ∷ page ∷ []
 numbers_of (Wait file page) = file ∷ page ∷ []
@@ -158,12 +160,12 @@ obeyed s c x =
     (cond (asks c x (ascii "N") 1) (told (run_of s (get_or x 0 0)))
     (cond (asks c x (ascii "L") 0) (shown s (order_line c (steal_order s)))
     (cond (asks c x (ascii "Q") 0) (shown s (order_line c (fetch_order s)))
-    (cond (asks c x (ascii "C") 1) (cond (no_file s (get_or x 0 0)) (told (refused s 3)) (shown s (clusters_line (clusters s (get_or x 0 0)))))
-    (told (refused s 14)))))))))))))
+    (cond (asks c x (ascii "C") 1) (cond (no_file s (get_or x 0 0)) (told (refused s NoFile)) (shown s (clusters_line (clusters s (get_or x 0 0)))))
+    (told (refused s NoRequest)))))))))))))
 
 -- one line's bytes to the next state and one answer line
 unfoldable pub respond_of : State → List ℕ → Response
-respond_of s line = cond (well_formed line) (obeyed s (get_or line 0 0) (map (decimal_value 0) (fields_of line))) (told (refused s 14))
+respond_of s line = cond (well_formed line) (obeyed s (get_or line 0 0) (map (decimal_value 0) (fields_of line))) (told (refused s NoRequest))
 
 -- ---- the whole input and output
 

@@ -1,10 +1,12 @@
 -- The steal order and the fetch order: 01, "Use times"; the 1993 weighting beside the 1989 rule: A.6. A.5, of a page in fetch: "it is still not in the steal
 -- order and not fetched twice". Assumes nothing: these are definitions.
 use Rattle.std.specs.Prelude.{ℕ, zero, suc, ◌+◌, ◌*◌, ◌-◌, Bool, not, cond, ◌&&◌, List, [], ◌∷◌, ◌++◌, get_or, length, leb, eqb}
-use Rattle.std.proofs.Math.Option.{Option}
+use Rattle.std.specs.declared.option.Option.{Option}
 use Rattle.rules.specs.Lists.{only, every, total, falling, rising, head, on_option}
 use Rattle.rules.specs.Pages.{size, file_of, page_of, pages, cached, in_fetch}
 use Rattle.rules.specs.UseTimes.{use_key, ahead, seen}
+use Rattle.rules.specs.declared.Rule.{Rule}
+use Rattle.rules.specs.declared.Rule.TheVariants.{Of1989, Of1993}
 use Rattle.rules.specs.declared.State.{State}
 
 -- ---- the 1989 rule
@@ -91,9 +93,14 @@ order1993 s = repeated s.frames (weight s) (length (order1989 s)) (order1989 s)
 
 -- ---- the box's orders
 
+-- by the rule
+abbrev pub by_rule : {A : Type 0} → Rule → A → A → A
+by_rule Of1989 a b = a
+by_rule Of1993 a b = b
+
 -- A.6: "a second steal rule, selected at Setup", "0 for 1989, 1 for 1993"
 unfoldable pub steal_order : State → List ℕ
-steal_order s = cond (eqb s.rule 0) (order1989 s) (order1993 s)
+steal_order s = by_rule s.rule (order1989 s) (order1993 s)
 
 -- neither cached nor in fetch: what the fetch order asks, whatever q takes for cached. By A.5 that is now just what is not `present`
 abbrev pub absent : State → ℕ → Bool

@@ -9,11 +9,13 @@ use Rattle.rules.specs.Calls.{no_file, no_page}
 use Rattle.rules.specs.Schedules.{count}
 use Rattle.rules.specs.Listings.{Written}
 use Rattle.rules.specs.declared.State.{State}
-use Rattle.rules.specs.declared.Listing.{Listing}
-use Rattle.rules.specs.declared.Listing.TheVariants as listing
+use Rattle.rules.specs.declared.Refusal.{Refusal}
+use Rattle.rules.specs.declared.Refusal.TheVariants.{NoFile, NoPage, NoRoom}
+use Rattle.std.specs.declared.result.Result.{Result}
+use Rattle.std.specs.declared.result.Result.TheVariants.{Ok, Err}
 use Rattle.rules.specs.declared.Question.{Question}
 use Rattle.rules.specs.declared.When.{When}
-use Rattle.rules.specs.declared.When.TheVariants.{At, Behind, NotSeen, Refused}
+use Rattle.rules.specs.declared.When.TheVariants.{At, Behind, NotSeen}
 use Rattle.rules.specs.declared.Forecast.{Forecast}
 
 -- ---- one question
@@ -32,8 +34,8 @@ unfoldable pub when_of : State → ℕ → When
 when_of s k = cond (seen s k) (at_use s.turn (use_key s k)) (cond (ahead s k) NotSeen Behind)
 
 -- a single question; "or the row's own refusal 3 or 8"
-unfoldable pub answer_of : State → ℕ → ℕ → When
-answer_of s file page = cond (no_file s file) (Refused 3) (cond (no_page s file page) (Refused 8) (when_of s (key_of file page)))
+unfoldable pub answer_of : State → ℕ → ℕ → Result When Refusal
+answer_of s file page = cond (no_file s file) (Err NoFile) (cond (no_page s file page) (Err NoPage) (Ok (when_of s (key_of file page))))
 
 -- the answer record of a question
 abbrev pub forecast_of : State → Question → Forecast
@@ -62,10 +64,10 @@ no_room rows room = ltb 1024 rows || ltb room rows
 
 -- the call, by what answers a single question and by the words that are read: "Row by row the answers equal those of a single question"; 12, "and the answer
 -- list is left"; "Past what is written a lent list keeps"
-unfoldable pub asked : ℕ → (Question → Forecast) → List Question → List Forecast → Written Listing Forecast
+unfoldable pub asked : ℕ → (Question → Forecast) → List Question → List Forecast → Written (Result ℕ Refusal) Forecast
 asked words answer questions lent =
-    cond (no_room (length questions) (length lent)) (record { answer = listing.Refused 12; list = lent })
-    (record { answer = listing.Count words; list = map answer questions ++ drop (length questions) lent })
+    cond (no_room (length questions) (length lent)) (record { answer = Err NoRoom; list = lent })
+    (record { answer = Ok words; list = map answer questions ++ drop (length questions) lent })
 
-unfoldable pub questions_of : State → List Question → List Forecast → Written Listing Forecast
+unfoldable pub questions_of : State → List Question → List Forecast → Written (Result ℕ Refusal) Forecast
 questions_of s questions lent = asked (words_read s) (forecast_of s) questions lent

@@ -3,6 +3,7 @@ use Rattle.std.specs.Prelude.{ℕ, zero, suc, ◌+◌, ◌%◌, Bool, not, cond,
 use Rattle.rules.specs.Pages.{key_of, fetching_pages}
 use Rattle.rules.specs.Readers.{reader_at, attached}
 use Rattle.rules.specs.Calls.{reply, refused, with_turn, read_of, arrive_of}
+use Rattle.rules.specs.declared.Refusal.TheVariants.{TooManyTurns, FetchOpen}
 use Rattle.rules.specs.declared.State.{State}
 use Rattle.rules.specs.declared.Reply.{Reply}
 use Rattle.rules.specs.declared.Answer.{Answer}
@@ -83,6 +84,6 @@ turns_of (suc n) s = counted (turn_of s) (turns_of n (turn_of s).after)
 -- 11: turns above 16,384; 10: a page is in fetch
 unfoldable pub run_of : State → ℕ → Reply
 run_of s turns =
-    cond (ltb 16384 turns) (refused s 11)
-    (cond (fetch_open s) (refused s 10)
+    cond (ltb 16384 turns) (refused s TooManyTurns)
+    (cond (fetch_open s) (refused s FetchOpen)
     (reply (turns_of turns s).after (Ran (turns_of turns s).fetches (turns_of turns s).reads)))

@@ -5,6 +5,7 @@ use Rattle.rules.specs.Readers.{reader_in, reader_at, attached, next_key, onward
 use Rattle.rules.specs.Valid.{Valid}
 use Rattle.rules.specs.Run.{turn_of, fetch_open}
 use Rattle.rules.specs.Schedules.{Set, Serves, fetches_in}
+use Rattle.rules.specs.declared.Rule.TheVariants.{Of1989}
 use Rattle.rules.specs.declared.State.{State}
 use Rattle.rules.specs.declared.Reader.{Reader}
 use Rattle.rules.specs.declared.Answer.{Answer}
@@ -21,7 +22,7 @@ pub record Premises (s : State) (w : ℕ) : Type 0 where
   pub no_time : s.fetch_time ≡ 0
   pub covers : (j : ℕ) → T (attached (reader_at s j)) → Covers s w (reader_at s j)
   pub none_open : fetch_open s ≡ false
-  pub by_1989 : s.rule ≡ 0
+  pub by_1989 : s.rule ≡ Of1989
 
 -- ---- the reads laid down, "worked out from readers, sizes and turn, and from nothing that is cached"; the sizes are in the readers' last pages (A.1)
 

@@ -44,8 +44,7 @@ pub record Valid (s : State) : Type 0 where
   pub marks_all : length s.marks ≡ 16
   pub marks_in : (j : ℕ) → mark_at s j ≤ (reader_at s j).position
   pub turn_high : s.turn < 16
-  -- A.6: one of the two rules; E is "0 to 1,000", R "stops at 65,535"
-  pub rule_known : s.rule ≤ 1
+  -- A.6: E is "0 to 1,000", R "stops at 65,535"
   pub expected_all : length s.expected ≡ 8
   pub expected_high : (f : ℕ) → expected_at s f ≤ 1000
   pub attaches_all : length s.attaches ≡ 8

@@ -2,12 +2,22 @@
 
 #![tactic(auto)]
 
+ghost use Rattle.std.specs.Prelude.{◌≡◌};
+ghost use Rattle.rules.specs.Refusals.{refusal_number};
+
 // A reader's condition.
-#[derive(Clone, Copy)]
+#[derive(Clone, Copy, PartialEq, Eq)]
 pub enum Condition {
     Empty,
     Running,
     Waiting,
+}
+
+// The steal rule: that of 1989, or that of 1993 (A.6).
+#[derive(Clone, Copy, PartialEq, Eq)]
+pub enum Rule {
+    Of1989,
+    Of1993,
 }
 
 // A reader slot's record: the position is the last page read, the pace the ticks for a page, and the last page the one at which the reader is at its end.
@@ -20,7 +30,7 @@ pub struct Reader {
     pub last: u16,
 }
 
-// The box. A reader's mark, at its slot, is the position from which its pace is measured next. The steal rule is 0 for 1989 and 1 for 1993; of each file there
+// The box. A reader's mark, at its slot, is the position from which its pace is measured next. Of each file there
 // is the number of readers expected, and that of attaches, up to 65,535. A map has one bit a page, at the page's key. A type of the rules: no function passes
 // it.
 #[derive(Drop)]
@@ -32,7 +42,7 @@ pub struct State {
     pub sizes: [u16; 8],
     pub readers: [Reader; 16],
     pub marks: [u16; 16],
-    pub rule: u8,
+    pub rule: Rule,
     pub expected: [u16; 8],
     pub attaches: [u16; 8],
     pub cached: [u64; 128],
@@ -48,17 +58,47 @@ pub struct View {
     pub attaches: [u16; 8],
     pub frames: u16,
     pub turn: u8,
-    pub rule: u8,
+    pub rule: Rule,
     pub look_ahead: u32,
     pub fetch_time: u32,
     pub sizes: [u16; 8],
     pub readers: [Reader; 16],
 }
 
+// Why a call is refused: each with the paper's number for it.
+#[derive(Clone, Copy, PartialEq, Eq)]
+pub enum Refusal {
+    OutOfRange = 1,
+    NoSlot = 2,
+    NoFile = 3,
+    NoPace = 4,
+    SlotTaken = 5,
+    SlotEmpty = 6,
+    ReaderWaits = 7,
+    NoPage = 8,
+    NotInFetch = 9,
+    FetchOpen = 10,
+    TooManyTurns = 11,
+    NoRoom = 12,
+    NoImage = 13,
+    NoRequest = 14,
+    NoRange = 15,
+    NoInterval = 16,
+}
+
+impl Refusal {
+    // The paper's number.
+    pub fn number(self) -> u8
+        ensures { result ≡ refusal_number self }
+    {
+        self as u8
+    }
+}
+
 // What a call answers. `Replaced` is an arrival that dropped the page it names.
 #[derive(Clone, Copy)]
 pub enum Answer {
-    Refused(u8),
+    Refused(Refusal),
     Done,
     Hit { file: u8, page: u16 },
     Wait { file: u8, page: u16 },
@@ -71,19 +111,11 @@ pub enum Answer {
     Ran { fetches: u16, reads: u16 },
 }
 
-// What Clusters answers: the count of clusters; and what questions get beside their answers: how many words of the maps were read, two at one
-// place counted as one. Or the refusal's number.
+// What Steal list and Fetch list count: the keys written, and how many pages the walks along the look-aheads tested.
 #[derive(Clone, Copy)]
-pub enum Listing {
-    Count(u16),
-    Refused(u8),
-}
-
-// What Steal list and Fetch list answer: the count of keys, with how many pages the walks along the look-aheads tested; or the refusal's number.
-#[derive(Clone, Copy)]
-pub enum Ordered {
-    Keys { count: u16, tested: u16 },
-    Refused(u8),
+pub struct Keys {
+    pub count: u16,
+    pub tested: u16,
 }
 
 // A question: when will this page be read? Its numbers are any numbers.
@@ -93,20 +125,18 @@ pub struct Question {
     pub page: u64,
 }
 
-// When a page will be read: the time and the slot of its use key; or it is ahead of no reader of its file; or ahead of some, and in no look-ahead; or there is
-// no such file or page, and this is the refusal's number.
+// When a page will be read: the time and the slot of its use key; or it is ahead of no reader of its file; or ahead of some, and in no look-ahead.
 #[derive(Clone, Copy)]
 pub enum When {
     At { time: u32, slot: u8 },
     Behind,
     NotSeen,
-    Refused(u8),
 }
 
-// The record that answers a question.
+// The record that answers a question; refused, where there is no such file or page.
 #[derive(Clone, Copy)]
 pub struct Forecast {
-    pub when: When,
+    pub when: Result<When, Refusal>,
 }
 
 // What a call gives by the rules: the state after it and the answer. A type of the rules: no function passes it.

@@ -35,7 +35,7 @@ use Rattle.rules.specs.Calls.{
 use Rattle.rules.specs.Run.{fetch_open, read_turn, turn_of, turns_of, run_of}
 use Rattle.rules.specs.Listings.{
   count_in,
-  refusal_in,
+  refused_in,
   keys_in,
   tested_in,
   refused_in,
@@ -175,7 +175,7 @@ sounded = state_with 16 0 40 20 (8 ∷ []) (up_to 8 3 10 ∷ []) (f0 (1 ∷ 2 �
 
 -- the refusal's number, the count, and the lent list after the call
 unfoldable pub written : Written Listing ℕ → List ℕ
-written w = refusal_in w.answer ∷ count_in w.answer ∷ w.list
+written w = refused_in w.answer ∷ count_in w.answer ∷ w.list
 
 -- of an order the pages tested too: A.3. A refusal carries neither
 unfoldable pub made : Written Ordered ℕ → List ℕ

@@ -10,7 +10,7 @@ use Rattle.rules.specs.Pages.{pages}
 use Rattle.rules.specs.Readers.{no_reader}
 use Rattle.rules.specs.UseTimes.{before, present, missing, pruned, sees, look_ahead_of, time_for, use_for, use_key, ahead, seen}
 use Rattle.rules.specs.Schedules.{count}
-use Rattle.rules.specs.Listings.{Written, count_in, refusal_in}
+use Rattle.rules.specs.Listings.{Written, count_in, refused_in}
 use Rattle.rules.specs.Questions.{when_of, answer_of, words_of, words_read, asked, questions_of}
 use Rattle.rules.proofs.tables.Soundings.{state_with, reader, up_to, at, f0}
 use Rattle.rules.proofs.tables.Edges.{Row, Hold}
@@ -36,7 +36,7 @@ all (f ∷ fs) = numbers f.when ++ all fs
 
 -- the refusal's number, the words read, and the lent list after the call
 unfoldable pub told : Written Listing Forecast → List ℕ
-told w = refusal_in w.answer ∷ count_in w.answer ∷ all w.list
+told w = refused_in w.answer ∷ count_in w.answer ∷ all w.list
 
 abbrev question : ℕ → ℕ → Question
 question file page = record { file = file; page = page }
@@ -159,7 +159,7 @@ calls-hold = refl
 abbrev edge : ℕ → ℕ → List ℕ → Row
 edge questions room due =
     let w = asked 7 (λ _. record { when = Refused 3 }) (replicate questions (question 0 1)) (blank room) in
-    row (refusal_in w.answer ∷ count_in w.answer ∷ take 1 (all w.list)) due
+    row (refused_in w.answer ∷ count_in w.answer ∷ take 1 (all w.list)) due
 
 unfoldable pub edges : List Row
 edges =
