@@ -1,0 +1,2 @@
+-- What whoever changes a box rests on.
+pub mod Kept

@@ -1,0 +1,1 @@
+-- Nothing: a contract speaks of a box as of a state of the rules.

@@ -1,0 +1,47 @@
+// The box as the code has it: a state of the rules, and the counts of its files' cached pages. Every `Quay` is a valid state with the counts that are its
+// own: whoever makes or changes one proves it, and no contract repeats it.
+
+#![tactic(auto)]
+
+ghost use Rattle.std.specs.Prelude.{◌≡◌};
+ghost use Rattle.rules.specs.Calls.{idle};
+
+use rules::View;
+use std::marker::Model;
+
+// In a contract a `Quay` is the state that it stands for: its view with its two maps. The counts, `held`, follow from the cached map.
+#[derive(Drop)]
+pub struct Quay {
+    pub view: View,
+    pub cached: [u64; 128],
+    pub fetching: [u64; 128],
+    pub held: [u16; 8],
+}
+
+impl Model for Quay {
+    ghost use Rattle.rules.specs.declared.State.{State};
+
+    ghost Value = { State };
+
+    ghost use Rattle.rules.specs.Views.{state_of};
+    ghost use Rattle.rules.specs.Valid.{Valid};
+    ghost use Rattle.parts.specs.Held.{Held};
+
+    ghost view = { λ q. state_of q.view q.cached q.fetching };
+
+    ghost invariant = { λ q. Valid (state_of q.view q.cached q.fetching) × Held q.cached q.held };
+}
+
+impl Quay {
+    // The idle state, with which the program starts.
+    pub fn idle() -> Quay
+        ensures { result ≡ idle }
+    {
+        Quay {
+            view: parts::idle(),
+            cached: [0; 128],
+            fetching: [0; 128],
+            held: [0; 8],
+        }
+    }
+}
