@@ -126,7 +126,6 @@ module _ (s : State) (turn : ℕ) (readers : List Reader) (marks attaches held f
         marks_all = a.marks_all;
         marks_in = a.marks_in;
         turn_high = a.low;
-        rule_known = v.rule_known;
         expected_all = v.expected_all;
         expected_high = v.expected_high;
         attaches_all = n.all;

@@ -23,6 +23,7 @@ use Rattle.rules.specs.Calls.{
   with_slot,
   with_fetch,
   settings_in,
+  rule_of,
   fresh,
   idle,
   setup_of,
@@ -304,7 +305,7 @@ all-within high (x ∷ l) e zero = (within-true 0 high x (and-true (within 0 hig
 all-within high (x ∷ l) e (suc f) = all-within high l (and-true (within 0 high x) _ e).1 f
 
 fresh-valid : (frames look time : ℕ) (sizes : List ℕ) (rule : ℕ) (expected : List ℕ) → length sizes ≡ 8 → length expected ≡ 8
-    → settings_in frames look time sizes rule expected ≡ true → Valid (fresh frames look time sizes rule expected)
+    → settings_in frames look time sizes rule expected ≡ true → Valid (fresh frames look time sizes (rule_of rule) expected)
 unfolding settings_in
 fresh-valid frames look time sizes rule expected eight eight' e =
     let a = and-true (within 1 1024 frames) _ e in
@@ -315,9 +316,9 @@ fresh-valid frames look time sizes rule expected eight eight' e =
     let f = within-true 1 1024 frames a.0 in
     let l = within-true 1 2000000 look b.0 in
     let none : (k : ℕ) → T (on (replicate 128 0) k) → ⊥ = λ k h. subst T (blank-off k) h in
-    let inside : (k : ℕ) → T (on (replicate 128 0) k) → Page (fresh frames look time sizes rule expected) k = λ k h. absurd (none k h) in
+    let inside : (k : ℕ) → T (on (replicate 128 0) k) → Page (fresh frames look time sizes (rule_of rule) expected) k = λ k h. absurd (none k h) in
     let high = all-within 1024 sizes d.0 in
-    let count : length (cached_pages (fresh frames look time sizes rule expected)) ≡ 0 = none-cached _ high none in
+    let count : length (cached_pages (fresh frames look time sizes (rule_of rule) expected)) ≡ 0 = none-cached _ high none in
     record {
       eight = eight;
       sizes_high = high;
@@ -331,7 +332,6 @@ fresh-valid frames look time sizes rule expected eight eight' e =
       marks_all = length-replicate {A = ℕ} 16 0;
       marks_in = λ j. rw (same_at {A = ℕ} 16 j 0) (omega arith);
       turn_high = omega arith;
-      rule_known = (within-true 0 1 rule g.0).1;
       expected_all = eight';
       expected_high = all-within 1000 expected g.1;
       attaches_all = length-replicate {A = ℕ} 8 0;

@@ -24,6 +24,7 @@ use Rattle.rules.specs.Calls.{
 use Rattle.rules.specs.Entries.{Call, attach, read, detach, measure, call_of}
 use Rattle.rules.specs.declared.State.{State}
 use Rattle.rules.specs.declared.Reader.{Reader}
+use Rattle.rules.specs.declared.Refusal.{Refusal}
 use Rattle.rules.specs.declared.Reply.{Reply}
 use Rattle.rules.specs.declared.Answer.TheVariants.{Done}
 use Rattle.rules.proofs.laws.Cases.{cond-all, condition-all}
@@ -157,8 +158,8 @@ pace-and-mark s slot interval blocked = search (cond-all Only, condition-all Onl
     Only : Reply → Type 0
     Only r = ButPace (reader_at s slot) (reader_at r.state slot) × (r.state.fetching ≡ s.fetching)
 
-    left : (n : ℕ) → Only (refused s n)
-    left n = (same-pace (reader_at s slot), refl)
+    left : (why : Refusal) → Only (refused s why)
+    left why = (same-pace (reader_at s slot), refl)
 
     done : Only (reply (measured s slot interval blocked) Done)
     done = (

@@ -21,11 +21,13 @@ use Rattle.rules.proofs.laws.Members.{range-in, range_at}
 use Rattle.rules.proofs.laws.Indexed.{Always, always-take, always-drop, all-always, always-all, every-all, all-every}
 use Rattle.rules.proofs.images.Layouts.{
   condition-low,
+  rule-low,
   Lengths,
   valid-lengths,
   state_numbers,
   slot-number,
   reader-numbers,
+  rule-at,
   gap-number,
   filler-number,
   state-numbers,
@@ -249,16 +251,16 @@ bit-inside words k l h = go (dec_lt k 8192)
 
 -- ---- all of it
 
--- a state's settings are in their ranges, and the test of it
-abbrev SettingsOf : State → Type 0
-SettingsOf s = Settings s.frames s.look_ahead s.fetch_time s.sizes s.rule s.expected
+-- the number of a rule and a state's settings are in their ranges, and the test of it
+abbrev SettingsOf : ℕ → State → Type 0
+SettingsOf rule s = Settings s.frames s.look_ahead s.fetch_time s.sizes rule s.expected
 
-abbrev settings_hold : State → Bool
-settings_hold s = settings_in s.frames s.look_ahead s.fetch_time s.sizes s.rule s.expected
+abbrev settings_hold : ℕ → State → Bool
+settings_hold rule s = settings_in s.frames s.look_ahead s.fetch_time s.sizes rule s.expected
 
 -- what `accepts` tests
 pub record Accepted (v : List ℕ) : Type 0 where
-  pub settings : SettingsOf (state_from v)
+  pub settings : SettingsOf (get_or v 366 0) (state_from v)
   pub turn_high : (state_from v).turn ≤ 15
   pub slots : (j : ℕ) → j < 16 → SlotIn v j
   pub marks : (j : ℕ) → j < 16 → mark_at (state_from v) j ≤ (reader_at (state_from v) j).position
@@ -274,7 +276,8 @@ module _ (v : List ℕ) where
   unfolding accepts
   accepted h₀ =
       let s = state_from v in
-      let h₁ = and_second (settings_hold s) _ h₀ in
+      let n = get_or v 366 0 in
+      let h₁ = and_second (settings_hold n s) _ h₀ in
       let h₂ = and_second (within 0 15 s.turn) _ h₁ in
       let h₃ = and_second (every (slot_holds v) (range 0 16)) _ h₂ in
       let h₄ = and_second (every (key_holds s) (range 0 8192)) _ h₃ in
@@ -282,7 +285,7 @@ module _ (v : List ℕ) where
       let h₆ = and_first (gaps_hold v) _ h₅ in
       let h₇ = and_second (eqb (get_or v 2 0) 0) _ h₆ in
       record {
-        settings = settings-in s.frames s.look_ahead s.fetch_time s.sizes s.rule s.expected (and_first (settings_hold s) _ h₀);
+        settings = settings-in s.frames s.look_ahead s.fetch_time s.sizes n s.expected (and_first (settings_hold n s) _ h₀);
         turn_high = (in_within 0 15 s.turn (and_first (within 0 15 s.turn) _ h₁)).1;
         slots =
             λ j l.
@@ -309,7 +312,8 @@ module _ (v : List ℕ) where
   unfolding accepts
   in-accepted a =
       let s = state_from v in
-      and_both (settings_hold s) _ (in-settings s.frames s.look_ahead s.fetch_time s.sizes s.rule s.expected a.settings)
+      let n = get_or v 366 0 in
+      and_both (settings_hold n s) _ (in-settings s.frames s.look_ahead s.fetch_time s.sizes n s.expected a.settings)
       (and_both (within 0 15 s.turn) _ (within_in 0 15 s.turn (omega arith) a.turn_high)
       (and_both (every (slot_holds v) (range 0 16)) _
       (all-every (slot_holds v) (range 0 16) (range-in (λ j. T (slot_holds v j)) 0 16 (λ j _ l. in-slot v j (a.slots j l))))
@@ -334,6 +338,7 @@ module _ (v : List ℕ) (long : length v ≡ 384) (a : Accepted v) where
         gap-maps = a.gap-maps;
         filler = a.filler;
         conditions = λ j l. (a.slots j l).condition-in;
+        rule_known = a.settings.rule_known;
       }
 
   reader-valid : (j : ℕ) → ReaderIn (reader_at (state_from v) j).condition (state_from v) (reader_at (state_from v) j)
@@ -387,7 +392,6 @@ module _ (v : List ℕ) (long : length v ≡ 384) (a : Accepted v) where
         marks_all = lengths.marks_all;
         marks_in = mark-valid;
         turn_high = omega (arith, a.turn_high);
-        rule_known = a.settings.rule_known;
         expected_all = lengths.expected_all;
         expected_high = a.settings.expected-in;
         attaches_all = lengths.attaches_all;
@@ -428,13 +432,13 @@ module _ (s : State) (v : Valid s) where
       let back = sym (state-numbers s lengths) in
       record {
         settings =
-            subst SettingsOf back
+            subst (SettingsOf (get_or (state_numbers s) 366 0)) back
             (record {
               frames-in = (v.frames_low, v.frames_high);
               look_in = (v.look_low, v.look_high);
               time_high = v.time_high;
               sizes-in = v.sizes_high;
-              rule_known = v.rule_known;
+              rule_known = omega (arith, rule-at s lengths, rule-low s.rule);
               expected-in = v.expected_high;
             });
         turn_high = subst (λ t. t.turn ≤ 15) back (omega (arith, v.turn_high));

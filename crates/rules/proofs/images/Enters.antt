@@ -15,12 +15,13 @@ use Rattle.rules.proofs.laws.Numbers.{Bytes}
 use Rattle.rules.proofs.images.Images.{done-length, done-reply, done-or-not, whole-refused, whole-save, whole-valid}
 use Rattle.rules.proofs.calls.Kept.{kept}
 use Rattle.rules.proofs.calls.Refusals.{refused-same}
+use Rattle.rules.specs.declared.Refusal.{Refusal}
 use Rattle.rules.specs.declared.Answer.{Answer}
 use Rattle.rules.specs.declared.Answer.TheVariants.{Refused, Done, Hit, Wait, Fetch, End, Nothing, Stolen, Arrived, Replaced, Ran}
 
 -- by whether an answer is a refusal
-answer-all : {A : Type 0} (P : A → Type 0) (a : Answer) (x y : A) → P x → ((n : ℕ) → a ≡ Refused n → P y) → P (cond (carried_out a) x y)
-answer-all P (Refused n) x y p q = q n refl
+answer-all : {A : Type 0} (P : A → Type 0) (a : Answer) (x y : A) → P x → ((why : Refusal) → a ≡ Refused why → P y) → P (cond (carried_out a) x y)
+answer-all P (Refused why) x y p q = q why refl
 answer-all P Done x y p q = p
 answer-all P (Hit file page) x y p q = p
 answer-all P (Wait file page) x y p q = p
@@ -35,7 +36,7 @@ answer-all P (Ran fetches reads) x y p q = p
 -- a number up to 16 is a refusal's, and leaves the buffer
 low-left : (a : Answer) (saved image : List ℕ) → code a ≤ 16 → cond (carried_out a) saved image ≡ image
 unfolding code
-low-left (Refused n) saved image h = refl
+low-left (Refused why) saved image h = refl
 low-left Done saved image h = absurd (omega arith)
 low-left (Hit file page) saved image h = absurd (omega arith)
 low-left (Wait file page) saved image h = absurd (omega arith)
@@ -82,7 +83,7 @@ module _ (c : Call) (image : List ℕ) where
       ap (λ r. restore_whole r.image) (enter-restored d)
       ∙ answer-all (λ l. restore_whole l ≡ reply (call_of c s).state Done) (call_of c s).answer _ image
       (whole-save (call_of c s).state (kept c s (whole-valid image bytes)))
-      (λ n e. done-reply image d ∙ ap (λ t. reply t Done) (sym (refused-same c s n e)))
+      (λ why e. done-reply image d ∙ ap (λ t. reply t Done) (sym (refused-same c s why e)))
 
   -- a call that is carried out leaves the image of its state
   pub enter-saves : (restore_whole image).answer ≡ Done → T (carried_out (call_of c (restore_whole image).state).answer)

@@ -7,10 +7,10 @@ use Rattle.rules.specs.Lists.{each}
 use Rattle.rules.specs.Pages.{size}
 use Rattle.rules.specs.Readers.{no_reader, reader_at}
 use Rattle.rules.specs.Valid.{ReaderIn, Valid}
-use Rattle.rules.specs.Image.{Field, field, reader_fields, tail, layout}
+use Rattle.rules.specs.Image.{Field, field, reader_fields, rule_number, tail, layout}
 use Rattle.rules.proofs.laws.Indexed.{Always, always-append, always-map, always-each}
 use Rattle.rules.proofs.images.Tables.{Fit, Fits}
-use Rattle.rules.proofs.images.Layouts.{condition-low}
+use Rattle.rules.proofs.images.Layouts.{condition-low, rule-low}
 use Rattle.rules.specs.declared.State.{State}
 use Rattle.rules.specs.declared.Reader.{Reader}
 use Rattle.rules.specs.declared.Condition.{Condition}
@@ -53,11 +53,11 @@ module _ (s : State) (v : Valid s) where
 
   tail-fits : Fits (tail s)
   tail-fits =
-      let rule : List Field = field 1 s.rule ∷ field 1 0 ∷ [] in
+      let rule : List Field = field 1 (rule_number s.rule) ∷ field 1 0 ∷ [] in
       let expected = map (field 2) s.expected in
       let attaches = map (field 2) s.attaches in
       both-fit (map (field 2) s.marks) (rule ++ (expected ++ attaches)) marks-fit
-      (both-fit rule (expected ++ attaches) (all_fit rule (omega (arith, v.rule_known)))
+      (both-fit rule (expected ++ attaches) (all_fit rule (omega (arith, rule-low s.rule)))
       (both-fit expected attaches (words-fit 2 s.expected (λ f. omega (arith, v.expected_high f)))
       (words-fit 2 s.attaches (λ f. omega (arith, v.attaches_high f)))))
 

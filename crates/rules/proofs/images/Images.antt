@@ -14,7 +14,7 @@ use lib.Seq.{get_or-take, get_or-drop, drop_at, drop-drop}
 use lib.Dec.{T, leb, leb→le, le→leb, eqb, eqb→eq}
 use Rattle.rules.specs.Lists.{each, every}
 use Rattle.rules.specs.Valid.{Valid}
-use Rattle.rules.specs.Calls.{reply, refused, idle}
+use Rattle.rules.specs.Calls.{reply, refused, rule_of, idle}
 use Rattle.rules.specs.Image.{
   layout,
   image_length,
@@ -61,6 +61,8 @@ use Rattle.rules.proofs.images.Layouts.{
 use Rattle.rules.proofs.images.Accepts.{Accepted, accepted, in-accepted, table-in, accepted-valid, valid-accepted}
 use Rattle.rules.proofs.images.Offsets.{rule_at, filler_at, expected_start, rule-at, filler-at, expected-at}
 use Rattle.rules.proofs.images.Upgrades.{upgraded-same, upgraded-bytes, older-long, upgraded-parts}
+use Rattle.rules.specs.declared.Rule.TheVariants.{Of1989}
+use Rattle.rules.specs.declared.Refusal.TheVariants.{NoImage}
 use Rattle.rules.specs.declared.State.{State}
 use Rattle.rules.specs.declared.Reply.{Reply}
 use Rattle.rules.specs.declared.Answer.TheVariants.{Refused, Done}
@@ -135,13 +137,13 @@ module _ (image : List ℕ) where
   whole-done h = rw (is_true (passes image) h)
 
   -- the test fails: it is refused
-  whole_out : T (not (passes image)) → restore_whole image ≡ refused idle 13
+  whole_out : T (not (passes image)) → restore_whole image ≡ refused idle NoImage
   unfolding restore_whole
   whole_out h = rw (is_false (passes image) h)
 
   not_done : T (not (passes image)) → (restore_whole image).answer ≡ Done → ⊥
   not_done h e =
-      let out : (restore_whole image).answer ≡ Refused 13 = ap (λ r. r.answer) (whole_out h) in
+      let out : (restore_whole image).answer ≡ Refused NoImage = ap (λ r. r.answer) (whole_out h) in
       let z : ◌≡◌ {A = ℕ} 0 1 = cc in
       omega arith
 
@@ -162,7 +164,7 @@ module _ (image : List ℕ) where
   done-or-not = ⊎_elim (λ h. inl (ap (λ r. r.answer) (whole-done h))) (λ h. inr (not_done h)) (side (passes image))
 
   -- a refused image gives the idle state back
-  pub whole-refused : ((restore_whole image).answer ≡ Done → ⊥) → restore_whole image ≡ refused idle 13
+  pub whole-refused : ((restore_whole image).answer ≡ Done → ⊥) → restore_whole image ≡ refused idle NoImage
   whole-refused n = ⊎_elim (λ h. absurd (n (ap (λ r. r.answer) (whole-done h)))) whole_out (side (passes image))
 
   taken-accepted : T (passes image) → Accepted (image_numbers image)
@@ -220,24 +222,23 @@ unfolding restore_of
 restore-save s v = ap restore_whole (newest-same (image_of s) (image-length s v)) ∙ whole-save s v
 
 -- a refused image, of any length and any bytes. 01: "13: .. The idle state comes back"
-pub restore-refused : (image : List ℕ) → ((restore_of image).answer ≡ Done → ⊥) → restore_of image ≡ refused idle 13
+pub restore-refused : (image : List ℕ) → ((restore_of image).answer ≡ Done → ⊥) → restore_of image ≡ refused idle NoImage
 unfolding restore_of
 restore-refused image n = whole-refused (upgraded image) n
 
 module _ (image : List ℕ) (long : length image ≡ image_length) where
-  unaccepted : (Accepted (image_numbers image) → ⊥) → restore_of image ≡ refused idle 13
+  unaccepted : (Accepted (image_numbers image) → ⊥) → restore_of image ≡ refused idle NoImage
   unfolding restore_of
   unaccepted n = ap restore_whole (newest-same image long) ∙ whole-refused image (λ e. n (taken-accepted image (done-taken image e)))
 
   -- A.6: "A rule byte above 1, a filler byte not 0 or an E above 1,000 gets 13"
-  pub rule-above : 1 < number_of (take 1 (drop rule_at image)) → restore_of image ≡ refused idle 13
-  unfolding state_from
+  pub rule-above : 1 < number_of (take 1 (drop rule_at image)) → restore_of image ≡ refused idle NoImage
   rule-above h = unaccepted (λ a. omega (arith, a.settings.rule_known, rule-at image))
 
-  pub filler-set : 0 < number_of (take 1 (drop filler_at image)) → restore_of image ≡ refused idle 13
+  pub filler-set : 0 < number_of (take 1 (drop filler_at image)) → restore_of image ≡ refused idle NoImage
   filler-set h = unaccepted (λ a. omega (arith, a.filler, filler-at image))
 
-  pub expected-above : (f : ℕ) → f < 8 → 1000 < number_of (take 2 (drop (expected_start + 2 * f) image)) → restore_of image ≡ refused idle 13
+  pub expected-above : (f : ℕ) → f < 8 → 1000 < number_of (take 2 (drop (expected_start + 2 * f) image)) → restore_of image ≡ refused idle NoImage
   unfolding state_from
   expected-above f l h =
       let v = image_numbers image in
@@ -254,7 +255,7 @@ rules-older image older =
 
 -- of the 1989 rule, E and R 0
 abbrev By1989 : State → Type 0
-By1989 s = (s.rule ≡ 0) × (s.expected ≡ replicate 8 0) × (s.attaches ≡ replicate 8 0)
+By1989 s = (s.rule ≡ Of1989) × (s.expected ≡ replicate 8 0) × (s.attaches ≡ replicate 8 0)
 
 -- A.6: "shorter ones are read as 1989 with E and R 0"
 pub older-1989 : (image : List ℕ) → Older image → By1989 (restore_of image).state
@@ -263,7 +264,7 @@ older-1989 image older =
     let v = image_numbers (upgraded image) in
     let end = rules-older image older in
     let read : By1989 (state_from v) = (
-      sym (get_or-drop 366 v 0 0) ∙ ap (λ r. get_or r 0 0) end,
+      ap rule_of (sym (get_or-drop 366 v 0 0) ∙ ap (λ r. get_or r 0 0) end),
       ap (take 8) (sym (drop-drop 2 366 v) ∙ ap (drop 2) end),
       ap (take 8) (sym (drop-drop 10 366 v) ∙ ap (drop 10) end),
     ) in

@@ -12,6 +12,7 @@ use Rattle.rules.specs.Image.{
   field,
   condition_number,
   reader_fields,
+  rule_number,
   tail,
   layout,
   condition_of,
@@ -19,6 +20,7 @@ use Rattle.rules.specs.Image.{
   reader_from,
   state_from,
 }
+use Rattle.rules.specs.Calls.{rule_of}
 use Rattle.rules.specs.Valid.{Valid}
 use Rattle.rules.proofs.laws.Members.{range-in}
 use Rattle.rules.proofs.laws.Indexed.{
@@ -40,6 +42,8 @@ use Rattle.rules.proofs.laws.Indexed.{
 use Rattle.rules.proofs.images.Tables.{widths, values}
 use Rattle.rules.specs.declared.State.{State}
 use Rattle.rules.specs.declared.Reader.{Reader}
+use Rattle.rules.specs.declared.Rule.{Rule}
+use Rattle.rules.specs.declared.Rule.TheVariants.{Of1989, Of1993}
 use Rattle.rules.specs.declared.Condition.{Condition}
 use Rattle.rules.specs.declared.Condition.TheVariants.{Empty, Running, Waiting}
 
@@ -72,13 +76,13 @@ valid-lengths s v =
 tail-map : (g : Field → ℕ) (s : State)
     → map g (tail s)
     ≡ map (λ n. g (field 2 n)) s.marks
-    ++ (g (field 1 s.rule) ∷ g (field 1 0) ∷ (map (λ n. g (field 2 n)) s.expected ++ map (λ n. g (field 2 n)) s.attaches))
+    ++ (g (field 1 (rule_number s.rule)) ∷ g (field 1 0) ∷ (map (λ n. g (field 2 n)) s.expected ++ map (λ n. g (field 2 n)) s.attaches))
 tail-map g s =
     let counts = map (field 2) s.expected ++ map (field 2) s.attaches in
     let lists = map-append g (map (field 2) s.expected) (map (field 2) s.attaches)
     ∙ ap₂ ◌++◌ (map-map g (field 2) s.expected) (map-map g (field 2) s.attaches) in
-    map-append g (map (field 2) s.marks) (field 1 s.rule ∷ field 1 0 ∷ counts)
-    ∙ ap₂ ◌++◌ (map-map g (field 2) s.marks) (ap (λ r. g (field 1 s.rule) ∷ g (field 1 0) ∷ r) lists)
+    map-append g (map (field 2) s.marks) (field 1 (rule_number s.rule) ∷ field 1 0 ∷ counts)
+    ∙ ap₂ ◌++◌ (map-map g (field 2) s.marks) (ap (λ r. g (field 1 (rule_number s.rule)) ∷ g (field 1 0) ∷ r) lists)
 
 -- any number of the table's fields, in their order
 layout-map : (g : Field → ℕ) (s : State)
@@ -109,7 +113,7 @@ slots_of s = each reader_numbers s.readers
 
 -- the values after the marks
 abbrev rules_of : State → List ℕ
-rules_of s = s.rule ∷ 0 ∷ (s.expected ++ s.attaches)
+rules_of s = rule_number s.rule ∷ 0 ∷ (s.expected ++ s.attaches)
 
 -- the values of the tail
 abbrev tail_of : State → List ℕ
@@ -163,6 +167,14 @@ condition-of Empty = refl
 condition-of Running = refl
 condition-of Waiting = refl
 
+pub rule-low : (r : Rule) → rule_number r ≤ 1
+rule-low Of1989 = omega arith
+rule-low Of1993 = omega arith
+
+rule-of : (r : Rule) → rule_of (rule_number r) ≡ r
+rule-of Of1989 = refl
+rule-of Of1993 = refl
+
 module _ (s : State) (h : Lengths s) where
   slots-long : length (slots_of s) ≡ 80
   slots-long = omega (arith, length-each reader_numbers 5 (λ r. refl) s.readers)
@@ -197,9 +209,9 @@ module _ (s : State) (h : Lengths s) where
   drop-rules : (m : ℕ) → drop (5 + (8 + (80 + (1 + (128 + (128 + (16 + m))))))) (state_numbers s) ≡ drop m (rules_of s)
   drop-rules m = drop-tail (16 + m) ∙ drop_past s.marks (rules_of s) 16 h.marks_all m
 
-  -- the rule
-  rule-number : get_or (state_numbers s) 366 0 ≡ s.rule
-  rule-number = sym (get_or-drop 366 (state_numbers s) 0 0) ∙ ap (λ r. get_or r 0 0) (drop-rules 0)
+  -- the rule's number
+  pub rule-at : get_or (state_numbers s) 366 0 ≡ rule_number s.rule
+  rule-at = sym (get_or-drop 366 (state_numbers s) 0 0) ∙ ap (λ r. get_or r 0 0) (drop-rules 0)
 
   -- the 0 behind it
   pub filler-number : get_or (state_numbers s) 367 0 ≡ 0
@@ -240,7 +252,7 @@ module _ (s : State) (h : Lengths s) where
         sizes = take_at s.sizes (slots_of s ++ maps_of s) 8 h.eight i;
         readers = readers-numbers i;
         marks = (ap (take 16) (drop-tail 0) ∙ take_at s.marks (rules_of s) 16 h.marks_all) i;
-        rule = rule-number i;
+        rule = (ap rule_of rule-at ∙ rule-of s.rule) i;
         expected = (ap (take 8) (drop-rules 2) ∙ take_at s.expected s.attaches 8 h.expected_all) i;
         attaches = (ap (take 8) (drop-rules 10 ∙ drop_past s.expected s.attaches 8 h.expected_all 0)
             ∙ take_all 8 s.attaches (omega (arith, h.attaches_all))) i;
@@ -256,6 +268,11 @@ number_of zero h = refl
 number_of (suc zero) h = refl
 number_of (suc (suc n)) h = omega arith
 
+rule-number : (n : ℕ) → n ≤ 1 → rule_number (rule_of n) ≡ n
+rule-number zero h = refl
+rule-number (suc zero) h = refl
+rule-number (suc (suc n)) h = omega arith
+
 -- numbers that a state's table can have, but for their ranges
 pub record Table (v : List ℕ) : Type 0 where
   pub long : length v ≡ 384
@@ -263,6 +280,7 @@ pub record Table (v : List ℕ) : Type 0 where
   pub gap-maps : get_or v 93 0 ≡ 0
   pub filler : get_or v 367 0 ≡ 0
   pub conditions : (j : ℕ) → j < 16 → reader_number v j 0 ≤ 2
+  pub rule_known : get_or v 366 0 ≤ 1
 
 module _ (v : List ℕ) (t : Table v) where
   -- the lists of their state have their lengths
@@ -300,7 +318,7 @@ module _ (v : List ℕ) (t : Table v) where
   rules-from =
       let counts = ap (λ r. take 8 (drop 368 v) ++ r) (take_all 8 (drop 376 v) (omega (arith, t.long, length-drop 376 v))) ∙ rejoin v 368 8 in
       let end = ap₂ ◌∷◌ (sym t.filler) counts ∙ sym (drop-cons v 367 0 (omega (arith, t.long))) in
-      ap (λ r. get_or v 366 0 ∷ r) end ∙ sym (drop-cons v 366 0 (omega (arith, t.long)))
+      ap₂ ◌∷◌ (rule-number (get_or v 366 0) t.rule_known) end ∙ sym (drop-cons v 366 0 (omega (arith, t.long)))
 
   tail_from : tail_of (state_from v) ≡ drop 350 v
   unfolding state_from

@@ -10,10 +10,14 @@ use lib.Dec.{T, leb, ltb, eqb}
 use Rattle.rules.specs.Lists.{within, on_option}
 use Rattle.rules.specs.Pages.{size, key_of, in_fetch}
 use Rattle.rules.specs.Readers.{by_condition}
+use Rattle.rules.specs.Orders.{by_rule}
 use Rattle.rules.specs.Calls.{refused, no_file, no_page, for_fetch}
 use Rattle.rules.specs.Run.{on_fetch}
 use Rattle.rules.specs.declared.State.{State}
 use Rattle.rules.specs.declared.Reply.{Reply}
+use Rattle.rules.specs.declared.Rule.{Rule}
+use Rattle.rules.specs.declared.Rule.TheVariants.{Of1989, Of1993}
+use Rattle.rules.specs.declared.Refusal.TheVariants.{NoFile, NoPage, NotInFetch}
 use Rattle.rules.specs.declared.Condition.{Condition}
 use Rattle.rules.specs.declared.Condition.TheVariants.{Empty, Running, Waiting}
 use Rattle.rules.specs.declared.Answer.{Answer}
@@ -24,6 +28,11 @@ module _ {A : Type 0} (P : A → Type 0) where
   pub cond-all : (b : Bool) (x y : A) → (b ≡ true → P x) → (b ≡ false → P y) → P (cond b x y)
   cond-all true x y f g = f refl
   cond-all false x y f g = g refl
+
+  -- by the steal rule
+  pub rule-all : (r : Rule) (x y : A) → (r ≡ Of1989 → P x) → (r ≡ Of1993 → P y) → P (by_rule r x y)
+  rule-all Of1989 x y f g = f refl
+  rule-all Of1993 x y f g = g refl
 
   -- by a reader's condition
   pub condition-all : (c : Condition) (x y z : A) → (c ≡ Empty → P x) → (c ≡ Running → P y) → (c ≡ Waiting → P z) → P (by_condition c x y z)
@@ -102,7 +111,7 @@ module _ {A : Type 0} where
 pub ruleset tests = (is-yes, is-no, called-yes, called-no, outcomes)
 
 -- Arrive and Lost: the three refusals, and a page in fetch
-pub for-fetch-all : (P : Reply → Type 0) (s : State) (file page : ℕ) (done : Reply) → P (refused s 3) → P (refused s 8) → P (refused s 9)
+pub for-fetch-all : (P : Reply → Type 0) (s : State) (file page : ℕ) (done : Reply) → P (refused s NoFile) → P (refused s NoPage) → P (refused s NotInFetch)
     → (in_fetch s (key_of file page) ≡ true → P done) → P (for_fetch s file page done)
 unfolding for_fetch
 for-fetch-all P s file page done a b c d =

@@ -22,6 +22,7 @@ use Rattle.rules.specs.Orders.{weight, order1989, choice, repeated, order1993, s
 use Rattle.rules.specs.Calls.{reply, with_cached, without, steal_of}
 use Rattle.rules.specs.Ranks.{rank, victim_among}
 use Rattle.rules.proofs.laws.Tests.{key, side, is_true, is_false, and_both, and_first, and_second}
+use Rattle.rules.proofs.laws.Cases.{rule-all}
 use Rattle.rules.proofs.laws.Members.{All, all_map, all-only, only-only}
 use Rattle.rules.proofs.laws.Sorts.{by-falling, only-sorted, alike-falling}
 use Rattle.rules.proofs.laws.Onces.{times, but, but-none, but-shorter, times-self}
@@ -47,6 +48,7 @@ use Rattle.rules.proofs.orders.Distinct.{among-top}
 use Rattle.rules.proofs.orders.Weighings.{Low, Goes, goes, repeat-goes}
 use Rattle.rules.proofs.orders.Victims.{steal-1989, steal-1993, empty-choice, once-1989, low-1989, victim-cached, victim-top, head-1993}
 use Rattle.rules.proofs.orders.Local.{alike_same, rank-local}
+use Rattle.rules.specs.declared.Rule.TheVariants.{Of1989, Of1993}
 use Rattle.rules.specs.declared.State.{State}
 use Rattle.rules.specs.declared.Reader.{Reader}
 use Rattle.rules.specs.declared.Answer.{Answer}
@@ -253,7 +255,7 @@ module _ (s : State) (w : Valid s) (k : ℕ) (e : victim s ≡ Some k) where
   c : T (cached s k)
   c = victim-cached s w k e
 
-  first-1989 : s.rule ≡ 0 → order1989 s ≡ k ∷ order1989 (drop_page s k)
+  first-1989 : s.rule ≡ Of1989 → order1989 s ≡ k ∷ order1989 (drop_page s k)
   unfolding victim only
   first-1989 rule =
       let q : steal_order s ≡ order1989 s = steal-1989 s rule in
@@ -264,9 +266,9 @@ module _ (s : State) (w : Valid s) (k : ℕ) (e : victim s ≡ Some k) where
       h.1 ∙ ap (λ l. k ∷ l) (sym (left-1989 s w k c (λ j d _. victim-top s w rule k e j d) ∙ ap (but k) h.1 ∙ gone))
 
   -- under the 1993 rule the head is its file's first
-  first_goes : s.rule ≢ 0 → Goes s.frames (weight s) (order1989 s) k
+  first_goes : s.rule ≡ Of1993 → Goes s.frames (weight s) (order1989 s) k
   unfolding victim
-  first_goes ne = go (order1989 s) (low-1989 s w) (sym (head-1993 s w) ∙ ap head (sym (steal-1993 s ne)) ∙ e)
+  first_goes rule = go (order1989 s) (low-1989 s w) (sym (head-1993 s w) ∙ ap head (sym (steal-1993 s rule)) ∙ e)
     where
       go : (l : List ℕ) → All Low l → choice s.frames (weight s) l ≡ Some k → Goes s.frames (weight s) l k
       go [] low q =
@@ -279,10 +281,10 @@ module _ (s : State) (w : Valid s) (k : ℕ) (e : victim s ≡ Some k) where
           let r : g.0 ≡ k = cc in
           subst (Goes s.frames (weight s) (x ∷ l)) r g.1
 
-  first-1993 : s.rule ≢ 0 → order1993 s ≡ k ∷ order1993 (drop_page s k)
+  first-1993 : s.rule ≡ Of1993 → order1993 s ≡ k ∷ order1993 (drop_page s k)
   unfolding order1993 victim_among
-  first-1993 ne =
-      let g = first_goes ne in
+  first-1993 rule =
+      let g = first_goes rule in
       let l : List ℕ = order1989 s in
       let once : times k l ≡ 1 = omega (arith, g.here, once-1989 s w k) in
       let short : length l ≡ suc (length (but k l)) = but-shorter k l once ∙ omega arith in
@@ -295,9 +297,9 @@ module _ (s : State) (w : Valid s) (k : ℕ) (e : victim s ≡ Some k) where
 
   pub steal-first : steal_order s ≡ k ∷ steal_order (drop_page s k)
   steal-first =
-      key s.rule 0 (λ _. steal_order s ≡ k ∷ steal_order (drop_page s k))
+      rule-all (λ _. steal_order s ≡ k ∷ steal_order (drop_page s k)) s.rule s s
       (λ q. steal-1989 s q ∙ first-1989 q ∙ ap (λ l. k ∷ l) (sym (steal-1989 (drop_page s k) q)))
-      (λ ne. steal-1993 s ne ∙ first-1993 ne ∙ ap (λ l. k ∷ l) (sym (steal-1993 (drop_page s k) ne)))
+      (λ q. steal-1993 s q ∙ first-1993 q ∙ ap (λ l. k ∷ l) (sym (steal-1993 (drop_page s k) q)))
 
 -- ---- repeated Steals
 

@@ -1,11 +1,11 @@
 -- The box's steal order, under either rule: all cached pages, each once. So its head, the page to give up, is cached, and there is one where anything is.
 -- Under the 1989 rule it has the largest rank; under the 1993 rule it is the first of the file chosen. Assumes nothing.
 use mathlib.Core.Path.{◌≡◌, refl, sym, ap, ap₂, ◌∙◌, subst}
-use mathlib.Core.Bool.{Bool, true, false, cond, ◌&&◌, and-false}
+use mathlib.Core.Bool.{Bool, true, false, ◌&&◌, and-false}
 use mathlib.Core.List.{List, [], ◌∷◌, map}
 use Rattle.std.specs.declared.option.Option.{Option}
 use Rattle.std.specs.declared.option.Option.TheVariants.{Some, None}
-use mathlib.Core.Logic.{◌≢◌, ◌↔◌}
+use mathlib.Core.Logic.{◌↔◌}
 use Prim.Native.Nat.{ℕ, ◌*◌, ◌%◌, ◌≤◌, ◌<◌}
 use native.Mathlib.Omega.{arith}
 use native.Mathlib.Decide.{dec_lt}
@@ -20,6 +20,7 @@ use Rattle.rules.specs.Orders.{order1989, weight, of_file, count_of, standing_in
 use Rattle.rules.specs.Ranks.{rank, victim_among, weighed}
 use Rattle.rules.specs.Schedules.{num, count}
 use Rattle.rules.proofs.laws.Tests.{key, and_both, and_first}
+use Rattle.rules.proofs.laws.Cases.{rule-all}
 use Rattle.rules.proofs.laws.Members.{All, only-true, only-only}
 use Rattle.rules.proofs.laws.Sorts.{by-falling, sorted-length, only-sorted}
 use Rattle.rules.proofs.laws.Counting.{num-in, one, empty, same_count, count-only, count-empty}
@@ -28,19 +29,22 @@ use Rattle.rules.proofs.laws.Onces.{times, Once, times-self, there, all_there, h
 use Rattle.rules.proofs.orders.Ranks.{steal-ranked}
 use Rattle.rules.proofs.orders.Distinct.{among-top, among_none, head-is}
 use Rattle.rules.proofs.orders.Weighings.{Low, times-count, goes, choice-is, weighed-order, repeated-same, repeat-goes}
+use Rattle.rules.specs.declared.Rule.TheVariants.{Of1989, Of1993}
 use Rattle.rules.specs.declared.State.{State}
 
 -- what holds of the order of either rule holds of the box's own
-pub by-rule : (s : State) (Q : List ℕ → Type 0) → (s.rule ≡ 0 → Q (order1989 s)) → (s.rule ≢ 0 → Q (order1993 s)) → Q (steal_order s)
+pub by-rule : (s : State) (Q : List ℕ → Type 0) → (s.rule ≡ Of1989 → Q (order1989 s)) → (s.rule ≡ Of1993 → Q (order1993 s)) → Q (steal_order s)
 unfolding steal_order
-by-rule s Q = key s.rule 0 (λ b. Q (cond b (order1989 s) (order1993 s)))
+by-rule s Q = rule-all Q s.rule (order1989 s) (order1993 s)
 
 -- the 1989 rule's, if that is the state's
-pub steal-1989 : (s : State) → s.rule ≡ 0 → steal_order s ≡ order1989 s
-steal-1989 s e = by-rule s (λ l. l ≡ order1989 s) (λ _. refl) (λ ne. absurd (ne e))
+pub steal-1989 : (s : State) → s.rule ≡ Of1989 → steal_order s ≡ order1989 s
+unfolding steal_order
+steal-1989 s e = rw e
 
-pub steal-1993 : (s : State) → s.rule ≢ 0 → steal_order s ≡ order1993 s
-steal-1993 s ne = by-rule s (λ l. l ≡ order1993 s) (λ e. absurd (ne e)) (λ _. refl)
+pub steal-1993 : (s : State) → s.rule ≡ Of1993 → steal_order s ≡ order1993 s
+unfolding steal_order
+steal-1993 s e = rw e
 
 -- of no pages none goes
 pub empty-choice : (frames : ℕ) (weight : ℕ → ℕ) → choice frames weight [] ≡ None
@@ -139,7 +143,7 @@ module _ (s : State) (w : Valid s) where
 
   -- ---- under the 1989 rule
 
-  module _ (e : s.rule ≡ 0) where
+  module _ (e : s.rule ≡ Of1989) where
     -- it is that of all files
     victim-all : victim s ≡ victim_among (λ f. true) s
     unfolding victim victim_among
@@ -179,11 +183,11 @@ module _ (s : State) (w : Valid s) where
           ap head (repeat-goes s.frames (weight s) (length l) (x ∷ l) g.0 g.1.is) ∙ sym g.1.is
 
   -- it is the first of the file whose number is above that of no other file with cached pages; or there is none
-  pub victim-chosen : s.rule ≢ 0 → (b : ℕ) → b < 8 → ((f : ℕ) → f < 8 → 0 < count_of (order1989 s) f
+  pub victim-chosen : s.rule ≡ Of1993 → (b : ℕ) → b < 8 → ((f : ℕ) → f < 8 → 0 < count_of (order1989 s) f
       → (0 < count_of (order1989 s) b) × (standing_in s.frames (weight s) (order1989 s) f ≤ standing_in s.frames (weight s) (order1989 s) b))
       → victim s ≡ victim_among (λ f. eqb f b) s
   unfolding victim victim_among only
-  victim-chosen ne b lb top = ap head (steal-1993 s ne) ∙ head-1993 ∙ go (dec_lt 0 (count_of (order1989 s) b))
+  victim-chosen e b lb top = ap head (steal-1993 s e) ∙ head-1993 ∙ go (dec_lt 0 (count_of (order1989 s) b))
     where
       above : (k : ℕ) → 1 ≤ times k (order1989 s)
           → (0 < count_of (order1989 s) b)

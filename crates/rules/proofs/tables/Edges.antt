@@ -38,7 +38,6 @@ use Rattle.rules.specs.Listings.{
   refused_in,
   keys_in,
   tested_in,
-  refused_in,
   Written,
   listed,
   order_listed,
@@ -70,8 +69,11 @@ use Rattle.rules.specs.declared.State.{State}
 use Rattle.rules.specs.declared.Reader.{Reader}
 use Rattle.rules.specs.declared.Reply.{Reply}
 use Rattle.rules.specs.declared.Answer.{Answer}
-use Rattle.rules.specs.declared.Listing.{Listing}
-use Rattle.rules.specs.declared.Ordered.{Ordered}
+use Rattle.rules.specs.declared.Keys.{Keys}
+use Rattle.rules.specs.declared.Refusal.{Refusal}
+use Rattle.rules.specs.declared.Refusal.TheVariants.{NoImage}
+use Rattle.rules.specs.declared.Rule.TheVariants.{Of1993}
+use Rattle.std.specs.declared.result.Result.{Result}
 use Rattle.rules.specs.declared.Answer.TheVariants.{Refused, Done, Hit, Wait, Fetch, End, Nothing, Stolen, Arrived, Replaced, Ran}
 use Rattle.rules.specs.declared.Condition.TheVariants.{Running, Waiting}
 
@@ -98,7 +100,7 @@ nonzero i (b ∷ bs) = cond (eqb b 0) [] (i ∷ b ∷ []) ++ nonzero (i + 1) bs
 abbrev laden : State
 laden =
     with_marks
-    (state_by 1 (1000 ∷ 0 ∷ 0 ∷ 0 ∷ 0 ∷ 0 ∷ 0 ∷ 1 ∷ []) (0 ∷ 65535 ∷ 0 ∷ 0 ∷ 0 ∷ 0 ∷ 0 ∷ 258 ∷ []) 770 11 1967877 657672
+    (state_by Of1993 (1000 ∷ 0 ∷ 0 ∷ 0 ∷ 0 ∷ 0 ∷ 0 ∷ 1 ∷ []) (0 ∷ 65535 ∷ 0 ∷ 0 ∷ 0 ∷ 0 ∷ 0 ∷ 258 ∷ []) 770 11 1967877 657672
     (1024 ∷ 300 ∷ 0 ∷ 0 ∷ 0 ∷ 0 ∷ 0 ∷ 1024 ∷ [])
     (reader Running 0 1000 513 772 ∷ reader Waiting 1 258 299 300 ∷ (replicate 13 no_reader ++ reader Running 7 1 2 3 ∷ []))
     (0 ∷ 9 ∷ 1024 ∷ 8191 ∷ []) (1323 ∷ []))
@@ -141,7 +143,7 @@ saves-hold = refl
 
 -- two readers, the first without its last page, and an empty slot between them; by the 1993 rule, with readers expected and attached
 abbrev unfilled : State
-unfilled = state_by 1 (7 ∷ []) (8 ∷ []) 1 0 1 0 (1024 ∷ 300 ∷ [])
+unfilled = state_by Of1993 (7 ∷ []) (8 ∷ []) 1 0 1 0 (1024 ∷ 300 ∷ [])
     (reader Running 1 10 299 0 ∷ no_reader ∷ reader Running 0 10 2 3 ∷ replicate 13 no_reader) [] []
 
 -- an image's length and its bytes that are not 0 behind the first 28
@@ -174,11 +176,11 @@ abbrev sounded : State
 sounded = state_with 16 0 40 20 (8 ∷ []) (up_to 8 3 10 ∷ []) (f0 (1 ∷ 2 ∷ 3 ∷ 5 ∷ 7 ∷ [])) []
 
 -- the refusal's number, the count, and the lent list after the call
-unfoldable pub written : Written Listing ℕ → List ℕ
+unfoldable pub written : Written (Result ℕ Refusal) ℕ → List ℕ
 written w = refused_in w.answer ∷ count_in w.answer ∷ w.list
 
 -- of an order the pages tested too: A.3. A refusal carries neither
-unfoldable pub made : Written Ordered ℕ → List ℕ
+unfoldable pub made : Written (Result Keys Refusal) ℕ → List ℕ
 made w = refused_in w.answer ∷ keys_in w.answer ∷ tested_in w.answer ∷ w.list
 
 -- a list too short by one, one with exactly enough room, and one with more
@@ -244,7 +246,7 @@ is answer n = row (code answer ∷ []) (n ∷ [])
 
 unfoldable pub numbers : List Row
 numbers =
-    is (Refused 13) 13
+    is (Refused NoImage) 13
     ∷ is Done 5177344
     ∷ is (Hit 7 1024) 4726784
     ∷ is (Wait 0 1) 5701633

@@ -10,6 +10,7 @@ use Rattle.rules.specs.Pages.{pages}
 use Rattle.rules.specs.Readers.{no_reader}
 use Rattle.rules.specs.UseTimes.{before, present, missing, pruned, sees, look_ahead_of, time_for, use_for, use_key, ahead, seen}
 use Rattle.rules.specs.Schedules.{count}
+use Rattle.rules.specs.Refusals.{refusal_number}
 use Rattle.rules.specs.Listings.{Written, count_in, refused_in}
 use Rattle.rules.specs.Questions.{when_of, answer_of, words_of, words_read, asked, questions_of}
 use Rattle.rules.proofs.tables.Soundings.{state_with, reader, up_to, at, f0}
@@ -17,33 +18,36 @@ use Rattle.rules.proofs.tables.Edges.{Row, Hold}
 use Rattle.rules.specs.declared.State.{State}
 use Rattle.rules.specs.declared.Reader.{Reader}
 use Rattle.rules.specs.declared.Condition.TheVariants.{Waiting}
-use Rattle.rules.specs.declared.Listing.{Listing}
+use Rattle.rules.specs.declared.Refusal.{Refusal}
+use Rattle.rules.specs.declared.Refusal.TheVariants.{NoFile, NoRequest}
+use Rattle.std.specs.declared.result.Result.{Result}
+use Rattle.std.specs.declared.result.Result.TheVariants.{Ok, Err}
 use Rattle.rules.specs.declared.Question.{Question}
 use Rattle.rules.specs.declared.When.{When}
-use Rattle.rules.specs.declared.When.TheVariants.{At, Behind, NotSeen, Refused}
+use Rattle.rules.specs.declared.When.TheVariants.{At, Behind, NotSeen}
 use Rattle.rules.specs.declared.Forecast.{Forecast}
 
 -- an answer as numbers: a time behind 200 and before its slot; 100, behind; 101, not seen; a refusal's own
-abbrev numbers : When → List ℕ
-numbers (At time slot) = 200 ∷ time ∷ slot ∷ []
-numbers Behind = 100 ∷ []
-numbers NotSeen = 101 ∷ []
-numbers (Refused number) = number ∷ []
+abbrev numbers : Result When Refusal → List ℕ
+numbers (Ok (At time slot)) = 200 ∷ time ∷ slot ∷ []
+numbers (Ok Behind) = 100 ∷ []
+numbers (Ok NotSeen) = 101 ∷ []
+numbers (Err why) = refusal_number why ∷ []
 
 unfoldable pub all : List Forecast → List ℕ
 all [] = []
 all (f ∷ fs) = numbers f.when ++ all fs
 
 -- the refusal's number, the words read, and the lent list after the call
-unfoldable pub told : Written Listing Forecast → List ℕ
+unfoldable pub told : Written (Result ℕ Refusal) Forecast → List ℕ
 told w = refused_in w.answer ∷ count_in w.answer ∷ all w.list
 
 abbrev question : ℕ → ℕ → Question
 question file page = record { file = file; page = page }
 
--- a lent list of n records that no question is answered with
+-- a lent list of n records that no question is answered with, since none gets 14
 abbrev blank : ℕ → List Forecast
-blank n = replicate n (record { when = Refused 0 })
+blank n = replicate n (record { when = Err NoRequest })
 
 abbrev row : List ℕ → List ℕ → Row
 row found due = record { found = found; due = due }
@@ -143,11 +147,11 @@ unfoldable pub calls : List Row
 calls =
     -- room for all, and for one more, which keeps
     row (told (questions_of shorter seven (blank 7))) (0 ∷ 1 ∷ their)
-    ∷ row (told (questions_of shorter seven (blank 8))) (0 ∷ 1 ∷ (their ++ 0 ∷ []))
+    ∷ row (told (questions_of shorter seven (blank 8))) (0 ∷ 1 ∷ (their ++ 14 ∷ []))
     -- "a short answer list"
-    ∷ row (told (questions_of shorter seven (blank 6))) (12 ∷ 0 ∷ replicate 6 0)
+    ∷ row (told (questions_of shorter seven (blank 6))) (12 ∷ 0 ∷ replicate 6 14)
     -- no question: the same words
-    ∷ row (told (questions_of shorter [] (blank 1))) (0 ∷ 1 ∷ 0 ∷ [])
+    ∷ row (told (questions_of shorter [] (blank 1))) (0 ∷ 1 ∷ 14 ∷ [])
     ∷ []
 
 pub calls-hold : Hold calls
@@ -158,15 +162,15 @@ calls-hold = refl
 -- "More than 1,024 rows": by a function that answers nothing, with room for them and without
 abbrev edge : ℕ → ℕ → List ℕ → Row
 edge questions room due =
-    let w = asked 7 (λ _. record { when = Refused 3 }) (replicate questions (question 0 1)) (blank room) in
+    let w = asked 7 (λ _. record { when = Err NoFile }) (replicate questions (question 0 1)) (blank room) in
     row (refused_in w.answer ∷ count_in w.answer ∷ take 1 (all w.list)) due
 
 unfoldable pub edges : List Row
 edges =
     edge 1024 1024 (0 ∷ 7 ∷ 3 ∷ [])
-    ∷ edge 1025 1025 (12 ∷ 0 ∷ 0 ∷ [])
-    ∷ edge 1025 1024 (12 ∷ 0 ∷ 0 ∷ [])
-    ∷ edge 1024 1023 (12 ∷ 0 ∷ 0 ∷ [])
+    ∷ edge 1025 1025 (12 ∷ 0 ∷ 14 ∷ [])
+    ∷ edge 1025 1024 (12 ∷ 0 ∷ 14 ∷ [])
+    ∷ edge 1024 1023 (12 ∷ 0 ∷ 14 ∷ [])
     ∷ []
 
 pub edges-hold : Hold edges

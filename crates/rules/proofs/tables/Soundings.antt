@@ -9,6 +9,8 @@ use Rattle.rules.specs.Pages.{key_of, pages, held, ends, clusters}
 use Rattle.rules.specs.Readers.{no_reader}
 use Rattle.rules.specs.UseTimes.{before, present, missing, pruned, sees, time_for, use_for, use_key, ahead, seen}
 use Rattle.rules.specs.Orders.{not_ahead, not_seen, use_time, order1989, steal_order, fetch_order}
+use Rattle.rules.specs.declared.Rule.{Rule}
+use Rattle.rules.specs.declared.Rule.TheVariants.{Of1989}
 use Rattle.rules.specs.declared.State.{State}
 use Rattle.rules.specs.declared.Reader.{Reader}
 use Rattle.rules.specs.declared.Condition.{Condition}
@@ -38,7 +40,7 @@ pub record Row : Type 0 where
   pub answer : List ℕ
 
 -- a state, of rule, E and R, frames, turn, L, T, sizes, readers, cached pages and pages in fetch: no further files and readers, and all marks 0
-abbrev pub state_by : ℕ → List ℕ → List ℕ → ℕ → ℕ → ℕ → ℕ → List ℕ → List Reader → List ℕ → List ℕ → State
+abbrev pub state_by : Rule → List ℕ → List ℕ → ℕ → ℕ → ℕ → ℕ → List ℕ → List Reader → List ℕ → List ℕ → State
 state_by rule expected attaches frames turn look time sizes readers cached fetching =
     record {
       frames = frames;
@@ -57,7 +59,7 @@ state_by rule expected attaches frames turn look time sizes readers cached fetch
 
 -- by the 1989 rule, E and R 0
 abbrev pub state_with : ℕ → ℕ → ℕ → ℕ → List ℕ → List Reader → List ℕ → List ℕ → State
-state_with = state_by 0 [] []
+state_with = state_by Of1989 [] []
 
 -- the state of a row: L 40
 abbrev pub state_of : Row → State

@@ -23,9 +23,12 @@ use Rattle.rules.specs.Orders.{
   victim,
 }
 use Rattle.rules.specs.Calls.{settings_in, setup_of, attach_of, full, dropped, woken, landed, for_fetch, arrive_of}
+use Rattle.rules.specs.Image.{rule_number}
 use Rattle.rules.specs.Entries.{code}
 use Rattle.rules.proofs.tables.Soundings.{state_by, reader}
 use Rattle.rules.proofs.tables.Edges.{Row, Hold, row}
+use Rattle.rules.specs.declared.Rule.{Rule}
+use Rattle.rules.specs.declared.Rule.TheVariants.{Of1989, Of1993}
 use Rattle.rules.specs.declared.State.{State}
 use Rattle.rules.specs.declared.Reply.{Reply}
 use Rattle.rules.specs.declared.Condition.TheVariants.{Running}
@@ -33,7 +36,7 @@ use Rattle.rules.specs.declared.Condition.TheVariants.{Running}
 -- ---- orders
 
 -- by a rule: frames, sizes, E and R of files 0 and 1, and the cached pages; no readers
-abbrev still : ℕ → ℕ → List ℕ → List ℕ → List ℕ → List ℕ → State
+abbrev still : Rule → ℕ → List ℕ → List ℕ → List ℕ → List ℕ → State
 still rule frames sizes expected attaches cached = state_by rule expected attaches frames 0 40 0 sizes [] cached []
 
 abbrev three_and_one : List ℕ
@@ -42,23 +45,23 @@ three_and_one = key_of 0 1 ∷ key_of 0 2 ∷ key_of 0 3 ∷ key_of 1 8 ∷ []
 unfoldable pub weightings : List Row
 weightings =
     -- even weights: file 0 has more than its share
-    row (steal_order (still 1 4 (8 ∷ 8 ∷ []) (1 ∷ 1 ∷ []) [] three_and_one)) (key_of 0 3 ∷ key_of 0 2 ∷ key_of 1 8 ∷ key_of 0 1 ∷ [])
+    row (steal_order (still Of1993 4 (8 ∷ 8 ∷ []) (1 ∷ 1 ∷ []) [] three_and_one)) (key_of 0 3 ∷ key_of 0 2 ∷ key_of 1 8 ∷ key_of 0 1 ∷ [])
     -- "a sum of 0 makes every share 0"
-    ∷ row (steal_order (still 1 4 (8 ∷ 8 ∷ []) (0 ∷ 0 ∷ []) [] three_and_one)) (key_of 0 3 ∷ key_of 0 2 ∷ key_of 1 8 ∷ key_of 0 1 ∷ [])
+    ∷ row (steal_order (still Of1993 4 (8 ∷ 8 ∷ []) (0 ∷ 0 ∷ []) [] three_and_one)) (key_of 0 3 ∷ key_of 0 2 ∷ key_of 1 8 ∷ key_of 0 1 ∷ [])
     -- the 1989 rule goes by the page
-    ∷ row (steal_order (still 0 4 (8 ∷ 8 ∷ []) (1 ∷ 1 ∷ []) [] three_and_one)) (key_of 1 8 ∷ key_of 0 3 ∷ key_of 0 2 ∷ key_of 0 1 ∷ [])
+    ∷ row (steal_order (still Of1989 4 (8 ∷ 8 ∷ []) (1 ∷ 1 ∷ []) [] three_and_one)) (key_of 1 8 ∷ key_of 0 3 ∷ key_of 0 2 ∷ key_of 0 1 ∷ [])
     -- "equal: higher file"
-    ∷ row (steal_order (still 1 4 (8 ∷ 8 ∷ []) (1 ∷ 1 ∷ []) [] (key_of 0 1 ∷ key_of 0 2 ∷ key_of 1 1 ∷ key_of 1 2 ∷ [])))
+    ∷ row (steal_order (still Of1993 4 (8 ∷ 8 ∷ []) (1 ∷ 1 ∷ []) [] (key_of 0 1 ∷ key_of 0 2 ∷ key_of 1 1 ∷ key_of 1 2 ∷ [])))
     (key_of 1 2 ∷ key_of 0 2 ∷ key_of 1 1 ∷ key_of 0 1 ∷ [])
     -- shares of 16 and 8 thirds, and both files below them: −10/3 and −5/3
-    ∷ row (steal_order (still 1 8 (8 ∷ 4 ∷ []) (1 ∷ 1 ∷ []) [] (key_of 0 1 ∷ key_of 0 2 ∷ key_of 1 1 ∷ []))) (key_of 1 1 ∷ key_of 0 2 ∷ key_of 0 1 ∷ [])
+    ∷ row (steal_order (still Of1993 8 (8 ∷ 4 ∷ []) (1 ∷ 1 ∷ []) [] (key_of 0 1 ∷ key_of 0 2 ∷ key_of 1 1 ∷ []))) (key_of 1 1 ∷ key_of 0 2 ∷ key_of 0 1 ∷ [])
     -- "(E − R, or 0 if negative)": as many attached as expected, and one more
-    ∷ row (steal_order (still 1 4 (8 ∷ 8 ∷ []) (2 ∷ 1 ∷ []) (2 ∷ 0 ∷ []) (key_of 0 1 ∷ key_of 1 1 ∷ key_of 1 2 ∷ [])))
+    ∷ row (steal_order (still Of1993 4 (8 ∷ 8 ∷ []) (2 ∷ 1 ∷ []) (2 ∷ 0 ∷ []) (key_of 0 1 ∷ key_of 1 1 ∷ key_of 1 2 ∷ [])))
     (key_of 0 1 ∷ key_of 1 2 ∷ key_of 1 1 ∷ [])
-    ∷ row (steal_order (still 1 4 (8 ∷ 8 ∷ []) (2 ∷ 1 ∷ []) (3 ∷ 0 ∷ []) (key_of 0 1 ∷ key_of 1 1 ∷ key_of 1 2 ∷ [])))
+    ∷ row (steal_order (still Of1993 4 (8 ∷ 8 ∷ []) (2 ∷ 1 ∷ []) (3 ∷ 0 ∷ []) (key_of 0 1 ∷ key_of 1 1 ∷ key_of 1 2 ∷ [])))
     (key_of 0 1 ∷ key_of 1 2 ∷ key_of 1 1 ∷ [])
     -- "compared without rounding": 1 − 4/3 and 2 − 8/3, which with shares rounded down are equal
-    ∷ row (steal_order (still 1 4 (4 ∷ 8 ∷ []) (1 ∷ 1 ∷ []) [] (key_of 0 1 ∷ key_of 1 1 ∷ key_of 1 2 ∷ []))) (key_of 0 1 ∷ key_of 1 2 ∷ key_of 1 1 ∷ [])
+    ∷ row (steal_order (still Of1993 4 (4 ∷ 8 ∷ []) (1 ∷ 1 ∷ []) [] (key_of 0 1 ∷ key_of 1 1 ∷ key_of 1 2 ∷ []))) (key_of 0 1 ∷ key_of 1 2 ∷ key_of 1 1 ∷ [])
     ∷ []
 
 pub weightings-hold : Hold weightings
@@ -70,18 +73,18 @@ weightings-hold = refl
 
 -- the number of an answer, and of the state the rule, E and R of files 0 and 1
 unfoldable pub told : Reply → List ℕ
-told r = code r.answer ∷ r.state.rule ∷ (take 2 r.state.expected ++ take 2 r.state.attaches)
+told r = code r.answer ∷ rule_number r.state.rule ∷ (take 2 r.state.expected ++ take 2 r.state.attaches)
 
 -- E of files 0 and 1
 abbrev expecting : ℕ → ℕ → List ℕ
 expecting a b = a ∷ b ∷ replicate 6 0
 
 -- two files of eight pages, with R of the first
-abbrev docking : ℕ → ℕ → State
+abbrev docking : Rule → ℕ → State
 docking rule attaches = still rule 4 (8 ∷ 8 ∷ []) (7 ∷ 1000 ∷ []) (attaches ∷ []) []
 
 -- all frames taken, a page of file 1 in fetch: file 0, of which readers are expected, has one page cached, and file 1, which is read, two
-abbrev crowded : ℕ → State
+abbrev crowded : Rule → State
 crowded rule = state_by rule (1 ∷ []) [] 3 0 40 0 (8 ∷ 8 ∷ []) (reader Running 1 10 0 8 ∷ []) (key_of 0 1 ∷ key_of 1 7 ∷ key_of 1 8 ∷ []) (key_of 1 1 ∷ [])
 
 unfoldable pub counting : List Row
@@ -93,15 +96,15 @@ counting =
     ∷ row (told (setup_of 1 1 0 (replicate 8 1) 0 (expecting 1001 1))) (1 ∷ 0 ∷ 0 ∷ 0 ∷ 0 ∷ 0 ∷ [])
     ∷ row (told (setup_of 1 1 0 (replicate 8 1) 2 (expecting 1 1))) (1 ∷ 0 ∷ 0 ∷ 0 ∷ 0 ∷ 0 ∷ [])
     -- "R counts attaches to the file", under either rule, "and stops at 65,535"
-    ∷ row (told (attach_of (docking 1 4) 15 0 10 0 8)) (5177344 ∷ 1 ∷ 7 ∷ 1000 ∷ 5 ∷ 0 ∷ [])
-    ∷ row (told (attach_of (docking 0 4) 15 1 10 0 8)) (5177344 ∷ 0 ∷ 7 ∷ 1000 ∷ 4 ∷ 1 ∷ [])
-    ∷ row (told (attach_of (docking 1 65534) 0 0 10 0 8)) (5177344 ∷ 1 ∷ 7 ∷ 1000 ∷ 65535 ∷ 0 ∷ [])
-    ∷ row (told (attach_of (docking 1 65535) 0 0 10 0 8)) (5177344 ∷ 1 ∷ 7 ∷ 1000 ∷ 65535 ∷ 0 ∷ [])
+    ∷ row (told (attach_of (docking Of1993 4) 15 0 10 0 8)) (5177344 ∷ 1 ∷ 7 ∷ 1000 ∷ 5 ∷ 0 ∷ [])
+    ∷ row (told (attach_of (docking Of1989 4) 15 1 10 0 8)) (5177344 ∷ 0 ∷ 7 ∷ 1000 ∷ 4 ∷ 1 ∷ [])
+    ∷ row (told (attach_of (docking Of1993 65534) 0 0 10 0 8)) (5177344 ∷ 1 ∷ 7 ∷ 1000 ∷ 65535 ∷ 0 ∷ [])
+    ∷ row (told (attach_of (docking Of1993 65535) 0 0 10 0 8)) (5177344 ∷ 1 ∷ 7 ∷ 1000 ∷ 65535 ∷ 0 ∷ [])
     -- a refused one is none: the slot is not empty
-    ∷ row (told (attach_of (crowded 1) 0 1 10 0 8)) (5 ∷ 1 ∷ 1 ∷ 0 ∷ 0 ∷ 0 ∷ [])
+    ∷ row (told (attach_of (crowded Of1993) 0 1 10 0 8)) (5 ∷ 1 ∷ 1 ∷ 0 ∷ 0 ∷ 0 ∷ [])
     -- Arrive goes by the rule: the 1989 rule drops page 1 of file 0, which nobody reads; the 1993 rule keeps it, and drops the page of file 1 that is used last
-    ∷ row (code (arrive_of (crowded 0) 1 1).answer ∷ cached_pages (arrive_of (crowded 0) 1 1).state) (4784129 ∷ key_of 1 1 ∷ key_of 1 7 ∷ key_of 1 8 ∷ [])
-    ∷ row (code (arrive_of (crowded 1) 1 1).answer ∷ cached_pages (arrive_of (crowded 1) 1 1).state) (4785160 ∷ key_of 0 1 ∷ key_of 1 1 ∷ key_of 1 7 ∷ [])
+    ∷ row (code (arrive_of (crowded Of1989) 1 1).answer ∷ cached_pages (arrive_of (crowded Of1989) 1 1).state) (4784129 ∷ key_of 1 1 ∷ key_of 1 7 ∷ key_of 1 8 ∷ [])
+    ∷ row (code (arrive_of (crowded Of1993) 1 1).answer ∷ cached_pages (arrive_of (crowded Of1993) 1 1).state) (4785160 ∷ key_of 0 1 ∷ key_of 1 1 ∷ key_of 1 7 ∷ [])
     ∷ []
 
 pub counting-hold : Hold counting

@@ -13,6 +13,7 @@ use Rattle.rules.specs.Schedules.{Set, count, Serves, fetches_in}
 use Rattle.rules.specs.Third.{Premises, laid, hit_pages, hit_sets}
 use Rattle.rules.proofs.calls.Refusals.{member}
 use Rattle.rules.proofs.third.Optimal.{third}
+use Rattle.rules.specs.declared.Rule.TheVariants.{Of1989}
 use Rattle.rules.specs.declared.State.{State}
 use Rattle.rules.specs.declared.Condition.TheVariants.{Empty}
 use Rattle.rules.specs.declared.Answer.TheVariants.{Ran}
@@ -28,7 +29,7 @@ module _ (s : State) (v : Valid s) (w : ℕ) where
 
   pub third-in-full : ((slot : ℕ) → Attached slot → (reader_at s slot).pace ≡ w) → s.fetch_time ≡ 0
       → ((slot : ℕ) → Attached slot → w * (reader_at s slot).last ≤ s.look_ahead) → length (fetching_pages s) ≡ 0
-      → s.rule ≡ 0 → (n : ℕ) → n ≤ 16384
+      → s.rule ≡ Of1989 → (n : ℕ) → n ≤ 16384
       → (fetches : ℕ) × (reads : ℕ) × ((run_of s n).answer ≡ Ran fetches reads)
       × (hit_pages n s ≡ laid n s) × (reads ≡ length (laid n s))
       × Serves 8192 s.frames (laid n s) (hit_sets n s) × (fetches ≡ fetches_in 8192 (cached s) (hit_sets n s))

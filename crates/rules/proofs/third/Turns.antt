@@ -50,6 +50,7 @@ use Rattle.rules.proofs.calls.Landings.{full-dropped, dropped-some, dropped-none
 use Rattle.rules.proofs.calls.Kept.{next-page, read_kept}
 use Rattle.rules.proofs.third.Moves.{now_at, goes_now, key_now, left}
 use Rattle.rules.proofs.third.Waits.{paused, steal-same}
+use Rattle.rules.specs.declared.Refusal.TheVariants.{SlotEmpty}
 use Rattle.rules.specs.declared.State.{State}
 use Rattle.rules.specs.declared.Reader.{Reader}
 use Rattle.rules.specs.declared.Reply.{Reply}
@@ -112,7 +113,7 @@ at_end r = eqb r.position r.last
 low-slot : (u : ℕ) → u < 16 → ltb 15 u ≡ false
 low-slot u h = less 15 u (λ b. b ≡ false) (λ l. absurd (omega arith)) (λ _. refl)
 
-read_none : (s : State) (u : ℕ) → u < 16 → (reader_at s u).condition ≡ Empty → read_of s u ≡ refused s 6
+read_none : (s : State) (u : ℕ) → u < 16 → (reader_at s u).condition ≡ Empty → read_of s u ≡ refused s SlotEmpty
 unfolding read_of
 read_none s u l e = rw (low-slot u l, e)
 
@@ -326,7 +327,7 @@ module _ (s : State) (v : Valid s) (closed : (k : ℕ) → T (in_fetch s k) → 
           (turn-case emptied-same (fetch-step (dropped s) refl))
 
   -- Read of the turn's slot is refused, Z, H or F
-  pub read_by : (P : Reply → Type 0) → P (refused s 6) → P (reply s End)
+  pub read_by : (P : Reply → Type 0) → P (refused s SlotEmpty) → P (reply s End)
       → (T (goes_now s) → T (cached s (key_now s)) → P (reply (with_reader s s.turn (onward (now_at s))) (Hit (now_at s).file ((now_at s).position + 1))))
       → (T (goes_now s) → T (not (cached s (key_now s))) → P (reply (awaiting s s.turn) (Fetch (now_at s).file ((now_at s).position + 1))))
       → P (read_of s s.turn)

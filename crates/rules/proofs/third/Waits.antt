@@ -1,16 +1,15 @@
 -- A reader that begins to wait, and its page in fetch, leave the steal order as it was where fetches take no time. Assumes nothing.
 use mathlib.Core.Path.{◌≡◌, refl, sym, ap}
-use mathlib.Core.Bool.{cond}
 use mathlib.Core.List.{List}
 use mathlib.Core.Logic.{inl}
 use Prim.Native.Nat.{ℕ, ◌<◌}
 use native.Mathlib.Omega.{arith}
 use lib.ListN.{get_or, set, length}
 use lib.Seq.{get_or-set_same, get_or-set_other}
-use lib.Dec.{T, eqb}
+use lib.Dec.{T}
 use Rattle.rules.specs.Readers.{no_reader, reader_at, attached, in_condition}
 use Rattle.rules.specs.Valid.{Valid}
-use Rattle.rules.specs.Orders.{weight, repeated, order1993, steal_order}
+use Rattle.rules.specs.Orders.{weight, repeated, order1993, by_rule, steal_order}
 use Rattle.rules.specs.Calls.{with_readers, with_fetching}
 use Rattle.rules.proofs.laws.Tests.{key, is_true}
 use Rattle.rules.proofs.orders.Local.{AlikeReader, alike_same, steal-local}
@@ -37,7 +36,7 @@ module _ (s : State) (v : Valid s) (u : ℕ) (l : u < 16) (here : T (attached (r
       → steal_order (with_fetching (with_readers s (paused s u)) fetching) ≡ steal_order s
   unfolding steal_order order1993
   steal-same free fetching w =
-      ap (λ l. cond (eqb s.rule 0) l (repeated s.frames (weight s) (length l) l))
+      ap (λ l. by_rule s.rule l (repeated s.frames (weight s) (length l) l))
       (steal-local (with_fetching (with_readers s (paused s u)) fetching) s w v
       (λ f.
       record {

@@ -20,13 +20,14 @@ use Rattle.rules.proofs.tables.Soundings.{up_to}
 use Rattle.rules.proofs.calls.Changes.{readers-changed}
 use Rattle.rules.proofs.calls.Kept.{same_at, setup-valid}
 use Rattle.rules.proofs.third.Optimal.{third}
+use Rattle.rules.specs.declared.Rule.TheVariants.{Of1989}
 use Rattle.rules.specs.declared.State.{State}
 use Rattle.rules.specs.declared.Reader.{Reader}
 use Rattle.rules.specs.declared.Answer.TheVariants.{Ran}
 
 -- two frames, nothing cached, a file of eight pages, and a look-ahead of 60 ticks
 abbrev start : State
-start = fresh 2 60 0 (8 ∷ replicate 7 0) 0 (replicate 8 0)
+start = fresh 2 60 0 (8 ∷ replicate 7 0) Of1989 (replicate 8 0)
 
 -- two readers of it up to page 6, the second three pages ahead of the first: at pace 10 the look-ahead covers their last page, and one tick less would not
 abbrev pub lead : State
