@@ -5,11 +5,12 @@ use Rattle.rules.specs.Lists.{within}
 use Rattle.rules.specs.Calls.{no_file, no_page, fresh, with_fetching}
 use Rattle.rules.specs.Orders.{weight_of}
 use Rattle.rules.specs.Views.{no_pages}
+use Rattle.rules.specs.declared.Rule.TheVariants.{Of1989}
 use Rattle.rules.specs.declared.State.{State}
 
 -- a state of these sizes and fetches: the rules' tests of files, pages and readers look at no more of it
 abbrev pub sized_with : List ℕ → List ℕ → State
-sized_with sizes fetching = with_fetching (fresh 1 1 0 sizes 0 (replicate 8 0)) fetching
+sized_with sizes fetching = with_fetching (fresh 1 1 0 sizes Of1989 (replicate 8 0)) fetching
 
 -- of these sizes, with nothing in fetch, which tests of files and pages do not look at
 abbrev sized : List ℕ → State

@@ -16,7 +16,7 @@ ghost use Rattle.parts.specs.Files.{no_file_in, no_page_in, no_range_in, weight_
 ghost use Rattle.parts.specs.Held.{Held};
 ghost use Rattle.parts.specs.Positions.{moved_to};
 
-use rules::{Condition, Reader, View};
+use rules::{Condition, Reader, Rule, View};
 
 // ---- numbers
 
@@ -293,7 +293,7 @@ pub fn view_of(
     sizes: [u16; 8],
     readers: [Reader; 16],
     marks: [u16; 16],
-    rule: u8,
+    rule: Rule,
     expected: [u16; 8],
     attaches: [u16; 8],
 ) -> View
@@ -331,7 +331,7 @@ pub fn fresh(
     look_ahead: u32,
     fetch_time: u32,
     sizes: [u16; 8],
-    rule: u8,
+    rule: Rule,
     expected: [u16; 8],
 ) -> View
     ensures { state_of result no_pages no_pages ≡ fresh frames look_ahead fetch_time sizes rule expected }
@@ -348,5 +348,5 @@ pub fn fresh(
 pub fn idle() -> View
     ensures { state_of result no_pages no_pages ≡ idle }
 {
-    fresh(1, 1, 0, [0u16; 8], 0, [0u16; 8])
+    fresh(1, 1, 0, [0u16; 8], Rule::Of1989, [0u16; 8])
 }
