@@ -30,9 +30,8 @@ pub struct Reader {
     pub last: u16,
 }
 
-// The box. A reader's mark, at its slot, is the position from which its pace is measured next. Of each file there
-// is the number of readers expected, and that of attaches, up to 65,535. A map has one bit a page, at the page's key. A type of the rules: no function passes
-// it.
+// The box. A reader's mark, at its slot, is the position from which its pace is measured next. Of each file there is the number of readers expected, and that
+// of attaches, up to 65,535. A map has one bit a page, at the page's key. A type of the rules: no function passes it.
 #[derive(Drop)]
 pub struct State {
     pub frames: u16,
