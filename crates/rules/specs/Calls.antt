@@ -18,7 +18,19 @@ use Rattle.rules.specs.declared.Condition.TheVariants.{Running, Waiting}
 use Rattle.rules.specs.declared.Rule.{Rule}
 use Rattle.rules.specs.declared.Rule.TheVariants.{Of1989, Of1993}
 use Rattle.rules.specs.declared.Refusal.{Refusal}
-use Rattle.rules.specs.declared.Refusal.TheVariants.{OutOfRange, NoSlot, NoFile, NoPace, SlotTaken, SlotEmpty, ReaderWaits, NoPage, NotInFetch, NoRange, NoInterval}
+use Rattle.rules.specs.declared.Refusal.TheVariants.{
+  OutOfRange,
+  NoSlot,
+  NoFile,
+  NoPace,
+  SlotTaken,
+  SlotEmpty,
+  ReaderWaits,
+  NoPage,
+  NotInFetch,
+  NoRange,
+  NoInterval,
+}
 
 abbrev pub reply : State → Answer → Reply
 reply s a = record { state = s; answer = a }

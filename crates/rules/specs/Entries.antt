@@ -32,30 +32,18 @@ lettered a n = letter a * 65536 + n
 -- "The number returned is the refusal's, or the answer letter's ..; for Run 4,294,967,296 + fetches × 65,536 + reads"
 unfoldable pub code : Answer → ℕ
 code (Refused why) = refusal_number why
-code Done = lettered Done 0
 code (Hit file page) = lettered (Hit file page) (key_of file page + 1)
 code (Wait file page) = lettered (Wait file page) (key_of file page + 1)
 code (Fetch file page) = lettered (Fetch file page) (key_of file page + 1)
-code End = lettered End 0
-code Nothing = lettered Nothing 0
 code (Stolen file page) = lettered (Stolen file page) (key_of file page + 1)
-code Arrived = lettered Arrived 0
 code (Replaced file page) = lettered (Replaced file page) (key_of file page + 1)
 code (Ran fetches reads) = 4294967296 + fetches * 65536 + reads
+code other = lettered other 0
 
--- the call was carried out
+-- the call was carried out: it was not refused
 abbrev pub carried_out : Answer → Bool
 carried_out (Refused why) = false
-carried_out Done = true
-carried_out (Hit file page) = true
-carried_out (Wait file page) = true
-carried_out (Fetch file page) = true
-carried_out End = true
-carried_out Nothing = true
-carried_out (Stolen file page) = true
-carried_out Arrived = true
-carried_out (Replaced file page) = true
-carried_out (Ran fetches reads) = true
+carried_out other = true
 
 -- "Attach, Detach, Read, Arrive, Lost, Prefetch, Steal, Run", with their numbers; A.1: Attach has the start and the last page at its end; A.2: "a call
 -- with slot, interval .. and the ticks blocked in it", which "answers O, in a C entry too"

@@ -7,7 +7,7 @@ use Rattle.rules.specs.declared.Refusal.TheVariants.{TooManyTurns, FetchOpen}
 use Rattle.rules.specs.declared.State.{State}
 use Rattle.rules.specs.declared.Reply.{Reply}
 use Rattle.rules.specs.declared.Answer.{Answer}
-use Rattle.rules.specs.declared.Answer.TheVariants.{Refused, Done, Hit, Wait, Fetch, End, Nothing, Stolen, Arrived, Replaced, Ran}
+use Rattle.rules.specs.declared.Answer.TheVariants.{Hit, Fetch, Ran}
 
 -- "A fetch is open if a page is in fetch"
 unfoldable pub fetch_open : State → Bool
@@ -15,31 +15,13 @@ fetch_open s = not (eqb (length (fetching_pages s)) 0)
 
 -- what a turn does with Read's answer: F, or anything else
 abbrev pub on_fetch : {A : Type 0} → Answer → (ℕ → ℕ → A) → A → A
-on_fetch (Refused n) f a = a
-on_fetch Done f a = a
-on_fetch (Hit file page) f a = a
-on_fetch (Wait file page) f a = a
 on_fetch (Fetch file page) f a = f file page
-on_fetch End f a = a
-on_fetch Nothing f a = a
-on_fetch (Stolen file page) f a = a
-on_fetch Arrived f a = a
-on_fetch (Replaced file page) f a = a
-on_fetch (Ran fetches reads) f a = a
+on_fetch other f a = a
 
 -- the page of an H, if it is one
 abbrev pub hit_page : Answer → List ℕ
-hit_page (Refused n) = []
-hit_page Done = []
 hit_page (Hit file page) = key_of file page ∷ []
-hit_page (Wait file page) = []
-hit_page (Fetch file page) = []
-hit_page End = []
-hit_page Nothing = []
-hit_page (Stolen file page) = []
-hit_page Arrived = []
-hit_page (Replaced file page) = []
-hit_page (Ran fetches reads) = []
+hit_page other = []
 
 -- one turn: the state after it, 1 if it met F, and the page of its H if it ended in H
 pub record Turn : Type 0 where

@@ -1,9 +1,15 @@
-// The types of the box. What each call does with them is in specs/, rule by rule: on a whole State. The code has the maps lent, and the rest as a View.
+// The types of the box, and the numbers that stand for them outside. What each call does with them is in specs/, rule by rule: on a whole State. The code has
+// the maps lent, and the rest as a View.
 
 #![tactic(auto)]
 
-ghost use Rattle.std.specs.Prelude.{◌≡◌};
+ghost use Rattle.std.specs.Prelude.{◌≡◌, ◌+◌, ◌*◌};
+ghost use Rattle.rules.specs.Pages.{key_of};
+ghost use Rattle.rules.specs.Calls.{rule_of};
+ghost use Rattle.rules.specs.Image.{rule_number};
 ghost use Rattle.rules.specs.Refusals.{refusal_number};
+ghost use Rattle.rules.specs.Entries.{code, carried_out};
+ghost use Rattle.rules.specs.declared.Answer.TheVariants.{Refused};
 
 // A reader's condition.
 #[derive(Clone, Copy, PartialEq, Eq)]
@@ -16,8 +22,27 @@ pub enum Condition {
 // The steal rule: that of 1989, or that of 1993 (A.6).
 #[derive(Clone, Copy, PartialEq, Eq)]
 pub enum Rule {
-    Of1989,
-    Of1993,
+    Of1989 = 0,
+    Of1993 = 1,
+}
+
+impl Rule {
+    // Its number in an image.
+    pub fn number(self) -> u8
+        ensures { result ≡ rule_number self }
+    {
+        self as u8
+    }
+
+    // The rule of a number: what is refused with a number above 1 is not asked for its rule.
+    pub fn from_number(number: u64) -> Rule
+        ensures { result ≡ rule_of number }
+    {
+        if number == 0 {
+            return Rule::Of1989;
+        }
+        Rule::Of1993
+    }
 }
 
 // A reader slot's record: the position is the last page read, the pace the ticks for a page, and the last page the one at which the reader is at its end.
@@ -30,9 +55,8 @@ pub struct Reader {
     pub last: u16,
 }
 
-// The box. A reader's mark, at its slot, is the position from which its pace is measured next. Of each file there
-// is the number of readers expected, and that of attaches, up to 65,535. A map has one bit a page, at the page's key. A type of the rules: no function passes
-// it.
+// The box. A reader's mark, at its slot, is the position from which its pace is measured next. Of each file there is the number of readers expected, and that
+// of attaches, up to 65,535. A map has one bit a page, at the page's key. A type of the rules: no function passes it.
 #[derive(Drop)]
 pub struct State {
     pub frames: u16,
@@ -109,6 +133,57 @@ pub enum Answer {
     Arrived,
     Replaced { file: u8, page: u16 },
     Ran { fetches: u16, reads: u16 },
+}
+
+impl From<Refusal> for Answer {
+    ghost from_gives = { λ why a. a ≡ Refused why };
+
+    fn from(why: Refusal) -> Answer {
+        Answer::Refused(why)
+    }
+}
+
+impl Answer {
+    // The number that a door for numbers returns: "the refusal's, or the answer letter's ASCII code × 65,536 + ..".
+    #[tactic(auto, unfolding(crate::specs::Entries::code))]
+    pub fn number(self) -> u64
+        ensures { result ≡ code self }
+    {
+        match self {
+            Answer::Refused(why) => why.number() as u64,
+            Answer::Done => lettered(b'O', 0),
+            Answer::Hit { file, page } => lettered(b'H', page_number(file, page)),
+            Answer::Wait { file, page } => lettered(b'W', page_number(file, page)),
+            Answer::Fetch { file, page } => lettered(b'F', page_number(file, page)),
+            Answer::End => lettered(b'Z', 0),
+            Answer::Nothing => lettered(b'U', 0),
+            Answer::Stolen { file, page } => lettered(b'S', page_number(file, page)),
+            Answer::Arrived => lettered(b'I', 0),
+            Answer::Replaced { file, page } => lettered(b'I', page_number(file, page)),
+            Answer::Ran { fetches, reads } => 4294967296 + (fetches as u64) * 65536 + (reads as u64),
+        }
+    }
+
+    // Was the call carried out, and not refused?
+    pub fn carried_out(self) -> bool
+        ensures { result ≡ carried_out self }
+    {
+        !matches!(self, Answer::Refused(_))
+    }
+}
+
+// A page's key + 1. No answer names a page 0; of file 0 it would have key 0, as page 1 has.
+fn page_number(file: u8, page: u16) -> u32
+    ensures { result ≡ key_of file page + 1 }
+{
+    ((file as u32) * 1024 + page as u32).max(1)
+}
+
+// A letter's number: its ASCII code, then the page's number or 0.
+fn lettered(letter: u8, n: u32) -> u64
+    ensures { result ≡ letter * 65536 + n }
+{
+    (letter as u64) * 65536 + n as u64
 }
 
 // What Steal list and Fetch list count: the keys written, and how many pages the walks along the look-aheads tested.

@@ -128,9 +128,9 @@ One s slot r = ButSlot s slot r.state
 pub one-record : (c : SlotCall) (s : State) (slot : ℕ) → ButSlot s slot (call_of (call_at c slot) s).state
 unfolding attach_of read_of read_running detach_of measure_of
 one-record (attaching file pace start last) s slot = search (cond-all (One s slot), condition-all (One s slot), same-state, slot_counted) depth 12
-one-record reading s slot = search (cond-all (One s slot), condition-all (One s slot), same-state, slot-set, record-set) depth 12
-one-record detaching s slot = search (cond-all (One s slot), condition-all (One s slot), same-state, slot-set, record-set) depth 12
-one-record (measuring interval blocked) s slot = search (cond-all (One s slot), condition-all (One s slot), same-state, slot-set, record-set) depth 12
+one-record reading s slot = search (cond-all (One s slot), condition-all (One s slot), same-state, record-set) depth 12
+one-record detaching s slot = search (cond-all (One s slot), condition-all (One s slot), same-state, slot-set) depth 12
+one-record (measuring interval blocked) s slot = search (cond-all (One s slot), condition-all (One s slot), same-state, slot-set) depth 12
 
 -- q is r but for its pace
 pub record ButPace (r q : Reader) : Type 0 where

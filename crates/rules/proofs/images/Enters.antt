@@ -17,36 +17,18 @@ use Rattle.rules.proofs.calls.Kept.{kept}
 use Rattle.rules.proofs.calls.Refusals.{refused-same}
 use Rattle.rules.specs.declared.Refusal.{Refusal}
 use Rattle.rules.specs.declared.Answer.{Answer}
-use Rattle.rules.specs.declared.Answer.TheVariants.{Refused, Done, Hit, Wait, Fetch, End, Nothing, Stolen, Arrived, Replaced, Ran}
+use Rattle.rules.specs.declared.Answer.TheVariants.{Refused, Done}
 
 -- by whether an answer is a refusal
 answer-all : {A : Type 0} (P : A → Type 0) (a : Answer) (x y : A) → P x → ((why : Refusal) → a ≡ Refused why → P y) → P (cond (carried_out a) x y)
 answer-all P (Refused why) x y p q = q why refl
-answer-all P Done x y p q = p
-answer-all P (Hit file page) x y p q = p
-answer-all P (Wait file page) x y p q = p
-answer-all P (Fetch file page) x y p q = p
-answer-all P End x y p q = p
-answer-all P Nothing x y p q = p
-answer-all P (Stolen file page) x y p q = p
-answer-all P Arrived x y p q = p
-answer-all P (Replaced file page) x y p q = p
-answer-all P (Ran fetches reads) x y p q = p
+answer-all P other x y p q = p
 
 -- a number up to 16 is a refusal's, and leaves the buffer
 low-left : (a : Answer) (saved image : List ℕ) → code a ≤ 16 → cond (carried_out a) saved image ≡ image
 unfolding code
 low-left (Refused why) saved image h = refl
-low-left Done saved image h = absurd (omega arith)
-low-left (Hit file page) saved image h = absurd (omega arith)
-low-left (Wait file page) saved image h = absurd (omega arith)
-low-left (Fetch file page) saved image h = absurd (omega arith)
-low-left End saved image h = absurd (omega arith)
-low-left Nothing saved image h = absurd (omega arith)
-low-left (Stolen file page) saved image h = absurd (omega arith)
-low-left Arrived saved image h = absurd (omega arith)
-low-left (Replaced file page) saved image h = absurd (omega arith)
-low-left (Ran fetches reads) saved image h = absurd (omega arith)
+low-left other saved image h = absurd (omega arith)
 
 module _ (c : Call) (image : List ℕ) where
   -- where Restore refuses the image, 13, and the buffer is as it was

@@ -21,7 +21,7 @@ use Rattle.rules.specs.declared.Refusal.TheVariants.{NoFile, NoPage, NotInFetch}
 use Rattle.rules.specs.declared.Condition.{Condition}
 use Rattle.rules.specs.declared.Condition.TheVariants.{Empty, Running, Waiting}
 use Rattle.rules.specs.declared.Answer.{Answer}
-use Rattle.rules.specs.declared.Answer.TheVariants.{Refused, Done, Hit, Wait, Fetch, End, Nothing, Stolen, Arrived, Replaced, Ran}
+use Rattle.rules.specs.declared.Answer.TheVariants.{Fetch}
 
 module _ {A : Type 0} (P : A → Type 0) where
   -- by a test
@@ -47,17 +47,8 @@ module _ {A : Type 0} (P : A → Type 0) where
 
   -- by whether Read's answer is F
   pub fetch-all : (a : Answer) (f : ℕ → ℕ → A) (x : A) → ((file page : ℕ) → a ≡ Fetch file page → P (f file page)) → P x → P (on_fetch a f x)
-  fetch-all (Refused n) f x g h = h
-  fetch-all Done f x g h = h
-  fetch-all (Hit file page) f x g h = h
-  fetch-all (Wait file page) f x g h = h
   fetch-all (Fetch file page) f x g h = g file page refl
-  fetch-all End f x g h = h
-  fetch-all Nothing f x g h = h
-  fetch-all (Stolen file page) f x g h = h
-  fetch-all Arrived f x g h = h
-  fetch-all (Replaced file page) f x g h = h
-  fetch-all (Ran fetches reads) f x g h = h
+  fetch-all other f x g h = h
 
   -- where the outcome is known, its branch is enough: the test passes
   pub cond_yes : (b : Bool) (x y : A) → b ≡ true → P x → P (cond b x y)

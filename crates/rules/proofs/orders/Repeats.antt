@@ -52,7 +52,7 @@ use Rattle.rules.specs.declared.Rule.TheVariants.{Of1989, Of1993}
 use Rattle.rules.specs.declared.State.{State}
 use Rattle.rules.specs.declared.Reader.{Reader}
 use Rattle.rules.specs.declared.Answer.{Answer}
-use Rattle.rules.specs.declared.Answer.TheVariants.{Refused, Done, Hit, Wait, Fetch, End, Nothing, Stolen, Arrived, Replaced, Ran}
+use Rattle.rules.specs.declared.Answer.TheVariants.{Nothing, Stolen}
 
 -- the state after page k is dropped
 abbrev pub drop_page : State → ℕ → State
@@ -305,17 +305,8 @@ module _ (s : State) (w : Valid s) (k : ℕ) (e : victim s ≡ Some k) where
 
 -- the page that an answer names as stolen
 abbrev stolen : Answer → List ℕ
-stolen (Refused n) = []
-stolen Done = []
-stolen (Hit file page) = []
-stolen (Wait file page) = []
-stolen (Fetch file page) = []
-stolen End = []
-stolen Nothing = []
 stolen (Stolen file page) = key_of file page ∷ []
-stolen Arrived = []
-stolen (Replaced file page) = []
-stolen (Ran fetches reads) = []
+stolen other = []
 
 -- the pages that n Steals drop, one after the other
 unfoldable pub steals : ℕ → State → List ℕ

@@ -87,6 +87,10 @@ docking rule attaches = still rule 4 (8 ∷ 8 ∷ []) (7 ∷ 1000 ∷ []) (attac
 abbrev crowded : Rule → State
 crowded rule = state_by rule (1 ∷ []) [] 3 0 40 0 (8 ∷ 8 ∷ []) (reader Running 1 10 0 8 ∷ []) (key_of 0 1 ∷ key_of 1 7 ∷ key_of 1 8 ∷ []) (key_of 1 1 ∷ [])
 
+-- the number of Arrive's answer, and the pages cached after it
+abbrev landing : Rule → List ℕ
+landing rule = let r = arrive_of (crowded rule) 1 1 in code r.answer ∷ cached_pages r.state
+
 unfoldable pub counting : List Row
 counting =
     -- "0 to 1,000; outside that, or a rule other than the two, is refusal 1", under either rule; the idle state has the 1989 rule
@@ -103,8 +107,8 @@ counting =
     -- a refused one is none: the slot is not empty
     ∷ row (told (attach_of (crowded Of1993) 0 1 10 0 8)) (5 ∷ 1 ∷ 1 ∷ 0 ∷ 0 ∷ 0 ∷ [])
     -- Arrive goes by the rule: the 1989 rule drops page 1 of file 0, which nobody reads; the 1993 rule keeps it, and drops the page of file 1 that is used last
-    ∷ row (code (arrive_of (crowded Of1989) 1 1).answer ∷ cached_pages (arrive_of (crowded Of1989) 1 1).state) (4784129 ∷ key_of 1 1 ∷ key_of 1 7 ∷ key_of 1 8 ∷ [])
-    ∷ row (code (arrive_of (crowded Of1993) 1 1).answer ∷ cached_pages (arrive_of (crowded Of1993) 1 1).state) (4785160 ∷ key_of 0 1 ∷ key_of 1 1 ∷ key_of 1 7 ∷ [])
+    ∷ row (landing Of1989) (4784129 ∷ key_of 1 1 ∷ key_of 1 7 ∷ key_of 1 8 ∷ [])
+    ∷ row (landing Of1993) (4785160 ∷ key_of 0 1 ∷ key_of 1 1 ∷ key_of 1 7 ∷ [])
     ∷ []
 
 pub counting-hold : Hold counting

@@ -28,7 +28,22 @@ use Rattle.rules.specs.Orders.{
   steal_order,
   victim,
 }
-use Rattle.rules.specs.Calls.{with_reader, with_cached, rule_of, fresh, settings_in, setup_of, read_running, read_of, full, dropped, woken, landed, for_fetch, arrive_of}
+use Rattle.rules.specs.Calls.{
+  with_reader,
+  with_cached,
+  rule_of,
+  fresh,
+  settings_in,
+  setup_of,
+  read_running,
+  read_of,
+  full,
+  dropped,
+  woken,
+  landed,
+  for_fetch,
+  arrive_of,
+}
 use Rattle.rules.specs.Run.{fetch_open, read_turn, turn_of, turns_of, run_of}
 use Rattle.rules.specs.Schedules.{Set, Serves, fetches_in}
 use Rattle.rules.specs.Third.{Covers, Premises, laid, hit_sets, Best}
