@@ -1,2 +1,2 @@
--- What every entry shares.
+-- What every entry rests on.
 pub mod Entering

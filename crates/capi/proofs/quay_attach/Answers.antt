@@ -1,24 +1,7 @@
--- The buffer has another length, Restore refuses the image, or Attach is done on its state and `finish` ends the entry.
-use borrow.Author.Rules.{rules}
+-- Attach on the box that the image gives.
+use Rattle.std.proofs.Common.{rules}
 use Rattle.rules.specs.Entries.{attach}
-use Rattle.capi.proofs.Entering.{Lent, entry_length, entry-unrestored, entry_ready, entry-restored}
 use Rattle.capi.proofs.quay_attach.Goals as goal
 
-pub returns-then-image-ne-LENGTH : goal.returns-then-image-ne-LENGTH
-returns-then-image-ne-LENGTH c =
-    entry_length (attach _ _ _ _ _) c.args.image.now c.if-image-ne-LENGTH.true
-
-pub returns-then-not-carried_out : goal.returns-then-not-carried_out
-returns-then-not-carried_out c =
-    entry-unrestored _ _ c.restore_read-restored.ensures.fetching_after _ c.carried_out.ensures (attach _ _ _ _ _) c.if-not-carried_out.true
-
-pub finish-requires : goal.finish-requires
-finish-requires c =
-    let lent : Lent c.args.image.now = search rules in
-    entry_ready _ _ c.restore_read-restored.ensures.fetching_after _ c.carried_out.ensures (attach _ _ _ _ _) c.if-not-carried_out.false
-    _ (c.attach.ensures.by_index _ _) lent
-
 pub returns : goal.returns
-returns c =
-    entry-restored _ _ c.restore_read-restored.ensures.fetching_after _ c.carried_out.ensures (attach _ _ _ _ _) c.if-not-carried_out.false
-    _ (c.attach.ensures.by_index _ _) _ c.finish.ensures
+returns c = c.enter.ensures (attach _ _ _ _ _) (λ s t a m. search rules)

@@ -1,29 +1,7 @@
--- The buffer has another length, Restore refuses the image, or Steal is done on its state and `finish` ends the entry.
-use borrow.Author.Rules.{rules}
+-- Steal on the box that the image gives.
+use Rattle.std.proofs.Common.{rules}
 use Rattle.rules.specs.Entries.{steal}
-use Rattle.capi.proofs.Entering.{Lent, entry_length, entry-valid, entry-unrestored, entry_ready, entry-restored}
 use Rattle.capi.proofs.quay_steal.Goals as goal
 
-pub returns-then-image-ne-LENGTH : goal.returns-then-image-ne-LENGTH
-returns-then-image-ne-LENGTH c =
-    entry_length steal c.args.image.now c.if-image-ne-LENGTH.true
-
-pub returns-then-not-carried_out : goal.returns-then-not-carried_out
-returns-then-not-carried_out c =
-    entry-unrestored _ _ c.restore_read-restored.ensures.fetching_after _ c.carried_out.ensures steal c.if-not-carried_out.true
-
-pub steal-answer-requires-clause-valid : goal.steal-answer-requires-clause-valid
-steal-answer-requires-clause-valid c =
-    let lent : Lent c.args.image.now = search rules in
-    entry-valid _ _ c.restore_read-restored.ensures.fetching_after lent
-
-pub finish-requires : goal.finish-requires
-finish-requires c =
-    let lent : Lent c.args.image.now = search rules in
-    entry_ready _ _ c.restore_read-restored.ensures.fetching_after _ c.carried_out.ensures steal c.if-not-carried_out.false
-    _ c.steal-answer.ensures.result_after lent
-
 pub returns : goal.returns
-returns c =
-    entry-restored _ _ c.restore_read-restored.ensures.fetching_after _ c.carried_out.ensures steal c.if-not-carried_out.false
-    _ c.steal-answer.ensures.result_after _ c.finish.ensures
+returns c = c.enter.ensures steal (λ s t a m. search rules)

@@ -1,0 +1,2 @@
+-- What the contract of every entry speaks of.
+pub mod Does
