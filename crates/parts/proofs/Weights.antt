@@ -1,9 +1,8 @@
 -- The files' weights (A.6): products of small numbers are small, and each weight is at most the sum. Assumes nothing.
-use Prim.Native.Nat.{ℕ, ◌-◌, ◌*◌, ◌≤◌, ◌<◌}
-use mathlib.Core.Path.{◌≡◌, refl, sym, ap, ◌∙◌}
+use Prim.Native.Nat.{ℕ, max, ◌-◌, ◌*◌, ◌≤◌, ◌<◌}
+use mathlib.Core.Path.{◌≡◌, ap, ◌∙◌}
 use mathlib.Core.Bool.{cond}
 use mathlib.Core.List.{List}
-use mathlib.Core.Logic.{◌≢◌}
 use native.Mathlib.Nat.{mul-le-mul}
 use native.Mathlib.Omega.{arith}
 use lib.ListN.{get_or}
@@ -43,15 +42,9 @@ weighed-in frames sum w f expected attaches sizes r l e g =
     (omega (arith, r.expected_high i)) (r.sizes_high i) in
     (r.frames_high, omega (arith, e, g, weight-part weights f l), omega (arith, e, sum-small weights 1024000 (omega arith) each))
 
--- the sum of all eight, if it is 0, and if it is not
-module _ (g : ℕ → ℕ) (n i : ℕ) (low : i ≤ 8) (high : 8 ≤ i) (e : n ≡ total i g) where
-  all-summed : total 8 g ≡ n
-  all-summed = let q : i ≡ 8 = omega arith in sym (e ∙ ap (λ j. total j g) q)
-
-  pub sum-none : n ≡ 0 → 1 ≡ weight_sum g
-  unfolding weight_sum
-  sum-none z = key (total 8 g) 0 (λ t. 1 ≡ cond t 1 (total 8 g)) (λ _. refl) (λ ne. absurd (ne (all-summed ∙ z)))
-
-  pub sum-some : n ≢ 0 → n ≡ weight_sum g
-  unfolding weight_sum
-  sum-some ne = key (total 8 g) 0 (λ t. n ≡ cond t 1 (total 8 g)) (λ z. absurd (ne (sym all-summed ∙ z))) (λ _. sym all-summed)
+-- the sum of all eight, held to 1 or more
+pub sum-held : (g : ℕ → ℕ) (n i : ℕ) → i ≡ 8 → n ≡ total i g → max n 1 ≡ weight_sum g
+unfolding weight_sum
+sum-held g n i q e =
+    let all : n ≡ total 8 g = e ∙ ap (λ j. total j g) q in
+    key (total 8 g) 0 (λ t. max n 1 ≡ cond t 1 (total 8 g)) (λ z. omega (arith, all, z)) (λ ne. omega (arith, all, ne))

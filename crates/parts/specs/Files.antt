@@ -1,10 +1,15 @@
 -- The rules' tests of files and pages by the sizes alone, the files' weights, and the numbers whose key can be worked out. Assumes nothing: these are
 -- definitions.
-use Rattle.std.specs.Prelude.{ℕ, ◌≤◌, ◌<◌, Bool, not, ◌||◌, ltb, List, get_or, replicate}
+use Rattle.std.specs.Prelude.{ℕ, ◌≤◌, ◌<◌, Bool, not, cond, ◌||◌, ltb, List, get_or, replicate}
+use Rattle.std.specs.declared.result.Result.{Result}
+use Rattle.std.specs.declared.result.Result.TheVariants.{Ok, Err}
 use Rattle.rules.specs.Lists.{within}
-use Rattle.rules.specs.Calls.{no_file, no_page, fresh, with_fetching}
+use Rattle.rules.specs.Pages.{key_of}
+use Rattle.rules.specs.Calls.{no_slot, no_file, no_page, fresh, with_fetching}
 use Rattle.rules.specs.Orders.{weight_of}
 use Rattle.rules.specs.Views.{no_pages}
+use Rattle.rules.specs.declared.Refusal.{Refusal}
+use Rattle.rules.specs.declared.Refusal.TheVariants.{NoSlot, NoFile, NoPage}
 use Rattle.rules.specs.declared.Rule.TheVariants.{Of1989}
 use Rattle.rules.specs.declared.State.{State}
 
@@ -26,6 +31,16 @@ no_page_in sizes file page = no_page (sized sizes) file page
 -- 15 by the file's size
 abbrev pub no_range_in : ℕ → ℕ → ℕ → Bool
 no_range_in size start last = not (within 1 size last) || ltb last start
+
+-- the file, the key of the page, and the slot of such numbers, or the refusal
+abbrev pub file_in : List ℕ → ℕ → Result ℕ Refusal
+file_in sizes file = cond (no_file_in sizes file) (Err NoFile) (Ok file)
+
+abbrev pub key_in : List ℕ → ℕ → ℕ → Result ℕ Refusal
+key_in sizes file page = cond (no_file_in sizes file) (Err NoFile) (cond (no_page_in sizes file page) (Err NoPage) (Ok (key_of file page)))
+
+abbrev pub slot_in : ℕ → Result ℕ Refusal
+slot_in slot = cond (no_slot slot) (Err NoSlot) (Ok slot)
 
 -- a file's weight (A.6) by E, R and the sizes
 abbrev pub weight_in : List ℕ → List ℕ → List ℕ → ℕ → ℕ

@@ -3,7 +3,7 @@
 
 #![tactic(auto)]
 
-ghost use Rattle.std.specs.Prelude.{◌≡◌, false, List, ℕ, min, ◌+◌, ◌-◌, ◌*◌, ◌/◌, ◌%◌, ◌≤◌, ◌<◌, get_or, length};
+ghost use Rattle.std.specs.Prelude.{◌≡◌, false, List, ℕ, IfOk, min, ◌+◌, ◌-◌, ◌*◌, ◌/◌, ◌%◌, ◌≤◌, ◌<◌, get_or, length};
 ghost use Rattle.bits.specs.Map.{bit, ones, put_bit};
 ghost use Rattle.rules.specs.Views.{state_of, no_pages};
 ghost use Rattle.rules.specs.Lists.{within};
@@ -12,11 +12,11 @@ ghost use Rattle.rules.specs.Readers.{no_reader, attached, next_key, in_conditio
 ghost use Rattle.rules.specs.Calls.{fresh, idle, docked};
 ghost use Rattle.rules.specs.Orders.{weight_of, weight_sum, standing};
 ghost use Rattle.rules.specs.Questions.{slot_at};
-ghost use Rattle.parts.specs.Files.{no_file_in, no_page_in, no_range_in, weight_in, Small};
+ghost use Rattle.parts.specs.Files.{no_file_in, no_page_in, no_range_in, file_in, key_in, slot_in, weight_in, Small};
 ghost use Rattle.parts.specs.Held.{Held};
 ghost use Rattle.parts.specs.Positions.{moved_to};
 
-use rules::{Condition, Reader, Rule, View};
+use rules::{Condition, Reader, Refusal, Rule, View};
 
 // ---- numbers
 
@@ -27,10 +27,7 @@ pub const NEVER: u64 = 67108864;
 pub fn lesser(a: u64, b: u64) -> u64
     ensures { result ≡ min a b }
 {
-    if a < b {
-        return a;
-    }
-    b
+    a.min(b)
 }
 
 // The seat distance of a slot.
@@ -55,7 +52,7 @@ pub fn slot_at(turn: u8, distance: u32) -> u8
 pub fn within(low: u64, high: u64, n: u64) -> bool
     ensures { result ≡ within low high n }
 {
-    low <= n && n <= high
+    (low..=high).contains(&n)
 }
 
 // 3: file above 7 or of size 0.
@@ -79,6 +76,39 @@ pub fn no_range(size: u16, start: u64, last: u64) -> bool
     ensures short { result ≡ false → last < 65536 }
 {
     !within(1, size as u64, last) || last < start
+}
+
+// The file of a number, if it is there.
+pub fn file_in(sizes: [u16; 8], file: u64) -> Result<usize, Refusal>
+    ensures value { result ≡ file_in sizes file }
+    ensures inside { IfOk result (λ f. f < 8) }
+{
+    if no_file(sizes, file) {
+        return Err(Refusal::NoFile);
+    }
+    Ok(file as usize)
+}
+
+// The key of a page, if its file has it.
+pub fn key_in(sizes: [u16; 8], file: u64, page: u64) -> Result<usize, Refusal>
+    ensures { result ≡ key_in sizes file page }
+{
+    file_in(sizes, file)?;
+    if no_page(sizes, file, page) {
+        return Err(Refusal::NoPage);
+    }
+    Ok(page_key(file, page))
+}
+
+// The slot of a number, if there is one.
+pub fn slot_in(slot: u64) -> Result<usize, Refusal>
+    ensures value { result ≡ slot_in slot }
+    ensures inside { IfOk result (λ i. i < 16) }
+{
+    if 15 < slot {
+        return Err(Refusal::NoSlot);
+    }
+    Ok(slot as usize)
 }
 
 // The key of a page, whether the file has the page or not.
@@ -110,10 +140,7 @@ pub fn weight(expected: u16, attaches: u16, size: u16) -> u64
     ensures value { result ≡ weight_of expected attaches size }
     ensures small { result < 4294967296 }
 {
-    if expected < attaches {
-        return 0;
-    }
-    ((expected - attaches) as u64) * (size as u64)
+    expected.saturating_sub(attaches) as u64 * size as u64
 }
 
 // The sum of the files' weights, or 1 where all are 0.
@@ -121,15 +148,10 @@ pub fn weight_sum(expected: [u16; 8], attaches: [u16; 8], sizes: [u16; 8]) -> u6
     ensures { result ≡ weight_sum (weight_in expected attaches sizes) }
 {
     let mut sum: u64 = 0;
-    let mut file: usize = 0;
-    while file < 8 {
+    for file in 0..8 {
         sum += weight(expected[file], attaches[file], sizes[file]);
-        file += 1;
     }
-    if sum == 0 {
-        return 1;
-    }
-    sum
+    sum.max(1)
 }
 
 // The number by which a file is chosen that has so many cached pages and this weight, of this sum.
@@ -139,7 +161,7 @@ pub fn standing(frames: u16, sum: u64, weight: u64, file: usize, pages: u64) -> 
     ensures value { result ≡ standing frames sum weight file pages }
     ensures small { result < 274877906944 }
 {
-    (pages * sum + (frames as u64) * (sum - weight)) * 8 + file as u64
+    (pages * sum + frames as u64 * (sum - weight)) * 8 + file as u64
 }
 
 // ---- how many cached pages each file has
@@ -149,20 +171,9 @@ pub fn count_held(cached: &[u64; 128], held: &mut [u16; 8])
     requires { length held.old ≡ 8 }
     ensures { Held cached.now held.new }
 {
-    let mut file: usize = 0;
-    while file < 8 {
-        let n = bits::count(cached, file * 1024, 1024);
-        held[file] = n as u16;
-        file += 1;
+    for (file, n) in held.iter_mut().enumerate() {
+        *n = bits::count(cached, file * 1024, 1024) as u16;
     }
-}
-
-// So many, and those of one file more.
-fn and_more(taken: u32, n: u16) -> u32
-    requires { taken ≤ 1000000 }
-    ensures { result ≡ taken + n }
-{
-    taken + n as u32
 }
 
 // How many frames are taken.
@@ -171,10 +182,8 @@ pub fn taken(held: &[u16; 8]) -> u32
     ensures { (cached : List ℕ) → Held cached held.now → result ≡ ones cached 0 8192 }
 {
     let mut taken: u32 = 0;
-    let mut file: usize = 0;
-    while file < 8 {
-        taken = and_more(taken, held[file]);
-        file += 1;
+    for n in held.iter() {
+        taken += *n as u32;
     }
     taken
 }
@@ -185,8 +194,7 @@ pub fn page_in(held: &mut [u16; 8], key: usize)
     ensures { (cached : List ℕ) → Held cached held.old → bit cached key ≡ 0 → key / 64 < length cached
         → Held (put_bit cached key 1) held.new }
 {
-    let n = held[key / 1024];
-    held[key / 1024] = n + 1;
+    held[key / 1024] += 1;
 }
 
 // A page that was cached is not.
@@ -195,13 +203,12 @@ pub fn page_out(held: &mut [u16; 8], key: usize)
     ensures { (cached : List ℕ) → Held cached held.old → bit cached key ≡ 1 → key / 64 < length cached
         → Held (put_bit cached key 0) held.new }
 {
-    let n = held[key / 1024];
-    held[key / 1024] = n - 1;
+    held[key / 1024] -= 1;
 }
 
 // ---- readers
 
-// A record of these parts, as an image has them. All others are made of it.
+// A record of these parts, as an image has them.
 pub fn reader_of(condition: Condition, file: u8, pace: u16, position: u16, last: u16) -> Reader
     ensures { result ≡ record { condition = condition; file = file; pace = pace; position = position; last = last } }
 {
@@ -218,14 +225,26 @@ pub fn reader_of(condition: Condition, file: u8, pace: u16, position: u16, last:
 pub fn no_reader() -> Reader
     ensures { result ≡ no_reader }
 {
-    reader_of(Condition::Empty, 0, 0, 0, 0)
+    Reader {
+        condition: Condition::Empty,
+        file: 0,
+        pace: 0,
+        position: 0,
+        last: 0,
+    }
 }
 
 // The record that Attach gives a slot. Attach has tested the numbers.
 pub fn docked(file: u8, pace: u16, start: u16, last: u16) -> Reader
     ensures { result ≡ docked file pace start last }
 {
-    reader_of(Condition::Running, file, pace, start, last)
+    Reader {
+        condition: Condition::Running,
+        file,
+        pace,
+        position: start,
+        last,
+    }
 }
 
 // The reader after a Read that answers H.
@@ -233,46 +252,38 @@ pub fn onward(r: Reader) -> Reader
     requires { r.position < 65535 }
     ensures { result ≡ onward r }
 {
-    let mut next = r;
-    next.position = r.position + 1;
-    next
+    Reader {
+        position: r.position + 1,
+        ..r
+    }
 }
 
 // The reader at another position.
 pub fn at_position(r: Reader, position: u16) -> Reader
     ensures { result ≡ moved_to position r }
 {
-    let mut next = r;
-    next.position = position;
-    next
+    Reader { position, ..r }
 }
 
 // The reader that begins to wait, or runs again.
 pub fn in_condition(r: Reader, condition: Condition) -> Reader
     ensures { result ≡ in_condition condition r }
 {
-    reader_of(condition, r.file, r.pace, r.position, r.last)
+    Reader { condition, ..r }
 }
 
 // The reader after a Measure.
 pub fn paced(r: Reader, pace: u16) -> Reader
     ensures { result ≡ paced pace r }
 {
-    let mut next = r;
-    next.pace = pace;
-    next
+    Reader { pace, ..r }
 }
 
 // Is there a reader in the slot? Running and waiting readers count alike.
 pub fn is_attached(r: Reader) -> bool
     ensures { result ≡ attached r }
 {
-    let condition = r.condition;
-    match condition {
-        Condition::Empty => false,
-        Condition::Running => true,
-        Condition::Waiting => true,
-    }
+    r.condition != Condition::Empty
 }
 
 // The key of the page after the reader's position, whether the file has the page or not.
@@ -284,7 +295,7 @@ pub fn next_key(r: Reader) -> usize
 
 // ---- views
 
-// A view of these parts, as an image has them. All others are made of it, or are one with a part changed.
+// A view of these parts, as an image has them.
 pub fn view_of(
     frames: u16,
     turn: u8,
@@ -336,17 +347,23 @@ pub fn fresh(
 ) -> View
     ensures { state_of result no_pages no_pages ≡ fresh frames look_ahead fetch_time sizes rule expected }
 {
-    let readers = [no_reader(); 16];
-    let marks = [0u16; 16];
-    let attaches = [0u16; 8];
-    view_of(
-        frames, 0, look_ahead, fetch_time, sizes, readers, marks, rule, expected, attaches,
-    )
+    View {
+        marks: [0; 16],
+        expected,
+        attaches: [0; 8],
+        frames,
+        turn: 0,
+        rule,
+        look_ahead,
+        fetch_time,
+        sizes,
+        readers: [no_reader(); 16],
+    }
 }
 
 // The view of the idle state, which a refused Setup or Restore gives and with which the program starts.
 pub fn idle() -> View
     ensures { state_of result no_pages no_pages ≡ idle }
 {
-    fresh(1, 1, 0, [0u16; 8], Rule::Of1989, [0u16; 8])
+    fresh(1, 1, 0, [0; 8], Rule::Of1989, [0; 8])
 }

@@ -1,1 +1,0 @@
--- Two tests, of which the first can settle the answer.
