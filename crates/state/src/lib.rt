@@ -5,6 +5,8 @@
 
 ghost use Rattle.std.specs.Prelude.{◌≡◌};
 ghost use Rattle.rules.specs.Calls.{idle};
+ghost use Rattle.rules.specs.Valid.{Valid};
+ghost use Rattle.rules.specs.Views.{state_of, no_pages};
 
 use rules::View;
 use std::marker::Model;
@@ -33,15 +35,23 @@ impl Model for Quay {
 }
 
 impl Quay {
-    // The idle state, with which the program starts.
-    pub fn idle() -> Quay
-        ensures { result ≡ idle }
+    // The box of a view without pages.
+    pub fn empty(view: View) -> Quay
+        requires { Valid (state_of view no_pages no_pages) }
+        ensures { result ≡ state_of view no_pages no_pages }
     {
         Quay {
-            view: parts::idle(),
+            view,
             cached: [0; 128],
             fetching: [0; 128],
             held: [0; 8],
         }
+    }
+
+    // The idle state, with which the program starts.
+    pub fn idle() -> Quay
+        ensures { result ≡ idle }
+    {
+        Quay::empty(parts::idle())
     }
 }

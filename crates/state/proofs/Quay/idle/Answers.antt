@@ -1,9 +1,8 @@
--- The idle state is valid, and has no page.
+-- The idle state is valid.
 use Rattle.std.proofs.Common.{sym, subst}
 use Rattle.rules.proofs.calls.Kept.{idle-valid}
 use Rattle.rules.specs.Valid.{Valid}
-use Rattle.state.proofs.Kept.{none-held}
 use Rattle.state.proofs.Quay.idle.Goals as goal
 
-pub invariant_of-result : goal.invariant_of-result
-invariant_of-result c = (subst Valid (sym c.idle.ensures) idle-valid, none-held)
+pub empty-requires : goal.empty-requires
+empty-requires c = subst Valid (sym c.idle.ensures) idle-valid
