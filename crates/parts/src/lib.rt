@@ -3,7 +3,7 @@
 
 #![tactic(auto)]
 
-ghost use Rattle.std.specs.Prelude.{◌≡◌, false, List, ℕ, IfOk, min, ◌+◌, ◌-◌, ◌*◌, ◌/◌, ◌%◌, ◌≤◌, ◌<◌, get_or, length};
+ghost use Rattle.std.specs.Prelude.{◌≡◌, false, List, ℕ, min, ◌+◌, ◌-◌, ◌*◌, ◌/◌, ◌%◌, ◌≤◌, ◌<◌, get_or, length};
 ghost use Rattle.bits.specs.Map.{bit, ones, put_bit};
 ghost use Rattle.rules.specs.Views.{state_of, no_pages};
 ghost use Rattle.rules.specs.Lists.{within};
@@ -80,8 +80,7 @@ pub fn no_range(size: u16, start: u64, last: u64) -> bool
 
 // The file of a number, if it is there.
 pub fn file_in(sizes: [u16; 8], file: u64) -> Result<usize, Refusal>
-    ensures value { result ≡ file_in sizes file }
-    ensures inside { IfOk result (λ f. f < 8) }
+    ensures { result ≡ file_in sizes file }
 {
     if no_file(sizes, file) {
         return Err(Refusal::NoFile);
@@ -102,8 +101,7 @@ pub fn key_in(sizes: [u16; 8], file: u64, page: u64) -> Result<usize, Refusal>
 
 // The slot of a number, if there is one.
 pub fn slot_in(slot: u64) -> Result<usize, Refusal>
-    ensures value { result ≡ slot_in slot }
-    ensures inside { IfOk result (λ i. i < 16) }
+    ensures { result ≡ slot_in slot }
 {
     if 15 < slot {
         return Err(Refusal::NoSlot);

@@ -109,7 +109,7 @@ no_range s file start last = no_page s file last || ltb last start
 abbrev pub rule_in : ℕ → List ℕ → Bool
 rule_in rule expected = within 0 1 rule && every (within 0 1000) expected
 
--- the rule of a number: "0 for 1989, 1 for 1993"; a number above 1 is that of neither
+-- the rule of a number: "0 for 1989, 1 for 1993". One above 1 has none, and is refused before this is asked
 abbrev pub rule_of : ℕ → Rule
 rule_of zero = Of1989
 rule_of (suc n) = Of1993

@@ -34,7 +34,7 @@ impl Rule {
         self as u8
     }
 
-    // The rule of a number: what is refused with a number above 1 is not asked for its rule.
+    // The rule of a number. One above 1 has none, and is refused before this is asked.
     pub fn from_number(number: u64) -> Rule
         ensures { result ≡ rule_of number }
     {
@@ -144,7 +144,7 @@ impl From<Refusal> for Answer {
 }
 
 impl Answer {
-    // The number that a door for numbers returns: "the refusal's, or the answer letter's ASCII code × 65,536 + ..".
+    // The number that a call from C returns: "the refusal's, or the answer letter's ASCII code × 65,536 + ..".
     #[tactic(auto, unfolding(crate::specs::Entries::code))]
     pub fn number(self) -> u64
         ensures { result ≡ code self }
@@ -160,7 +160,9 @@ impl Answer {
             Answer::Stolen { file, page } => lettered(b'S', page_number(file, page)),
             Answer::Arrived => lettered(b'I', 0),
             Answer::Replaced { file, page } => lettered(b'I', page_number(file, page)),
-            Answer::Ran { fetches, reads } => 4294967296 + (fetches as u64) * 65536 + (reads as u64),
+            Answer::Ran { fetches, reads } => 4294967296
+                + (fetches as u64) * 65536
+                + (reads as u64),
         }
     }
 
