@@ -1,19 +1,17 @@
 -- The table and the two maps, slot by slot. Assumes nothing.
 use mathlib.Core.Path.{◌≡◌, refl, sym, ap, ◌∙◌}
 use mathlib.Core.Bool.{Bool, true, false, cond, ◌||◌}
-use mathlib.Core.List.{List}
 use Prim.Native.Nat.{ℕ, min, ◌+◌, ◌-◌, ◌≤◌, ◌<◌}
 use native.Mathlib.Numerals.{add-one}
 use native.Mathlib.Omega.{arith}
 use lib.Dec.{T}
-use lib.ListN.{get_or, length, replicate, get_or-replicate}
+use lib.ListN.{get_or, length, get_or-replicate}
 use Rattle.bits.specs.Map.{on, one_of}
 use Rattle.rules.specs.Lists.{some_of, least, total}
 use Rattle.rules.specs.Readers.{reader_at, attached, next_key}
 use Rattle.rules.specs.UseTimes.{sees, look_ahead_of, tested, never, use_for, use_key, ahead, seen}
 use Rattle.rules.specs.Questions.{words_of, words_read}
-use Rattle.rules.specs.Valid.{Valid}
-use Rattle.rules.specs.Views.{no_pages}
+use Rattle.rules.specs.Valid.{Valid, Placed}
 use Rattle.rules.proofs.laws.Leasts.{least-far}
 use Rattle.rules.proofs.calls.Valids.{placed_at}
 use Rattle.rules.proofs.calls.Kept.{blank-off}
@@ -22,8 +20,9 @@ use Rattle.rules.proofs.orders.Questions.{no_words}
 use Rattle.rules.proofs.laws.Indexed.{length-range}
 use Rattle.rules.specs.declared.State.{State}
 use Rattle.rules.specs.declared.Reader.{Reader}
-use Rattle.walk.specs.Walks.{InFile, Walked, spanned}
-use Rattle.walk.specs.Tables.{KeyedBy, Keyed, InLookAhead}
+use Rattle.walk.specs.Walks.{Walked, spanned}
+use Rattle.walk.specs.declared.Tables.{Tables}
+use Rattle.walk.specs.Tables.{blank, KeyedBy, Keyed, InLookAhead}
 use Rattle.walk.proofs.Words.{words-spanned}
 
 -- what a walk along the reader's look-ahead counts: its pages, and the words that hold them
@@ -46,34 +45,47 @@ module _ (s : State) (j : ℕ) where
   use-stays k e = let l = least-far j (use_for s k) never in rw e (omega arith)
 
   -- an empty slot
-  keyed-empty : (a b t : List ℕ) → attached (reader_at s j) ≡ false → KeyedBy s j a b t → KeyedBy s (j + 1) a b t
-  keyed-empty a b t e h = record {
+  keyed-empty : (t : Tables) → attached (reader_at s j) ≡ false → KeyedBy s j t → KeyedBy s (j + 1) t
+  keyed-empty t e h = record {
     ahead_is = λ k. h.ahead_is k ∙ sym (some_more _ ∙ rw (empty-before s (reader_at s j) e k) refl);
     seen_is = λ k. h.seen_is k ∙ sym (some_more _ ∙ rw (empty-sees s (reader_at s j) e k) refl);
     use_is = λ k l. h.use_is k l ∙ use-stays k (empty-sees s (reader_at s j) e k) ∙ sym (least_more (use_for s k));
   }
 
-  module _ (w : Valid s) (n : ℕ) (a b t a' b' t' : List ℕ) (f : InFile (reader_at s j)) (h : KeyedBy s j a b t) (k : Walked s j t t' n) where
+  -- it counts nothing
+  pub slot-empty : Valid s → (t : Tables) → attached (reader_at s j) ≡ false → KeyedBy s j t
+      → KeyedBy s (j + 1) t × (0 ≡ length (look_ahead_of s (reader_at s j))) × (0 ≡ words_of (look_ahead_of s (reader_at s j)))
+  slot-empty w t none h =
+      let keys = empty-keys s (reader_at s j) none w in
+      (keyed-empty t none h, sym (ap length keys), sym (ap words_of keys ∙ no_words))
+
+  module _ (w : Valid s) (n : ℕ) (t t' : Tables) (a : T (attached (reader_at s j))) (h : KeyedBy s j t) (k : Walked s j t.table t'.table n) where
+    placed : Placed s (reader_at s j)
+    placed = placed_at s w j a
+
+    last_high : (reader_at s j).last ≤ 1024
+    last_high = omega (arith, placed.last_high, w.sizes_high (reader_at s j).file)
+
     by-stretch : (i : ℕ) → sees s (reader_at s j) i ≡ one_of (next_key (reader_at s j)) n i
     by-stretch = sees-stretch s w j n k.stretch
 
-    use-more : (i : ℕ) → i < 8192 → get_or t' i 0 ≡ least (j + 1) (use_for s i) never
+    use-more : (i : ℕ) → i < 8192 → get_or t'.table i 0 ≡ least (j + 1) (use_for s i) never
     use-more i l = k.lowered.lower i ∙ go (one_of (next_key (reader_at s j)) n i) (by-stretch i) ∙ sym (least_more (use_for s i))
       where
-        old : get_or t i 0 ≡ least j (use_for s i) never
+        old : get_or t.table i 0 ≡ least j (use_for s i) never
         old = h.use_is i l
 
         go : (c : Bool) → sees s (reader_at s j) i ≡ c
-            → cond c (min (get_or t i 0) (use_for s i j)) (get_or t i 0) ≡ min (use_for s i j) (least j (use_for s i) never)
+            → cond c (min (get_or t.table i 0) (use_for s i j)) (get_or t.table i 0) ≡ min (use_for s i j) (least j (use_for s i) never)
         go true e = omega (arith, old)
         go false e = old ∙ use-stays i e
 
     -- a slot with a reader
-    keyed-more : ((i : ℕ) → on a' i ≡ (one_of (next_key (reader_at s j)) ((reader_at s j).last - (reader_at s j).position) i || on a i))
-        → ((i : ℕ) → on b' i ≡ (one_of (next_key (reader_at s j)) n i || on b i)) → KeyedBy s (j + 1) a' b' t'
+    keyed-more : ((i : ℕ) → on t'.ahead i ≡ (one_of (next_key (reader_at s j)) ((reader_at s j).last - (reader_at s j).position) i || on t.ahead i))
+        → ((i : ℕ) → on t'.seen i ≡ (one_of (next_key (reader_at s j)) n i || on t.seen i)) → KeyedBy s (j + 1) t'
     keyed-more x y = record {
       ahead_is = λ i.
-          x i ∙ rw (← before-stretch (reader_at s j) f.here f.position_in f.last_high i, h.ahead_is i) (sym (some_more _));
+          x i ∙ rw (← before-stretch (reader_at s j) a placed.position_in last_high i, h.ahead_is i) (sym (some_more _));
       seen_is = λ i. y i ∙ rw (← by-stretch i, h.seen_is i) (sym (some_more _));
       use_is = use-more;
     }
@@ -82,42 +94,34 @@ module _ (s : State) (j : ℕ) where
     counted : (words : ℕ) → j < 16 → (reader_at s j).position + n ≤ (reader_at s j).last → words ≡ spanned (next_key (reader_at s j)) n
         → Counted s (reader_at s j) n words
     counted words l m e =
-        let high : next_key (reader_at s j) + n ≤ 8192 = omega (arith, f.file_high, f.last_high) in
+        let high : next_key (reader_at s j) + n ≤ 8192 = omega (arith, placed.file_high, last_high) in
         let keys = look-ahead-keys s w j n k.stretch l high in (
           sym (ap length keys ∙ length-range (next_key (reader_at s j)) n),
           e ∙ sym (ap words_of keys ∙ words-spanned (next_key (reader_at s j)) n high),
         )
 
--- a slot's reader as the code has it, walked along
-pub slot-more : (s : State) (j : ℕ) (w : Valid s) (n words : ℕ) (a b t a' b' t' : List ℕ) (r : Reader) (from : ℕ) → j < 16 → reader_at s j ≡ r → InFile r
-    → from ≡ next_key r → r.position + n ≤ r.last → words ≡ spanned (next_key r) n → KeyedBy s j a b t → Walked s j t t' n
-    → ((i : ℕ) → on a' i ≡ (one_of from (r.last - r.position) i || on a i)) → ((i : ℕ) → on b' i ≡ (one_of from n i || on b i))
-    → KeyedBy s (j + 1) a' b' t' × (n ≡ length (look_ahead_of s r)) × (words ≡ words_of (look_ahead_of s r))
-slot-more s j w n words a b t a' b' t' r from l e f g m c h k x y =
-    let f' : InFile (reader_at s j) = rw e f in
-    let m' : (reader_at s j).position + n ≤ (reader_at s j).last = rw e m in
-    let counts : Counted s r n words = rw e at (counted s j w n a b t a' b' t' f' h k words l m' (rw e c)) in
-    (keyed-more s j w n a b t a' b' t' f' h k (λ i. rw (e, ← g) (x i)) (λ i. rw (e, ← g) (y i)), counts.0, counts.1)
-
--- an empty slot's, which is none
-pub slot-empty : (s : State) (j : ℕ) → Valid s → (a b t : List ℕ) (r : Reader) → reader_at s j ≡ r → attached r ≡ false → KeyedBy s j a b t
-    → KeyedBy s (j + 1) a b t × (0 ≡ length (look_ahead_of s r)) × (0 ≡ words_of (look_ahead_of s r))
-slot-empty s j w a b t r e none h =
-    let keys = empty-keys s r none w in
-    (keyed-empty s j a b t (rw e none) h, sym (ap length keys), sym (ap words_of keys ∙ no_words))
+    -- as the code has it
+    pub slot-more : (words from : ℕ) → j < 16 → from ≡ next_key (reader_at s j) → (reader_at s j).position + n ≤ (reader_at s j).last
+        → words ≡ spanned from n
+        → ((i : ℕ) → on t'.ahead i ≡ (one_of from ((reader_at s j).last - (reader_at s j).position) i || on t.ahead i))
+        → ((i : ℕ) → on t'.seen i ≡ (one_of from n i || on t.seen i))
+        → KeyedBy s (j + 1) t' × (n ≡ length (look_ahead_of s (reader_at s j))) × (words ≡ words_of (look_ahead_of s (reader_at s j)))
+    slot-more words from l g m c x y =
+        let counts = counted words l m (rw g at c) in
+        (keyed-more (λ i. rw (← g) (x i)) (λ i. rw (← g) (y i)), counts.0, counts.1)
 
 -- ---- all slots
 
 module _ (s : State) where
   -- none yet
-  pub keyed-none : KeyedBy s 0 no_pages no_pages (replicate 8192 never)
+  pub keyed-none : KeyedBy s 0 blank
   unfolding some_of least
   keyed-none = record { ahead_is = blank-off; seen_is = blank-off; use_is = λ k l. get_or-replicate 8192 k never 0 l }
 
   -- all sixteen
-  pub keyed-all : (a b t : List ℕ) → KeyedBy s 16 a b t → Keyed s a t × InLookAhead s b
+  pub keyed-all : (t : Tables) → KeyedBy s 16 t → Keyed s t.ahead t.table × InLookAhead s t.seen
   unfolding ahead seen use_key
-  keyed-all a b t h = (record { ahead_is = h.ahead_is; use_is = h.use_is }, h.seen_is)
+  keyed-all t h = (record { ahead_is = h.ahead_is; use_is = h.use_is }, h.seen_is)
 
   -- the pages tested and the words read: none, those of one slot more, all
   abbrev pub tested_by : ℕ → ℕ
@@ -129,16 +133,3 @@ module _ (s : State) where
   pub counts_all : (n words : ℕ) → n ≡ tested_by 16 → words ≡ words_by 16 → (n ≡ tested s) × (words ≡ words_read s)
   unfolding tested words_read
   counts_all n words e f = (e, f)
-
--- an attached reader of a valid state can be walked along
-pub valid-in-file : (s : State) → Valid s → (j : ℕ) → T (attached (reader_at s j)) → InFile (reader_at s j)
-valid-in-file s w j a =
-    let p = placed_at s w j a in
-    record {
-      here = a;
-      file_high = p.file_high;
-      pace_low = p.pace_low;
-      pace_high = p.pace_high;
-      position_in = p.position_in;
-      last_high = omega (arith, p.last_high, w.sizes_high (reader_at s j).file);
-    }

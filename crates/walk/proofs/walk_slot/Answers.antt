@@ -1,38 +1,55 @@
 -- An empty slot leaves everything; a reader's pages are walked along, and what it sees and has before it is set in the maps.
-use mathlib.Core.Path.{sym, ◌∙◌}
-use native.Mathlib.Omega.{arith}
+use Rattle.std.proofs.Common.{sym, ◌∙◌, ◌≤◌, ◌+◌, arith}
+use Rattle.rules.specs.Readers.{reader_in}
+use Rattle.rules.specs.Views.{state_of}
+use Rattle.rules.specs.declared.State.{State}
 use Rattle.rules.proofs.laws.Cases.{passed}
-use Rattle.walk.specs.Walks.{InFile}
+use Rattle.rules.proofs.orders.Local.{maps-present}
+use Rattle.walk.specs.Walks.{CourseOf}
 use Rattle.walk.proofs.Slots.{slot-more, slot-empty}
 use Rattle.walk.proofs.Words.{spanned-few}
-use Rattle.walk.proofs.walk_slot.Goals.{Else-not-is_attached}
+use Rattle.walk.proofs.walk_slot.Goals.{Start, After-of-course}
 use Rattle.walk.proofs.walk_slot.Goals as goal
 
--- the slot has a reader
-in-file : (c : Else-not-is_attached) → InFile c.args.r
-in-file c = c.requires.in_file.0 (passed _ (sym c.is_attached.ensures ∙ c.if-not-is_attached.false))
+abbrev at : Start → State
+at c = state_of c.args.v.now c.args.maps.cached.now c.args.maps.fetching.now
 
-pub walk_reader-n-requires : goal.walk_reader-n-requires
-walk_reader-n-requires c =
-    let p = c.requires in
-    record { in_file = (in-file (goal.at.walk_reader-n-requires c).Else-not-is_attached, p.in_file.1, p.in_file.2, p.in_file.3); table_len = p.table_len }
+-- the reader's course
+course : (c : After-of-course) → CourseOf (at (goal.at.After-of-course c).Start) c.args.slot c.of-course.result
+course c = c.of-course.ensures c.args.maps.cached.now c.args.maps.fetching.now
 
-pub returns : goal.returns
-returns c =
+pub of-course-requires : goal.of-course-requires
+of-course-requires c = record {
+  valid = (_, (_, c.requires.valid));
+  slot_in_bounds = c.requires.slot_in_bounds;
+  here = passed _ (sym c.is_attached.ensures ∙ c.if-not-is_attached.false);
+}
+
+pub set_bits-requires-2 : goal.set_bits-requires-2
+set_bits-requires-2 c =
+    let o = course (goal.at.set_bits-requires-2 c).After-of-course in
+    omega (arith, o.from_is, o.file_high, o.position_in, o.last_high)
+
+pub returns-clause-few : goal.returns-clause-few
+returns-clause-few c =
+    let o = course (goal.at.returns-clause-few c).After-of-course in
+    let r = reader_in c.args.v.now.readers c.args.slot in
+    let n = c.walk-n.ensures in
+    let in_file : r.position + c.walk-n.result.tested ≤ 1024 = omega (arith, n.few, o.reach_is, o.position_in, o.last_high) in
+    (omega arith, omega (arith, rw o.from_is at n.words, spanned-few r c.walk-n.result.tested in_file))
+
+pub returns-clause-keyed_by : goal.returns-clause-keyed_by
+returns-clause-keyed_by c = λ h.
+    let s = at (goal.at.returns-clause-keyed_by c).Start in
+    let o = course (goal.at.returns-clause-keyed_by c).After-of-course in
     let a = c.args in
-    let f = in-file (goal.at.returns c).Else-not-is_attached in
-    let n = c.walk_reader-n in record {
-      few = (
-        omega (arith, n.ensures.few, f.last_high),
-        omega (arith, n.ensures.words, spanned-few a.r n.result.tested (omega (arith, n.ensures.few, f.last_high))),
-      );
-      keyed_by = λ s j w l asked h.
-          slot-more s j w n.result.tested n.result.words a.ahead.now a.seen.now a.table.now _ _ _ a.r
-          c.next_key-from.result l asked.reader_is f c.next_key-from.ensures n.ensures.few n.ensures.words h
-          (n.ensures.walked s j asked) c.set_bits-2.ensures c.set_bits.ensures;
-    }
+    let n = c.walk-n in
+    slot-more s a.slot c.requires.valid n.result.tested a.t.now _ o.here h (n.ensures.walked s a.slot o (maps-present s))
+    n.result.words c.of-course.result.from c.requires.slot_in_bounds o.from_is (omega (arith, n.ensures.few, o.reach_is, o.position_in)) n.ensures.words
+    c.set_bits-2.ensures c.set_bits.ensures
 
 pub returns-then-not-is_attached-clause-keyed_by : goal.returns-then-not-is_attached-clause-keyed_by
-returns-then-not-is_attached-clause-keyed_by c = λ s j w l asked h.
-    let a = c.args in
-    slot-empty s j w a.ahead.now a.seen.now a.table.now a.r asked.reader_is (sym c.is_attached.ensures ∙ c.if-not-is_attached.true) h
+returns-then-not-is_attached-clause-keyed_by c = λ h.
+    let s = at (goal.at.returns-then-not-is_attached-clause-keyed_by c).Start in
+    let none = slot-empty s c.args.slot c.requires.valid c.args.t.now (sym c.is_attached.ensures ∙ c.if-not-is_attached.true) h in
+    (none.0, c.default.ensures.0 ∙ none.1, c.default.ensures.1 ∙ none.2)
