@@ -123,7 +123,7 @@ impl Course {
 
     // Walks word by word, over as many pages as are in reach. The two words at one place of the maps are read once for their pages: the count of the words is
     // raised here alone.
-    pub fn walk(self, maps: Maps, table: &mut [u32; 8192]) -> Tally
+    pub fn walk_words(self, maps: Maps, table: &mut [u32; 8192]) -> Tally
         ensures few { result.tested ≤ self.reach }
         ensures words { result.words ≡ spanned self.from result.tested }
         ensures walked { (s : State) (j : ℕ) → CourseOf s j self → Presents s maps.entry.cached.now maps.entry.fetching.now

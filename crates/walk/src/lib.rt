@@ -25,6 +25,19 @@ pub struct Tables {
     pub table: [u32; 8192],
 }
 
+impl Tables {
+    // Those before any walk.
+    pub fn blank() -> Tables
+        ensures { result ≡ blank }
+    {
+        Tables {
+            ahead: [0; 128],
+            seen: [0; 128],
+            table: [parts::NEVER as u32; 8192],
+        }
+    }
+}
+
 // What the walks count: the pages tested, and the words of the maps that were read: two at one place count as one.
 #[derive(Clone, Copy, Default)]
 pub struct Tally {
@@ -33,13 +46,13 @@ pub struct Tally {
 }
 
 // One slot's part: what its reader has before it, what it sees, and its numbers. Nothing where the slot is empty. Returns what the walk counted.
-fn walk_slot(v: &View, slot: usize, maps: Maps, t: &mut Tables) -> Tally
+fn walk_slot(v: &View, slot: usize, maps: Maps, tables: &mut Tables) -> Tally
     requires valid { Valid (state_of v.now maps.cached.now maps.fetching.now) }
     requires slot_in_bounds { slot < 16 }
     ensures few { (result.tested ≤ 1024) × (result.words ≤ 16) }
     ensures keyed_by { let s = state_of v.now maps.entry.cached.now maps.entry.fetching.now in
-        KeyedBy s slot t.old
-        → KeyedBy s (slot + 1) t.new
+        KeyedBy s slot tables.old
+        → KeyedBy s (slot + 1) tables.new
         × (result.tested ≡ length (look_ahead_of s (reader_at s slot)))
         × (result.words ≡ words_of (look_ahead_of s (reader_at s slot))) }
 {
@@ -48,9 +61,13 @@ fn walk_slot(v: &View, slot: usize, maps: Maps, t: &mut Tables) -> Tally
         return Tally::default();
     }
     let course = Course::of(v, slot);
-    let n = course.walk(maps, &mut t.table);
-    bits::set_bits(&mut t.seen, course.from, n.tested);
-    bits::set_bits(&mut t.ahead, course.from, (r.last - r.position) as usize);
+    let n = course.walk_words(maps, &mut tables.table);
+    bits::set_bits(&mut tables.seen, course.from, n.tested);
+    bits::set_bits(
+        &mut tables.ahead,
+        course.from,
+        (r.last - r.position) as usize,
+    );
     n
 }
 
@@ -60,20 +77,20 @@ pub fn use_keys<'a>(
     v: View,
     cached: &'a [u64; 128],
     fetching: &'a [u64; 128],
-    t: &mut Tables,
+    tables: &mut Tables,
 ) -> Tally
     requires valid { Valid (state_of v cached.now fetching.now) }
-    requires blank { t.old ≡ blank }
+    requires blank { tables.old ≡ blank }
     ensures few { (result.tested ≤ 16384) × (result.words ≤ 256) }
     ensures report { result.tested ≡ tested (state_of v cached.now fetching.now) }
     ensures words { result.words ≡ words_read (state_of v cached.now fetching.now) }
-    ensures keyed { Keyed (state_of v cached.now fetching.now) t.new.ahead t.new.table }
-    ensures seen { InLookAhead (state_of v cached.now fetching.now) t.new.seen }
+    ensures keyed { Keyed (state_of v cached.now fetching.now) tables.new.ahead tables.new.table }
+    ensures seen { InLookAhead (state_of v cached.now fetching.now) tables.new.seen }
 {
     let maps = Maps { cached, fetching };
     let mut tally = Tally::default();
     for slot in 0..16 {
-        let n = walk_slot(&v, slot, maps, t);
+        let n = walk_slot(&v, slot, maps, tables);
         tally.tested += n.tested;
         tally.words += n.words;
     }

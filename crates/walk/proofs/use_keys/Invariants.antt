@@ -11,5 +11,5 @@ invariant-loop-slot l =
       few : (l.tally.tested ≤ l.slot * 1024) × (l.tally.words ≤ l.slot * 16);
       tested_is : l.tally.tested ≡ tested_by s l.slot;
       words_are : l.tally.words ≡ words_by s l.slot;
-      keyed : KeyedBy s l.slot l.t;
+      keyed : KeyedBy s l.slot l.tables;
     }

@@ -34,22 +34,22 @@ pub returns-clause-few : goal.returns-clause-few
 returns-clause-few c =
     let o = course (goal.at.returns-clause-few c).After-of-course in
     let r = reader_in c.args.v.now.readers c.args.slot in
-    let n = c.walk-n.ensures in
-    let in_file : r.position + c.walk-n.result.tested ≤ 1024 = omega (arith, n.few, o.reach_is, o.position_in, o.last_high) in
-    (omega arith, omega (arith, rw o.from_is at n.words, spanned-few r c.walk-n.result.tested in_file))
+    let n = c.walk_words-n.ensures in
+    let in_file : r.position + c.walk_words-n.result.tested ≤ 1024 = omega (arith, n.few, o.reach_is, o.position_in, o.last_high) in
+    (omega arith, omega (arith, rw o.from_is at n.words, spanned-few r c.walk_words-n.result.tested in_file))
 
 pub returns-clause-keyed_by : goal.returns-clause-keyed_by
 returns-clause-keyed_by c = λ h.
     let s = at (goal.at.returns-clause-keyed_by c).Start in
     let o = course (goal.at.returns-clause-keyed_by c).After-of-course in
     let a = c.args in
-    let n = c.walk-n in
-    slot-more s a.slot c.requires.valid n.result.tested a.t.now _ o.here h (n.ensures.walked s a.slot o (maps-present s))
+    let n = c.walk_words-n in
+    slot-more s a.slot c.requires.valid n.result.tested a.tables.now _ o.here h (n.ensures.walked s a.slot o (maps-present s))
     n.result.words c.of-course.result.from c.requires.slot_in_bounds o.from_is (omega (arith, n.ensures.few, o.reach_is, o.position_in)) n.ensures.words
     c.set_bits-2.ensures c.set_bits.ensures
 
 pub returns-then-not-is_attached-clause-keyed_by : goal.returns-then-not-is_attached-clause-keyed_by
 returns-then-not-is_attached-clause-keyed_by c = λ h.
     let s = at (goal.at.returns-then-not-is_attached-clause-keyed_by c).Start in
-    let none = slot-empty s c.args.slot c.requires.valid c.args.t.now (sym c.is_attached.ensures ∙ c.if-not-is_attached.true) h in
+    let none = slot-empty s c.args.slot c.requires.valid c.args.tables.now (sym c.is_attached.ensures ∙ c.if-not-is_attached.true) h in
     (none.0, c.default.ensures.0 ∙ none.1, c.default.ensures.1 ∙ none.2)

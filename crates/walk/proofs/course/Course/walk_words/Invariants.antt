@@ -5,7 +5,7 @@ use Rattle.rules.specs.Ranks.{Presents}
 use Rattle.rules.specs.declared.State.{State}
 use Rattle.walk.specs.Walks.{OnCourse, CourseOf, Along, spanned}
 use Rattle.walk.proofs.Words.{Fresh}
-use Rattle.walk.proofs.course.Course.walk.Given as goal
+use Rattle.walk.proofs.course.Course.walk_words.Given as goal
 
 abbrev pub invariant-loop-at : goal.invariant-loop-at
 invariant-loop-at l = record {

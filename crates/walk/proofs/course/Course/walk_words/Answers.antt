@@ -3,7 +3,7 @@
 use Rattle.std.proofs.Common.{◌≡◌, refl, ◌<◌, inl, inr, ⊎_elim, arith}
 use Rattle.walk.proofs.Alongs.{along-none, walk_ends, word-shown}
 use Rattle.walk.proofs.Words.{spanned-none, spanned-small, spanned-more}
-use Rattle.walk.proofs.course.Course.walk.Goals as goal
+use Rattle.walk.proofs.course.Course.walk_words.Goals as goal
 
 pub loop-at-init : goal.loop-at-init
 loop-at-init c = record {
