@@ -62,12 +62,9 @@ fn walk_slot(v: &View, slot: usize, maps: Maps, tables: &mut Tables) -> Tally
     }
     let course = Course::of(v, slot);
     let n = course.walk_words(maps, &mut tables.table);
+    let left = (r.last - r.position) as usize;
     bits::set_bits(&mut tables.seen, course.from, n.tested);
-    bits::set_bits(
-        &mut tables.ahead,
-        course.from,
-        (r.last - r.position) as usize,
-    );
+    bits::set_bits(&mut tables.ahead, course.from, left);
     n
 }
 
