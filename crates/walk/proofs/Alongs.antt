@@ -9,7 +9,7 @@ use native.Mathlib.Numerals.{add-one}
 use native.Mathlib.Omega.{arith}
 use borrow.Author.Tests.{le-leb, lt-leb}
 use lib.Dec.{T, not_T, leb, ltb, le→leb, leb→le}
-use lib.ListN.{get_or, length, set, length-set}
+use lib.ListN.{get_or, length, set}
 use lib.Seq.{get_or-set_same, get_or-set_other}
 use Rattle.bits.specs.Map.{bit, joined, one_of}
 use Rattle.bits.proofs.Joins.{joined-on}
@@ -115,7 +115,7 @@ module _ (s : State) (j : ℕ) (first : List ℕ) where
   along-none number = record {
     seen = λ i l. absurd (omega arith);
     count = refl;
-    lowered = record { long = refl; lower = λ k. rw (stretch-none (next_key r) k) refl };
+    lowered = record { lower = λ k. rw (stretch-none (next_key r) k) refl };
   }
 
   module _ (c : Course) (o : CourseOf s j c) (table : List ℕ) (p : Walk) (g : OnCourse c p) (a : Along s j first table p)
@@ -150,7 +150,7 @@ module _ (s : State) (j : ℕ) (first : List ℕ) where
         go_on false = omega arith
 
     lowered-more : (x : ℕ) → here < length table → x ≡ min (get_or table here 0) p.number → Lowered s j (p.tested + 1) first (set table here x)
-    lowered-more x long e = record { long = length-set table here x ∙ a.lowered.long; lower = λ k. by k (ℕ_discrete k here) }
+    lowered-more x long e = record { lower = λ k. by k (ℕ_discrete k here) }
       where
         by : (k : ℕ) → Dec (k ≡ here)
             → get_or (set table here x) k 0

@@ -1,5 +1,5 @@
 -- One walk along a look-ahead: what it keeps, page by page, and what it leaves in the table of use keys. Assumes nothing: these are definitions.
-use Rattle.std.specs.Prelude.{ℕ, zero, suc, min, ◌+◌, ◌-◌, ◌*◌, ◌/◌, ◌%◌, ◌≤◌, ◌<◌, ◌≡◌, Bool, cond, List, ◌⊎◌, T, leb, eqb, get_or, length}
+use Rattle.std.specs.Prelude.{ℕ, zero, suc, min, ◌+◌, ◌-◌, ◌*◌, ◌/◌, ◌%◌, ◌≤◌, ◌<◌, ◌≡◌, Bool, cond, List, ◌⊎◌, T, leb, eqb, get_or}
 use Rattle.bits.specs.Map.{digit, one_of}
 use Rattle.rules.specs.Readers.{reader_at, attached, next_key}
 use Rattle.rules.specs.UseTimes.{present, missing, pruned, sees, seat, use_for}
@@ -62,7 +62,6 @@ pub record CourseOf (s : State) (j : ℕ) (c : Course) : Type 0 where
 
 -- the table with slot j's numbers for the n keys from its reader's next page on, where they are less
 pub record Lowered (s : State) (j n : ℕ) (first table : List ℕ) : Type 0 where
-  pub long : length table ≡ length first
   pub lower : (k : ℕ) → get_or table k 0 ≡ cond (one_of (next_key (reader_at s j)) n k) (min (get_or first k 0) (use_for s k j)) (get_or first k 0)
 
 -- slot j's walk has come so far: what it tested it sees; it has counted the missing ones; the table is lowered

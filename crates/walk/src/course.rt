@@ -10,11 +10,11 @@ use rules::View;
 #[derive(Clone, Copy)]
 pub struct Course {
     pub from: usize,
-    pub reach: usize,
-    pub most: u32,
-    pub page: u32,
-    pub gap: u32,
-    pub seat: u32,
+    reach: usize,
+    most: u32,
+    page: u32,
+    gap: u32,
+    seat: u32,
     ghost one_file: { reach ≤ 1024 },
     ghost in_table: { from + reach ≤ 8192 },
     ghost number_high: { (reach + 1) * page + most * gap + seat < 67108864 },
@@ -22,10 +22,10 @@ pub struct Course {
 
 // How far a walk has come: the pages tested, how many of them are not present, and the number of the page after them.
 #[derive(Clone, Copy)]
-pub struct Walk {
-    pub tested: usize,
-    pub missing: u32,
-    pub number: u32,
+struct Walk {
+    tested: usize,
+    missing: u32,
+    number: u32,
 }
 
 // The two maps of what q takes for cached, which are put together word by word.
@@ -49,7 +49,8 @@ impl<'a> Maps<'a> {
 }
 
 impl Course {
-    ghost use Rattle.std.specs.Prelude.{◌≡◌, List, ℕ, T, leb};
+    ghost use Rattle.std.specs.Prelude.{◌≡◌, List, ℕ, T, leb, eqb, ◌%◌};
+    ghost use Rattle.bits.specs.Map.{digit};
     ghost use Rattle.rules.specs.UseTimes.{pruned};
     ghost use Rattle.rules.specs.declared.State.{State};
     ghost use Rattle.rules.specs.Readers.{attached, reader_in};
@@ -88,19 +89,18 @@ impl Course {
         }
     }
 
-    // Tests one page: the count of the pages tested is raised here alone.
-    fn test_page(self, present: bool, p: Walk) -> Walk
+    // Tests one page, by its bit in a word of both maps: the count of the pages tested is raised here alone.
+    fn test_page(self, word: u64, key: usize, mut p: Walk) -> Walk
         requires { OnCourse self p × (p.tested < self.reach) × (p.missing < self.most) }
-        ensures { result ≡ one_page self present p }
+        ensures { result ≡ one_page self (eqb (digit word (key % 64)) 1) p }
     {
-        let mut next = p;
-        next.tested += 1;
-        next.number += self.page;
-        if !present {
-            next.missing += 1;
-            next.number += self.gap;
+        p.tested += 1;
+        p.number += self.page;
+        if !bits::has_digit(word, key % 64) {
+            p.missing += 1;
+            p.number += self.gap;
         }
-        next
+        p
     }
 
     // Walks on over the pages of one word, up to `end` pages in all.
@@ -116,7 +116,7 @@ impl Course {
                 return p;
             }
             table[key] = table[key].min(p.number);
-            p = self.test_page(bits::has_digit(word, key % 64), p);
+            p = self.test_page(word, key, p);
         }
         p
     }

@@ -11,7 +11,7 @@ loop-key-preserved c =
     let i = c.loop-key.invariant in
     let inside : p.tested < a.end = omega arith in
     let bit = eqb (digit a.word (c.loop-key.key % 64)) 1 in
-    rw (c.test_page-p.ensures, c.has_digit.ensures) (record {
+    rw c.test_page-p.ensures (record {
       here = omega arith;
       on_course = on-more a.self p bit i.on_course (omega arith) (omega arith);
       gaps = omega (arith, missing-one a.self p bit);
