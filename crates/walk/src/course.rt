@@ -63,10 +63,7 @@ impl Course {
         ensures most { (s : State) (q : ℕ) → s.look_ahead ≡ look → s.fetch_time ≡ time → q ≤ 1024 → pruned s q ≡ leb result q }
         ensures short { result * time ≤ look }
     {
-        if time == 0 {
-            return 1025;
-        }
-        look / time
+        look.checked_div(time).unwrap_or(1025)
     }
 
     // The course of the slot's reader: up to its last page, and K pages.
