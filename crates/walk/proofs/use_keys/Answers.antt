@@ -1,10 +1,11 @@
--- Invariant: the tables are those of the slots passed, and so are the pages tested and the words read.
-use Rattle.std.proofs.Common.{◌≡◌, ◌∙◌, arith}
+-- Invariant: the slots before this one are passed.
+use Rattle.std.proofs.Common.{◌≡◌, ◌∙◌, sym, arith}
 use Rattle.rules.specs.Views.{state_of}
 use Rattle.rules.specs.declared.State.{State}
-use Rattle.rules.proofs.laws.Leasts.{total-none, total-more}
-use Rattle.walk.proofs.Slots.{keyed-none, keyed-all, counts_all}
-use Rattle.walk.proofs.use_keys.Goals.{Start}
+use Rattle.rules.proofs.orders.Local.{maps-present}
+use Rattle.walk.proofs.Slots.{passed-none, passed-empty, passed-more, keyed-all, counts-all}
+use Rattle.walk.proofs.Words.{spanned-small}
+use Rattle.walk.proofs.use_keys.Goals.{Start, then-is_attached, else-is_attached}
 use Rattle.walk.proofs.use_keys.Goals as goal
 
 abbrev at : Start → State
@@ -12,33 +13,48 @@ at c = state_of c.args.v c.args.cached.now c.args.fetching.now
 
 pub loop-slot-init : goal.loop-slot-init
 loop-slot-init c =
-    let e = c.default-tally.ensures in record {
-      few = (omega arith, omega arith);
-      tested_is = e.0 ∙ total-none _;
-      words_are = e.1 ∙ total-none _;
-      keyed = rw c.requires.blank (keyed-none (at (goal.at.loop-slot-init c).Start));
-    }
+    let s = at (goal.at.loop-slot-init c).Start in
+    let p = c.requires.blank in
+    let e = c.default-tally.ensures in
+    rw (p.0, p.1, p.2, e.0, e.1) (passed-none s)
+
+pub set_bits-requires-then-is_attached : goal.set_bits-requires-then-is_attached
+set_bits-requires-then-is_attached c =
+    let o = c.of-course.ensures c.args.cached.now c.args.fetching.now in
+    omega (arith, o.from_is, o.file_high, o.position_in, o.last_high)
+
+pub overflow_add-tally-then-is_attached : goal.overflow_add-tally-then-is_attached
+overflow_add-tally-then-is_attached c =
+    omega (arith, c.loop-slot.invariant.words_few, c.walk_words-n.ensures.words, spanned-small c.of-course.result.from c.walk_words-n.result.tested)
 
 pub loop-slot-preserved : goal.loop-slot-preserved
 loop-slot-preserved c =
-    let slot = c.loop-slot.slot in
-    let i = c.loop-slot.invariant in
-    let e = c.walk_slot-n.ensures in
-    let r = e.keyed_by i.keyed in record {
-      few = (omega (arith, i.few, e.few), omega (arith, i.few, e.few));
-      tested_is = total-more _ slot _ _ i.tested_is r.1;
-      words_are = total-more _ slot _ _ i.words_are r.2;
-      keyed = r.0;
-    }
+    let s = at (goal.at.loop-slot-preserved c).Start in
+    let a = c.args in
+    let l = c.loop-slot in
+    elim c.if-is_attached.branch [
+      | then-is_attached w ↦
+          let o = w.of-course.ensures a.cached.now a.fetching.now in
+          let n = w.walk_words-n in
+          rw (w.ahead-is, w.seen-is, w.table-is, w.tally-is)
+          (passed-more s l.slot c.requires.valid l.ahead l.seen l.table l.tally.tested l.tally.words l.invariant
+          (omega arith) w.of-course.result o n.result.tested n.ensures.few _ _ _ (n.ensures.walked s l.slot o (maps-present s))
+          n.result.words n.ensures.words w.set_bits-then-is_attached.ensures w.set_bits.ensures)
+      | else-is_attached w ↦
+          rw (w.ahead-is, w.seen-is, w.table-is, w.tally-is)
+          (passed-empty s l.slot c.requires.valid l.ahead l.seen l.table l.tally.tested l.tally.words l.invariant
+          (sym c.is_attached.ensures ∙ w.if-is_attached.false))
+    ]
 
 pub returns : goal.returns
 returns c =
     let s = at (goal.at.returns c).Start in
     let l = c.loop-slot in
     let e : l.slot ≡ 16 = omega arith in
-    let counts = counts_all s l.tally.tested l.tally.words (rw e at l.invariant.tested_is) (rw e at l.invariant.words_are) in
-    let all = keyed-all s l.tables (rw e at l.invariant.keyed) in record {
-      few = (omega (arith, l.invariant.few), omega (arith, l.invariant.few));
+    let p = rw e at l.invariant in
+    let all = keyed-all s l.ahead l.seen l.table l.tally.tested l.tally.words p in
+    let counts = counts-all s l.ahead l.seen l.table l.tally.tested l.tally.words p in record {
+      few = (omega (arith, p.pages_few), omega (arith, p.words_few));
       report = counts.0;
       words = counts.1;
       keyed = all.0;
