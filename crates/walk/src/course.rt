@@ -11,7 +11,7 @@ use rules::View;
 pub struct Course {
     pub from: usize,
     reach: usize,
-    most: u32,
+    most: usize,
     page: u32,
     gap: u32,
     seat: u32,
@@ -24,7 +24,7 @@ pub struct Course {
 #[derive(Clone, Copy)]
 struct Walk {
     tested: usize,
-    missing: u32,
+    missing: usize,
     number: u32,
 }
 
@@ -59,11 +59,11 @@ impl Course {
     ghost use Rattle.walk.specs.Walks.{OfValid, OnCourse, one_page, Further, Shown, CourseOf, Along, Walked, spanned};
 
     // How many missing pages end a look-ahead: L divided by T, and more than a file has where fetches take no time.
-    fn most_missing(look: u32, time: u32) -> u32
+    fn most_missing(look: u32, time: u32) -> usize
         ensures most { (s : State) (q : ℕ) → s.look_ahead ≡ look → s.fetch_time ≡ time → q ≤ 1024 → pruned s q ≡ leb result q }
         ensures short { result * time ≤ look }
     {
-        look.checked_div(time).unwrap_or(1025)
+        look.checked_div(time).unwrap_or(1025) as usize
     }
 
     // The course of the slot's reader: up to its last page, and K pages.
