@@ -1,16 +1,47 @@
 -- One walk, page by page: no page, one page more, and the end. Assumes nothing.
-use mathlib.Core.Path.{◌≡◌, refl, sym, ap, ◌∙◌, subst}
-use mathlib.Core.Bool.{Bool, true, false, cond, ◌&&◌}
-use mathlib.Core.List.{List}
-use mathlib.Core.Logic.{◌⊎◌, ◌≢◌, ⊎_elim}
-use Prim.Native.Nat.{ℕ, suc, min, ◌+◌, ◌-◌, ◌*◌, ◌/◌, ◌%◌, ◌≤◌, ◌<◌}
+use Rattle.std.proofs.Common.{
+  ◌≡◌,
+  refl,
+  sym,
+  ap,
+  ◌∙◌,
+  subst,
+  Bool,
+  true,
+  false,
+  cond,
+  ◌&&◌,
+  List,
+  ◌⊎◌,
+  ◌≢◌,
+  ⊎_elim,
+  ℕ,
+  suc,
+  min,
+  ◌+◌,
+  ◌-◌,
+  ◌*◌,
+  ◌/◌,
+  ◌%◌,
+  ◌≤◌,
+  ◌<◌,
+  add-one,
+  arith,
+  le-leb,
+  T,
+  leb,
+  ltb,
+  le→leb,
+  leb→le,
+  get_or,
+  length,
+  set,
+  get_or-set_same,
+  get_or-set_other,
+}
 use native.Mathlib.Decide.{ℕ_discrete, dec_lt}
-use native.Mathlib.Numerals.{add-one}
-use native.Mathlib.Omega.{arith}
-use borrow.Author.Tests.{le-leb, lt-leb}
-use lib.Dec.{T, not_T, leb, ltb, le→leb, leb→le}
-use lib.ListN.{get_or, length, set}
-use lib.Seq.{get_or-set_same, get_or-set_other}
+use borrow.Author.Tests.{lt-leb}
+use lib.Dec.{not_T}
 use Rattle.bits.specs.Map.{bit, joined, one_of}
 use Rattle.bits.proofs.Joins.{joined-on}
 use Rattle.rules.specs.Pages.{file_of, page_of, key_of}
@@ -180,13 +211,11 @@ pub on-more : (c : Course) (p : Walk) (b : Bool) → OnCourse c p → p.tested <
 on-more c p true g l m = record {
   tested_in = omega arith;
   missing_low = omega (arith, g.missing_low);
-  missing_in = omega arith;
   number_is = rw g.number_is (omega arith);
 }
 on-more c p false g l m = record {
   tested_in = omega arith;
   missing_low = omega (arith, g.missing_low);
-  missing_in = omega arith;
   number_is = rw g.number_is (omega arith);
 }
 

@@ -1,5 +1,6 @@
 -- The table and the two maps, slot by slot, and what was counted. Assumes nothing.
-use Rattle.std.proofs.Common.{◌≡◌, refl, sym, ap, ◌∙◌, Bool, true, false, cond, ◌||◌, List, length, get_or, replicate, ℕ, min, ◌+◌, ◌-◌, ◌*◌, ◌≤◌, ◌<◌, add-one, arith}
+use Rattle.std.proofs.Common.{◌≡◌, refl, sym, ap, ◌∙◌, Bool, true, false, cond, ◌||◌, List}
+use Rattle.std.proofs.Common.{length, get_or, replicate, ℕ, min, ◌+◌, ◌-◌, ◌*◌, ◌≤◌, ◌<◌, add-one, arith}
 use Rattle.std.proofs.Math.ListN.{get_or-replicate}
 use Rattle.bits.specs.Map.{on, one_of}
 use Rattle.rules.specs.Lists.{range, some_of, least, total}

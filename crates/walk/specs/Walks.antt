@@ -24,7 +24,6 @@ one_page c here p =
 pub record OnCourse (c : Course) (p : Walk) : Type 0 where
   pub tested_in : p.tested ≤ c.reach
   pub missing_low : p.missing ≤ p.tested
-  pub missing_in : p.missing ≤ c.most
   pub number_is : p.number ≡ (p.tested + 1) * c.page + p.missing * c.gap + c.seat
 
 -- a walk went on from p to q: it ends at so many pages, or where too many are missing

@@ -7,7 +7,7 @@ use Rattle.walk.proofs.course.Course.walk_words.Goals as goal
 
 pub loop-at-init : goal.loop-at-init
 loop-at-init c = record {
-  on_course = record { tested_in = omega arith; missing_low = omega arith; missing_in = omega arith; number_is = omega arith };
+  on_course = record { tested_in = omega arith; missing_low = omega arith; number_is = omega arith };
   words_are = spanned-none c.args.self.from;
   fresh = λ _ _. inl refl;
   along = λ s j _ _. along-none s j c.args.table.now _;
