@@ -1,20 +1,49 @@
 -- One walk, page by page: no page, one page more, and the end. Assumes nothing.
-use mathlib.Core.Path.{◌≡◌, refl, sym, ap, ◌∙◌, subst}
-use mathlib.Core.Bool.{Bool, true, false, cond, ◌&&◌}
-use mathlib.Core.List.{List}
-use mathlib.Core.Logic.{◌⊎◌, ◌≢◌, ⊎_elim}
-use native.Mathlib.Nat.{suc-mul}
-use Prim.Native.Nat.{ℕ, suc, min, ◌+◌, ◌-◌, ◌*◌, ◌/◌, ◌%◌, ◌≤◌, ◌<◌}
+use Rattle.std.proofs.Common.{
+  ◌≡◌,
+  refl,
+  sym,
+  ap,
+  ◌∙◌,
+  subst,
+  Bool,
+  true,
+  false,
+  cond,
+  ◌&&◌,
+  List,
+  ◌⊎◌,
+  ◌≢◌,
+  ⊎_elim,
+  ℕ,
+  suc,
+  min,
+  ◌+◌,
+  ◌-◌,
+  ◌*◌,
+  ◌/◌,
+  ◌%◌,
+  ◌≤◌,
+  ◌<◌,
+  add-one,
+  arith,
+  le-leb,
+  T,
+  leb,
+  ltb,
+  le→leb,
+  leb→le,
+  get_or,
+  length,
+  set,
+  get_or-set_same,
+  get_or-set_other,
+}
 use native.Mathlib.Decide.{ℕ_discrete, dec_lt}
-use native.Mathlib.Numerals.{add-one}
-use native.Mathlib.Omega.{arith}
-use borrow.Author.Tests.{le-leb, lt-leb}
-use lib.Bits.{bit_or}
-use lib.Dec.{T, not_T, leb, ltb, le→leb, leb→le}
-use lib.ListN.{get_or, length, set, length-set}
-use lib.Seq.{get_or-set_same, get_or-set_other}
-use Rattle.bits.specs.Map.{bit, one_of}
-use Rattle.bits.proofs.Joins.{joined_at, joined-on}
+use borrow.Author.Tests.{lt-leb}
+use lib.Dec.{not_T}
+use Rattle.bits.specs.Map.{bit, joined, one_of}
+use Rattle.bits.proofs.Joins.{joined-on}
 use Rattle.rules.specs.Pages.{file_of, page_of, key_of}
 use Rattle.rules.specs.Readers.{reader_at, attached, next_key}
 use Rattle.rules.specs.UseTimes.{before, steps, present, missing, between, pruned, sees, time_for, seat, use_for}
@@ -26,9 +55,9 @@ use Rattle.rules.proofs.laws.Keys.{one-of, one-is}
 use Rattle.rules.proofs.orders.LookAheads.{before-is, is-before, sees-before, use-for}
 use Rattle.rules.specs.declared.State.{State}
 use Rattle.rules.specs.declared.Reader.{Reader}
-use Rattle.walk.specs.Walks.{one_page, Small, Shown, Course, Lowered, Along, InFile, Asked, Walked}
-use Rattle.walk.specs.declared.Walk.{Walk}
-use Rattle.walk.specs.declared.Strides.{Strides}
+use Rattle.walk.specs.Walks.{one_page, OnCourse, Shown, CourseOf, Lowered, Along, Walked}
+use Rattle.walk.specs.declared.course.Walk.{Walk}
+use Rattle.walk.specs.declared.course.Course.{Course}
 
 -- ---- the page after n others
 
@@ -112,28 +141,29 @@ module _ (s : State) (j : ℕ) (first : List ℕ) where
   r = reader_at s j
 
   -- no page
-  pub along-none : (number : ℕ) → number ≡ r.pace * 16 + seat s j
-      → Along s j first first (record { tested = 0; missing = 0; number = number })
+  pub along-none : (number : ℕ) → Along s j first first (record { tested = 0; missing = 0; number = number })
   unfolding missing
-  along-none number e = record {
+  along-none number = record {
     seen = λ i l. absurd (omega arith);
     count = refl;
-    next = e ∙ omega arith;
-    lowered = record { long = refl; lower = λ k. rw (stretch-none (next_key r) k) refl };
+    lowered = record { lower = λ k. rw (stretch-none (next_key r) k) refl };
   }
 
-  module _ (go : Strides) (from end : ℕ) (c : Course s j go from end) (table : List ℕ) (p : Walk) (a : Along s j first table p)
-      (l : p.tested < end) (m : p.missing < go.most) (q : p.missing ≤ 1024) where
+  module _ (c : Course) (o : CourseOf s j c) (table : List ℕ) (p : Walk) (g : OnCourse c p) (a : Along s j first table p)
+      (l : p.tested < c.reach) (m : p.missing < c.most) where
     abbrev here : ℕ
     here = next_key r + p.tested
 
     near : r.position + p.tested < 1024
-    near = omega (arith, c.in_reach, c.last_high)
+    near = omega (arith, o.reach_is, o.position_in, o.last_high)
+
+    few : p.missing ≤ 1024
+    few = omega (arith, o.reach_is, o.position_in, o.last_high, g.missing_low)
 
     sees-here : T (sees s r here)
     sees-here =
-        sees-next s r p.tested near c.here (omega (arith, c.in_reach)) (omega (arith, c.near))
-        (rw (← a.count) (c.most_is p.missing q ∙ lt-leb go.most p.missing m))
+        sees-next s r p.tested near o.here (omega (arith, o.reach_is, o.position_in)) (omega (arith, o.reach_is))
+        (rw (← a.count) (o.most_is p.missing few ∙ lt-leb c.most p.missing m))
 
     -- its number
     number-here : use_for s here j ≡ p.number
@@ -141,29 +171,17 @@ module _ (s : State) (j : ℕ) (first : List ℕ) where
         use-for s here j sees-here
         ∙ ap (λ t. t * 16 + seat s j)
         (of-time s r p.tested near ∙ ap (λ (i : ℕ). (p.tested + 1) * r.pace + i * s.fetch_time) (sym a.count))
-        ∙ sym a.next
+        ∙ sym (g.number_is ∙ rw (o.page_is, o.gap_is, o.seat_is) (omega arith))
 
-    count-more : (b : Bool) → present s here ≡ b → (one_page go b p).missing ≡ missing s r.file r.position (p.tested + 1)
+    count-more : (b : Bool) → present s here ≡ b → (one_page c b p).missing ≡ missing s r.file r.position (p.tested + 1)
     count-more b e = rw (missing-next s r p.tested near, e, ← a.count) (go_on b)
       where
         go_on : (b : Bool) → cond b p.missing (p.missing + 1) ≡ cond b 0 1 + p.missing
         go_on true = omega arith
         go_on false = omega arith
 
-    next_more : (b : Bool) → (one_page go b p).number ≡ ((p.tested + 1 + 1) * r.pace + (one_page go b p).missing * s.fetch_time) * 16 + seat s j
-    next_more true =
-        let e = suc-mul (p.tested + 1) r.pace in
-        let f : suc (p.tested + 1) ≡ p.tested + 1 + 1 = omega arith in
-        rw (← f, e) (omega (arith, a.next, c.page_is))
-    next_more false =
-        let e = suc-mul (p.tested + 1) r.pace in
-        let f : suc (p.tested + 1) ≡ p.tested + 1 + 1 = omega arith in
-        let g : suc p.missing ≡ p.missing + 1 = omega arith in
-        let h = suc-mul p.missing s.fetch_time in
-        rw (← f, e, ← g, h) (omega (arith, a.next, c.page_is, c.gap_is))
-
     lowered-more : (x : ℕ) → here < length table → x ≡ min (get_or table here 0) p.number → Lowered s j (p.tested + 1) first (set table here x)
-    lowered-more x long e = record { long = length-set table here x ∙ a.lowered.long; lower = λ k. by k (ℕ_discrete k here) }
+    lowered-more x long e = record { lower = λ k. by k (ℕ_discrete k here) }
       where
         by : (k : ℕ) → Dec (k ≡ here)
             → get_or (set table here x) k 0
@@ -175,103 +193,71 @@ module _ (s : State) (j : ℕ) (first : List ℕ) where
         by k (no f) = get_or-set_other table here k x 0 f ∙ a.lowered.lower k ∙ rw (stretch-other (next_key r) p.tested k f) refl
 
     -- one page more
-    pub along-more : (b : Bool) (x : ℕ) → present s (from + p.tested) ≡ b → from + p.tested < length table
-        → x ≡ min (get_or table (from + p.tested) 0) p.number → Along s j first (set table (from + p.tested) x) (one_page go b p)
-    along-more b x =
-        subst (λ (i : ℕ). present s (i + p.tested) ≡ b → i + p.tested < length table → x ≡ min (get_or table (i + p.tested) 0) p.number
-        → Along s j first (set table (i + p.tested) x) (one_page go b p)) (sym c.from_is)
+    pub along-more : (b : Bool) (x k : ℕ) → k ≡ c.from + p.tested → present s k ≡ b → k < length table
+        → x ≡ min (get_or table k 0) p.number → Along s j first (set table k x) (one_page c b p)
+    along-more b x k h =
+        subst (λ (i : ℕ). present s i ≡ b → i < length table → x ≡ min (get_or table i 0) p.number → Along s j first (set table i x) (one_page c b p))
+        (sym (h ∙ ap (λ (i : ℕ). i + p.tested) o.from_is))
         (λ e long f. record {
           seen = one_more (λ i. T (sees s r (next_key r + i))) p.tested a.seen sees-here;
           count = count-more b e;
-          next = next_more b;
           lowered = lowered-more x long f;
         })
 
--- ---- numbers that do not overflow
+-- ---- on a course
 
 -- one page more
-pub small-more : (go : Strides) (p : Walk) (b : Bool) → Small go p → p.tested < 1024 → Small go (one_page go b p)
-small-more go p true a l = record {
-  page_high = a.page_high;
-  gap_high = a.gap_high;
-  tested_high = omega arith;
-  missing_high = omega (arith, a.missing_high);
-  number_high = omega (arith, a.number_high, a.page_high);
+pub on-more : (c : Course) (p : Walk) (b : Bool) → OnCourse c p → p.tested < c.reach → p.missing < c.most → OnCourse c (one_page c b p)
+on-more c p true g l m = record {
+  tested_in = omega arith;
+  missing_low = omega (arith, g.missing_low);
+  number_is = rw g.number_is (omega arith);
 }
-small-more go p false a l = record {
-  page_high = a.page_high;
-  gap_high = a.gap_high;
-  tested_high = omega arith;
-  missing_high = omega (arith, a.missing_high);
-  number_high = omega (arith, a.number_high, a.page_high, a.gap_high);
+on-more c p false g l m = record {
+  tested_in = omega arith;
+  missing_low = omega (arith, g.missing_low);
+  number_is = rw g.number_is (omega arith);
 }
 
 -- at most one more is missing
-pub missing-one : (go : Strides) (p : Walk) (b : Bool) → (one_page go b p).missing ≤ p.missing + 1
-missing-one go p true = omega arith
-missing-one go p false = omega arith
+pub missing-one : (c : Course) (p : Walk) (b : Bool) → (one_page c b p).missing ≤ p.missing + 1
+missing-one c p true = omega arith
+missing-one c p false = omega arith
 
 -- ---- a word's part of a walk
 
--- a course up to fewer pages
-pub course-less : (s : State) (j : ℕ) (go : Strides) (from reach end : ℕ) → Course s j go from reach → end ≤ reach → Course s j go from end
-course-less s j go from reach end c l = record {
-  here = c.here;
-  last_high = c.last_high;
-  from_is = c.from_is;
-  page_is = c.page_is;
-  gap_is = c.gap_is;
-  most_is = c.most_is;
-  in_reach = omega (arith, c.in_reach);
-  near = omega (arith, c.near);
-}
-
--- both words together have what is present of their keys
+-- the word that both maps have at a key's place has what is present of its keys
 pub word-shown : (s : State) (xs ys : List ℕ) (from n end : ℕ) → Presents s xs ys → end ≤ n + 64 - (from + n) % 64
-    → Shown s (bit_or (get_or xs ((from + n) / 64) 0) (get_or ys ((from + n) / 64) 0)) from n end
+    → Shown s (get_or (joined xs ys) ((from + n) / 64) 0) from n end
 unfolding bit
 word-shown s xs ys from n end shows l i m u =
     let e : (from + i) / 64 ≡ (from + n) / 64 = omega arith in
-    shows (from + i) ∙ sym (joined-on xs ys (from + i)) ∙ rw (e, joined_at xs ys ((from + n) / 64)) refl
+    shows (from + i) ∙ sym (joined-on xs ys (from + i)) ∙ rw e refl
 
 -- ---- the whole walk
 
-module _ (s : State) (j : ℕ) (go : Strides) (from reach : ℕ) (c : Course s j go from reach)
-    (most : reach ≡ min ((reader_at s j).last - (reader_at s j).position) (s.look_ahead / (reader_at s j).pace))
-    (first table : List ℕ) (p : Walk) (a : Along s j first table p) (q : p.missing ≤ 1024) where
+module _ (s : State) (j : ℕ) (c : Course) (o : CourseOf s j c) (first table : List ℕ) (p : Walk) (g : OnCourse c p) (a : Along s j first table p) where
+  abbrev at : Reader
+  at = reader_at s j
+
   -- the page after the last one is not seen: no page is left in reach, or too many are missing
-  ends_there : (p.tested ≡ reach) ⊎ (go.most ≤ p.missing) → T (sees s (reader_at s j) (next_key (reader_at s j) + p.tested)) → ⊥
-  ends_there ends h = by (dec_lt ((reader_at s j).position + p.tested) 1024)
+  ends_there : (p.tested ≡ c.reach) ⊎ (c.most ≤ p.missing) → T (sees s at (next_key at + p.tested)) → ⊥
+  ends_there ends h = by (dec_lt (at.position + p.tested) 1024)
     where
-      by : Dec ((reader_at s j).position + p.tested < 1024) → ⊥
+      few : p.missing ≤ 1024
+      few = omega (arith, o.reach_is, o.position_in, o.last_high, g.tested_in, g.missing_low)
+
+      by : Dec (at.position + p.tested < 1024) → ⊥
       by (no l) =
-          let b = before-is (reader_at s j) (next_key (reader_at s j) + p.tested) (sees-before s (reader_at s j) (next_key (reader_at s j) + p.tested) h) in
+          let b = before-is at (next_key at + p.tested) (sees-before s at (next_key at + p.tested) h) in
           omega (arith, b.in_its_file)
       by (yes l) =
-          let n = next-seen s (reader_at s j) p.tested l h in
-          ⊎_elim (λ e. omega (arith, e, n.0, n.1, most))
+          let n = next-seen s at p.tested l h in
+          ⊎_elim (λ e. omega (arith, e, n.0, n.1, o.reach_is))
           (λ e.
           failed (pruned s p.missing) (ap (pruned s) a.count ∙ n.2)
-          (passed (pruned s p.missing) (c.most_is p.missing q ∙ le-leb go.most p.missing e))) ends
+          (passed (pruned s p.missing) (o.most_is p.missing few ∙ le-leb c.most p.missing e))) ends
 
   -- so the look-ahead is what was tested
-  pub walk_ends : (p.tested ≡ reach) ⊎ (go.most ≤ p.missing) → Walked s j first table p.tested
+  pub walk_ends : (p.tested ≡ c.reach) ⊎ (c.most ≤ p.missing) → Walked s j first table p.tested
   walk_ends ends = record { stretch = record { inside = a.seen; outside = ends_there ends }; lowered = a.lowered }
-
--- the course of a reader in a file
-pub course-of : (s : State) (j : ℕ) (cached fetching : List ℕ) (look time distance : ℕ) (r : Reader) (go : Strides) (from reach : ℕ)
-    → Asked s j cached fetching look time distance r → InFile r → (go.page ≡ r.pace * 16) × (go.gap ≡ time * 16)
-    → ((q : ℕ) → q ≤ 1024 → pruned s q ≡ leb go.most q) → from ≡ next_key r → reach ≡ min (r.last - r.position) (look / r.pace)
-    → Course s j go from reach
-course-of s j cached fetching look time distance r go from reach asked f g m e n =
-    let i = asked.reader_is in
-    record {
-      here = rw i f.here;
-      last_high = rw i f.last_high;
-      from_is = rw i e;
-      page_is = rw i g.0;
-      gap_is = rw asked.time_is g.1;
-      most_is = m;
-      in_reach = rw i (omega (arith, n, f.position_in));
-      near = rw (i, asked.look_is) (omega (arith, n));
-    }

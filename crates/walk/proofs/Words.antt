@@ -1,11 +1,32 @@
 -- How many words of a map hold a stretch of keys: none, one more for each word that is begun, at most sixteen for the pages of a file; and they are the words
 -- of the rules. Assumes nothing.
-use mathlib.Core.Path.{◌≡◌, refl, sym, ap, ◌∙◌, fun_ext}
-use mathlib.Core.Logic.{◌⊎◌, ⊎_elim}
-use Prim.Native.Nat.{ℕ, zero, suc, ◌+◌, ◌-◌, ◌*◌, ◌/◌, ◌%◌, ◌≤◌, ◌<◌}
+use Rattle.std.proofs.Common.{
+  ◌≡◌,
+  refl,
+  sym,
+  ap,
+  ◌∙◌,
+  ◌⊎◌,
+  ⊎_elim,
+  ℕ,
+  zero,
+  suc,
+  ◌+◌,
+  ◌-◌,
+  ◌*◌,
+  ◌/◌,
+  ◌%◌,
+  ◌≤◌,
+  ◌<◌,
+  arith,
+  T,
+  T_not,
+  eqb,
+  eqb→eq,
+}
+use mathlib.Core.Path.{fun_ext}
 use native.Mathlib.Decide.{dec_lt}
-use native.Mathlib.Omega.{arith}
-use lib.Dec.{T, T_not, not_T, eqb, eqb→eq, eqb_refl}
+use lib.Dec.{not_T, eqb_refl}
 use Rattle.bits.specs.Map.{one_of}
 use Rattle.rules.specs.Lists.{range, any}
 use Rattle.rules.specs.Schedules.{count}

@@ -2,16 +2,8 @@
 -- definitions.
 use Rattle.std.specs.Prelude.{ℕ, ◌<◌, ◌≡◌, List, get_or}
 use Rattle.bits.specs.Map.{on}
-use Rattle.rules.specs.Lists.{some_of, least}
-use Rattle.rules.specs.Readers.{reader_at}
-use Rattle.rules.specs.UseTimes.{before, sees, never, use_for, use_key, ahead, seen}
+use Rattle.rules.specs.UseTimes.{use_key, ahead, seen}
 use Rattle.rules.specs.declared.State.{State}
-
--- by the first m slots
-pub record KeyedBy (s : State) (m : ℕ) (before-some in_some table : List ℕ) : Type 0 where
-  pub ahead_is : (k : ℕ) → on before-some k ≡ some_of m (λ j. before (reader_at s j) k)
-  pub seen_is : (k : ℕ) → on in_some k ≡ some_of m (λ j. sees s (reader_at s j) k)
-  pub use_is : (k : ℕ) → k < 8192 → get_or table k 0 ≡ least m (use_for s k) never
 
 -- by all, page by page the rules' own: a map of the pages ahead of a reader and a table of the use keys, from which every rank can be told
 pub record Keyed (s : State) (before-some table : List ℕ) : Type 0 where
