@@ -3,7 +3,8 @@ use Prim.Native.Nat.{ℕ, ◌<◌}
 use borrow.Author.Tests.{eqb-true}
 use mathlib.Core.Path.{◌≡◌, sym, ap, ◌∙◌}
 use mathlib.Core.List.{List, map}
-use mathlib.Core.Option.{Option, some}
+use Rattle.std.specs.declared.option.Option.{Option}
+use Rattle.std.specs.declared.option.Option.TheVariants.{Some}
 use lib.Dec.{T}
 use Rattle.bits.specs.Map.{bit, put_bit}
 use Rattle.rules.specs.Lists.{head, on_option}
@@ -41,7 +42,7 @@ is-nothing g f x r e = option-none (λ q. r ≡ q) (chosen g) f x (ap chosen e)
 
 module _ (rule : State → Option ℕ) (s : State) (g : Choice) (b : chosen g ≡ rule s) where
   -- a key
-  rule-key : (k : ℕ) → g ≡ Key k → rule s ≡ some k
+  rule-key : (k : ℕ) → g ≡ Key k → rule s ≡ Some k
   rule-key k e = sym b ∙ chosen-key g k e
 
   -- what a call makes of it

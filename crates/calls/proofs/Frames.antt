@@ -2,7 +2,8 @@
 use Prim.Native.Nat.{ℕ, ◌≤◌, ◌<◌}
 use mathlib.Core.Path.{◌≡◌, refl, sym, ap, ◌∙◌}
 use mathlib.Core.List.{List}
-use mathlib.Core.Option.{Option, none, some}
+use Rattle.std.specs.declared.option.Option.{Option}
+use Rattle.std.specs.declared.option.Option.TheVariants.{Some, None}
 use native.Mathlib.Decide.{ℕ_discrete}
 use native.Mathlib.Omega.{arith}
 use lib.ListN.{length}
@@ -30,19 +31,19 @@ module _ (s : State) (v : Valid s) (n : ℕ) (e : n ≡ ones s.cached 0 8192) wh
   held = pages-ones s v s.cached v.cached_in ∙ sym e
 
   -- a frame is free, and no page is dropped
-  pub free-none : n < s.frames → none ≡ dropped s
+  pub free-none : n < s.frames → None ≡ dropped s
   unfolding dropped full
-  free-none h = cond_no (λ o. none ≡ o) (leb s.frames (length (cached_pages s))) (victim s) none (rw held (search outcomes)) refl
+  free-none h = cond_no (λ o. None ≡ o) (leb s.frames (length (cached_pages s))) (victim s) None (rw held (search outcomes)) refl
 
   -- all are taken, and the page to give up is
   pub taken-victim : s.frames ≤ n → victim s ≡ dropped s
   unfolding dropped full
-  taken-victim h = cond_yes (λ o. victim s ≡ o) (leb s.frames (length (cached_pages s))) (victim s) none (rw held (search outcomes)) refl
+  taken-victim h = cond_yes (λ o. victim s ≡ o) (leb s.frames (length (cached_pages s))) (victim s) None (rw held (search outcomes)) refl
 
 -- a page that is not cached is not once room is made
 pub eased-clear : (cached : List ℕ) (gone : Option ℕ) (k : ℕ) → CachedIn cached gone → bit cached k ≡ 0 → bit (eased cached gone) k ≡ 0
-eased-clear cached none k a e = e
-eased-clear cached (some g) k a e = by (ℕ_discrete k g)
+eased-clear cached None k a e = e
+eased-clear cached (Some g) k a e = by (ℕ_discrete k g)
   where
     by : Dec (k ≡ g) → bit (put_bit cached g 0) k ≡ 0
     by (yes q) = absurd (omega (arith, e, ap (bit cached) q, (a g refl).1))
@@ -50,5 +51,5 @@ eased-clear cached (some g) k a e = by (ℕ_discrete k g)
 
 -- the map is as long as it was
 pub eased-length : (cached : List ℕ) (gone : Option ℕ) → length (eased cached gone) ≡ length cached
-eased-length cached none = refl
-eased-length cached (some g) = put-length cached g 0
+eased-length cached None = refl
+eased-length cached (Some g) = put-length cached g 0

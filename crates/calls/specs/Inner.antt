@@ -1,6 +1,7 @@
 -- The parts of the rules that the functions work out, over just the fields that they read. Assumes nothing: these are definitions.
 use Rattle.std.specs.Prelude.{ℕ, ◌≤◌, ◌<◌, ◌≡◌, cond, List}
-use Rattle.std.proofs.Math.Option.{Option, some}
+use Rattle.std.specs.declared.option.Option.{Option}
+use Rattle.std.specs.declared.option.Option.TheVariants.{Some}
 use Rattle.bits.specs.Map.{bit, on}
 use Rattle.rules.specs.Lists.{on_option}
 use Rattle.rules.specs.Pages.{file_of, page_of, key_of}
@@ -43,7 +44,7 @@ open_fetch sizes fetching file page =
 
 -- the page chosen, if any, is one that the map has
 abbrev pub CachedIn : List ℕ → Option ℕ → Type 0
-CachedIn words gone = (k : ℕ) → gone ≡ some k → (k < 8192) × (bit words k ≡ 1)
+CachedIn words gone = (k : ℕ) → gone ≡ Some k → (k < 8192) × (bit words k ≡ 1)
 
 -- the cached map without that page, if there is one
 abbrev pub eased : List ℕ → Option ℕ → List ℕ

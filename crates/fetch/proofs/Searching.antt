@@ -1,7 +1,7 @@
 -- The search for the head of the fetch order, slot by slot: a reader's first absent page, and the one used soonest. Assumes nothing.
 use mathlib.Core.Path.{◌≡◌, refl, sym, ap₂, ◌∙◌, subst}
 use mathlib.Core.Bool.{Bool, not, ◌&&◌}
-use mathlib.Core.Option.{none, some}
+use Rattle.std.specs.declared.option.Option.TheVariants.{Some, None}
 use Prim.Native.Nat.{ℕ, zero, suc, ◌+◌, ◌-◌, ◌*◌, ◌≤◌, ◌<◌}
 use native.Mathlib.Omega.{arith}
 use borrow.Author.Tests.{eq-eqb}
@@ -93,9 +93,9 @@ module _ (s : State) where
 
   module _ (w : Valid s) (p : Pick) (a : Soonest s 16 p) where
     -- the page kept is the next to fetch
-    pub soonest-fetch : (p.value ≡ never → ⊥) → head (fetch_order s) ≡ some p.key
+    pub soonest-fetch : (p.value ≡ never → ⊥) → head (fetch_order s) ≡ Some p.key
     soonest-fetch n = let h : p.value < never = omega (arith, a.low) in best-wanted s w p.key p.value (a.page h) (a.its h) a.below
 
     -- none is kept, and there is none
-    pub soonest-nothing : p.value ≡ never → head (fetch_order s) ≡ none
+    pub soonest-nothing : p.value ≡ never → head (fetch_order s) ≡ None
     soonest-nothing e = no-wanted s w (subst (NoneBelow s 16) e a.below)

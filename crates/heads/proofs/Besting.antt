@@ -2,7 +2,7 @@
 use mathlib.Core.Path.{◌≡◌, refl, sym, ap, subst, ◌∙◌}
 use mathlib.Core.Bool.{Bool, true, false, cond}
 use mathlib.Core.List.{List}
-use mathlib.Core.Option.{none, some}
+use Rattle.std.specs.declared.option.Option.TheVariants.{Some, None}
 use Prim.Native.Nat.{ℕ, ◌+◌, ◌*◌, ◌/◌, ◌%◌, ◌≤◌, ◌<◌}
 use native.Mathlib.Decide.{ℕ_discrete, dec_lt}
 use native.Mathlib.Omega.{arith}
@@ -197,13 +197,13 @@ module _ (s : State) (w : Valid s) (done : ℕ) (few : done ≤ 16384) where
       low k c = omega (arith, (w.cached_in k (and_first (cached s k) _ c)).low)
 
       -- it is that of the page to give up
-      pub best-victim : (h ≡ 8192 → ⊥) → victim_among files s ≡ some (h % 8192)
+      pub best-victim : (h ≡ 8192 → ⊥) → victim_among files s ≡ Some (h % 8192)
       best-victim n =
           let some-page : 8192 < h = omega (arith, a.known) in
           head-is s w files (h % 8192) (a.held some-page)
           (λ k c. lasting-orders k (h % 8192) (rw (a.its some-page) (a.top k (low k c) c)))
 
       -- no page is there
-      pub best-nothing : h ≡ 8192 → victim_among files s ≡ none
+      pub best-nothing : h ≡ 8192 → victim_among files s ≡ None
       best-nothing e =
           (among_none s w files).1 (λ k c. let q : h / 8192 ≡ 1 = omega arith in omega (arith, a.top k (low k c) c, lasting-least k))

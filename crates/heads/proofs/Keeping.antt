@@ -3,7 +3,8 @@ use mathlib.Core.Path.{◌≡◌, refl, sym, ap, subst, ◌∙◌}
 use mathlib.Core.Bool.{false, ◌&&◌, and-false}
 use mathlib.Core.List.{List}
 use mathlib.Core.Logic.{◌≢◌}
-use mathlib.Core.Option.{Option, some}
+use Rattle.std.specs.declared.option.Option.{Option}
+use Rattle.std.specs.declared.option.Option.TheVariants.{Some}
 use Prim.Native.Nat.{ℕ, ◌+◌, ◌/◌, ◌%◌, ◌≤◌, ◌<◌}
 use native.Mathlib.Decide.{ℕ_discrete, dec_lt}
 use native.Mathlib.Omega.{arith}
@@ -84,7 +85,7 @@ module _ (s t : State) (done f : ℕ) where
 
 -- of no file is a head known at first
 pub kept-none : (s : State) (done : ℕ) (heads : List ℕ) → length heads ≡ 8 → ((f : ℕ) → f < 8 → get_or heads f 0 ≡ 0) → Kept s done heads
-kept-none s done heads long none = record { long = long; each = λ f l h. absurd (omega (arith, none f l)) }
+kept-none s done heads long None = record { long = long; each = λ f l h. absurd (omega (arith, None f l)) }
 
 -- a head is put
 pub kept_put : (s : State) (done : ℕ) (heads : List ℕ) (f h : ℕ) → f < 8 → Kept s done heads → HeadIs s done (alone f) 8 h → Kept s done (set heads f h)
@@ -147,15 +148,15 @@ none_read r f e = ap (λ b. b && eqb r.file f) e
 
 -- the file of the page that goes
 pub forgot-key : (heads left : List ℕ) (g : Choice) (k : ℕ) → g ≡ Key k → Forgot heads (λ f. f ≢ k / 1024) left
-    → Forgot heads (λ f. (i : ℕ) → chosen g ≡ some i → file_of i ≢ f) left
+    → Forgot heads (λ f. (i : ℕ) → chosen g ≡ Some i → file_of i ≢ f) left
 forgot-key heads left g k e = forgot-as heads left _ _ (λ f ne i h q. ne (omega (arith, q, one i h)))
   where
-    one : (i : ℕ) → chosen g ≡ some i → k ≡ i
+    one : (i : ℕ) → chosen g ≡ Some i → k ≡ i
     one i h = ap (λ o. on_option o (λ x. x) 0) (sym (chosen-key g k e) ∙ h)
 
 -- none goes
 pub forgot-nothing : (heads : List ℕ) (g : Choice) → g ≡ Nothing → length heads ≡ 8
-    → Forgot heads (λ f. (i : ℕ) → chosen g ≡ some i → file_of i ≢ f) heads
+    → Forgot heads (λ f. (i : ℕ) → chosen g ≡ Some i → file_of i ≢ f) heads
 forgot-nothing heads g e long = forgot_none heads _ long (λ f i h. absurd (omega (arith, ap count (sym (ap chosen e) ∙ h))))
   where
     count : Option ℕ → ℕ

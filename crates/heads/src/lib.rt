@@ -5,7 +5,7 @@
 #![tactic(auto)]
 
 ghost use Rattle.std.specs.Prelude.{◌≡◌, cond, ◌≢◌, ℕ, ◌≤◌, ◌<◌, T, ltb, length};
-ghost use Rattle.std.proofs.Math.Option.{some};
+ghost use Rattle.std.specs.declared.option.Option.TheVariants.{Some};
 ghost use Rattle.rules.specs.Pages.{file_of};
 ghost use Rattle.rules.specs.Readers.{attached};
 ghost use Rattle.rules.specs.Ranks.{victim_among};
@@ -52,8 +52,8 @@ pub fn forget_fetched(heads: &mut [u64; 8], fetch_time: u32, r: Reader)
 
 // A page goes, if one is chosen.
 fn forget_gone(heads: &mut [u64; 8], gone: Choice)
-    requires { (length heads.old ≡ 8) × ((k : ℕ) → chosen gone ≡ some k → k < 8192) }
-    ensures { Forgot heads.old (λ f. ((k : ℕ) → chosen gone ≡ some k → file_of k ≢ f)) heads.new }
+    requires { (length heads.old ≡ 8) × ((k : ℕ) → chosen gone ≡ Some k → k < 8192) }
+    ensures { Forgot heads.old (λ f. ((k : ℕ) → chosen gone ≡ Some k → file_of k ≢ f)) heads.new }
 {
     match gone {
         Choice::Key(k) => {
@@ -65,8 +65,8 @@ fn forget_gone(heads: &mut [u64; 8], gone: Choice)
 
 // A page has arrived, and one has gone for it, if one is chosen.
 pub fn forget_arrived(heads: &mut [u64; 8], key: usize, gone: Choice)
-    requires { (length heads.old ≡ 8) × (key < 8192) × ((k : ℕ) → chosen gone ≡ some k → k < 8192) }
-    ensures { Forgot heads.old (λ f. ((f ≢ file_of key) × ((k : ℕ) → chosen gone ≡ some k → file_of k ≢ f))) heads.new }
+    requires { (length heads.old ≡ 8) × (key < 8192) × ((k : ℕ) → chosen gone ≡ Some k → k < 8192) }
+    ensures { Forgot heads.old (λ f. ((f ≢ file_of key) × ((k : ℕ) → chosen gone ≡ Some k → file_of k ≢ f))) heads.new }
 {
     forget(heads, key / 1024);
     forget_gone(heads, gone);

@@ -1,7 +1,7 @@
 -- The page that goes first of a set's files, as either search finds it. Assumes nothing.
 use mathlib.Core.Path.{◌≡◌}
 use mathlib.Core.Bool.{Bool}
-use mathlib.Core.Option.{none, some}
+use Rattle.std.specs.declared.option.Option.TheVariants.{Some, None}
 use Prim.Native.Nat.{ℕ, ◌<◌}
 use native.Mathlib.Omega.{arith}
 use Rattle.rules.specs.Valid.{Valid}
@@ -20,11 +20,11 @@ module _ (s : State) (w : Valid s) (files : ℕ → Bool) (p : Pick) where
 
   module _ (a : First s files p) where
     -- it is the one to give up
-    pub first-victim : (p.value ≡ 0 → ⊥) → victim_among files s ≡ some p.key
+    pub first-victim : (p.value ≡ 0 → ⊥) → victim_among files s ≡ Some p.key
     first-victim ne =
         let h : 0 < p.value = omega arith in
         head-is s w files p.key (a.page.held h) (λ k c. omega (arith, a.top k c, a.page.its h))
 
     -- there is none
-    pub first-nothing : p.value ≡ 0 → victim_among files s ≡ none
+    pub first-nothing : p.value ≡ 0 → victim_among files s ≡ None
     first-nothing e = (among_none s w files).1 (λ k c. omega (arith, a.top k c, rank-positive s w k))

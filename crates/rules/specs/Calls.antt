@@ -2,7 +2,8 @@
 -- the count of attaches: A.6. Numbers are any numbers; where several refusals apply, the one listed first for the call is given. Assumes nothing: these are
 -- definitions.
 use Rattle.std.specs.Prelude.{ℕ, min, ◌+◌, ◌-◌, ◌/◌, Bool, not, cond, ◌&&◌, ◌||◌, List, map, set, length, replicate, leb, ltb, eqb}
-use Rattle.std.proofs.Math.Option.{Option, none}
+use Rattle.std.specs.declared.option.Option.{Option}
+use Rattle.std.specs.declared.option.Option.TheVariants.{None}
 use Rattle.bits.specs.Map.{put_bit}
 use Rattle.rules.specs.Lists.{every, within, head, on_option}
 use Rattle.rules.specs.Pages.{size, file_of, page_of, key_of, cached, in_fetch, cached_pages}
@@ -184,7 +185,7 @@ full s = leb s.frames (length (cached_pages s))
 
 -- "If all frames are taken, the head of the steal order is dropped first": the page that arrives is still in fetch then, and so present (A.5)
 unfoldable pub dropped : State → Option ℕ
-dropped s = cond (full s) (victim s) none
+dropped s = cond (full s) (victim s) None
 
 -- a reader waiting for page k runs
 unfoldable pub woken : ℕ → Reader → Reader

@@ -1,6 +1,7 @@
 -- Words about lists and numbers that the rules are written in. Assumes nothing: these are definitions.
 use Rattle.std.specs.Prelude.{ℕ, zero, suc, min, ◌+◌, Bool, true, false, cond, ◌&&◌, ◌||◌, List, [], ◌∷◌, ◌++◌, length, take, drop, leb}
-use Rattle.std.proofs.Math.Option.{Option, none, some}
+use Rattle.std.specs.declared.option.Option.{Option}
+use Rattle.std.specs.declared.option.Option.TheVariants.{Some, None}
 
 -- a, a + 1, .., n of them
 unfoldable pub range : ℕ → ℕ → List ℕ
@@ -70,10 +71,10 @@ rising g = sorted (λ x y. leb (g x) (g y))
 
 -- the first member, if any
 abbrev pub head : List ℕ → Option ℕ
-head [] = none
-head (x ∷ xs) = some x
+head [] = None
+head (x ∷ xs) = Some x
 
 -- by whether there is one
 abbrev pub on_option : {A : Type 0} → Option ℕ → (ℕ → A) → A → A
-on_option none f a = a
-on_option (some k) f a = f k
+on_option None f a = a
+on_option (Some k) f a = f k

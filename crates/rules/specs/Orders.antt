@@ -1,7 +1,7 @@
 -- The steal order and the fetch order: 01, "Use times"; the 1993 weighting beside the 1989 rule: A.6. A.5, of a page in fetch: "it is still not in the steal
 -- order and not fetched twice". Assumes nothing: these are definitions.
 use Rattle.std.specs.Prelude.{ℕ, zero, suc, ◌+◌, ◌*◌, ◌-◌, Bool, not, cond, ◌&&◌, List, [], ◌∷◌, ◌++◌, get_or, length, leb, eqb}
-use Rattle.std.proofs.Math.Option.{Option}
+use Rattle.std.specs.declared.option.Option.{Option}
 use Rattle.rules.specs.Lists.{only, every, total, falling, rising, head, on_option}
 use Rattle.rules.specs.Pages.{size, file_of, page_of, pages, cached, in_fetch}
 use Rattle.rules.specs.UseTimes.{use_key, ahead, seen}

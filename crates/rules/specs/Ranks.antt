@@ -2,7 +2,7 @@
 -- the words in which the code's contracts speak of the orders. proofs/orders/Ranks.antt, Candidates.antt, Victims.antt and Stretches.antt show that these are
 -- the orders and the look-aheads. Assumes nothing: these are definitions.
 use Rattle.std.specs.Prelude.{ℕ, ◌+◌, ◌*◌, ◌≤◌, ◌<◌, ◌≡◌, Bool, cond, ◌&&◌, ◌||◌, List, [], ◌∷◌, T}
-use Rattle.std.proofs.Math.Option.{Option}
+use Rattle.std.specs.declared.option.Option.{Option}
 use Rattle.bits.specs.Map.{on}
 use Rattle.rules.specs.Lists.{only, head}
 use Rattle.rules.specs.Pages.{file_of, page_of, cached}

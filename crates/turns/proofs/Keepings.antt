@@ -4,7 +4,8 @@ use mathlib.Core.Path.{◌≡◌, refl, sym, ap, ap₂, ◌∙◌}
 use mathlib.Core.Bool.{Bool, ◌&&◌, ◌||◌}
 use mathlib.Core.List.{List}
 use mathlib.Core.Logic.{◌≢◌, ◌⊎◌, inl, inr}
-use mathlib.Core.Option.{Option, none, some}
+use Rattle.std.specs.declared.option.Option.{Option}
+use Rattle.std.specs.declared.option.Option.TheVariants.{Some, None}
 use native.Mathlib.Decide.{ℕ_discrete}
 use native.Mathlib.Omega.{arith}
 use borrow.Author.Tests.{eqb-false}
@@ -42,9 +43,9 @@ on-other : (words : List ℕ) (key v k : ℕ) → v < 2 → k ≢ key → on (pu
 on-other words key v k l ne = ap (λ b. eqb b 1) (put_other words key v k (omega arith) ne)
 
 -- nor where a page gave up its frame, if one did
-eased-other : (words : List ℕ) (gone : Option ℕ) (k : ℕ) → ((i : ℕ) → gone ≡ some i → file_of i ≢ file_of k) → on (eased words gone) k ≡ on words k
-eased-other words none k h = refl
-eased-other words (some i) k h = on-other words i 0 k (omega arith) (λ e. h i refl (ap file_of (sym e)))
+eased-other : (words : List ℕ) (gone : Option ℕ) (k : ℕ) → ((i : ℕ) → gone ≡ Some i → file_of i ≢ file_of k) → on (eased words gone) k ≡ on words k
+eased-other words None k h = refl
+eased-other words (Some i) k h = on-other words i 0 k (omega arith) (λ e. h i refl (ap file_of (sym e)))
 
 -- the readers of two states that differ in one slot alone, which has no reader of the file in either
 readers-pass : (f slot : ℕ) (a b : List Reader) → ((j : ℕ) → j ≢ slot → reader_in a j ≡ reader_in b j) → NotOf f (reader_in a slot) → NotOf f (reader_in b slot)
@@ -146,7 +147,7 @@ module _ (t : Terms) (sizes weights seats map fetching heads : List ℕ) (r : Re
 
       -- what is not to be forgotten then
       abbrev Stays : ℕ → Type 0
-      Stays f = (f ≢ file_of key) × ((k : ℕ) → gone ≡ some k → file_of k ≢ f)
+      Stays f = (f ≢ file_of key) × ((k : ℕ) → gone ≡ Some k → file_of k ≢ f)
 
       map_same : (f k : ℕ) → Stays f → file_of k ≡ f → on map k ≡ on map' k
       map_same f k n q =

@@ -4,7 +4,7 @@ use mathlib.Core.Path.{◌≡◌, refl, sym, ◌∙◌, subst}
 use mathlib.Core.Bool.{true, false, not}
 use mathlib.Core.List.{List, map}
 use mathlib.Core.Logic.{◌≢◌}
-use mathlib.Core.Option.{none, some}
+use Rattle.std.specs.declared.option.Option.TheVariants.{Some, None}
 use native.Mathlib.Omega.{arith}
 use borrow.Author.Tests.{leb-true, leb-false, eqb-false}
 use lib.ListN.{get_or, length, length-map, get_or-map}
@@ -91,26 +91,26 @@ module _ (s : State) (v : Valid s) (k : ℕ) where
 
 module _ (s : State) (v : Valid s) where
   -- where all frames are taken there is one
-  pub full-victim : full s ≡ true → victim s ≡ none → ⊥
+  pub full-victim : full s ≡ true → victim s ≡ None → ⊥
   unfolding full
   full-victim e n = omega (arith, leb-true s.frames (length (cached_pages s)) e, none-cached s v.sizes_high ((no-victim s v).0 n), v.frames_low)
 
   -- a page is dropped where all frames are taken, and is the one to give up
-  pub full-dropped : (k : ℕ) → dropped s ≡ some k → (full s ≡ true) × (victim s ≡ some k)
+  pub full-dropped : (k : ℕ) → dropped s ≡ Some k → (full s ≡ true) × (victim s ≡ Some k)
   unfolding dropped
   full-dropped k =
-      cond-all (λ o. o ≡ some k → (full s ≡ true) × (victim s ≡ some k)) (full s) (victim s) none (λ f e. (f, e))
+      cond-all (λ o. o ≡ Some k → (full s ≡ true) × (victim s ≡ Some k)) (full s) (victim s) None (λ f e. (f, e))
       (λ _ e. let z : ◌≡◌ {A = ℕ} 0 1 = cc in absurd (omega arith))
 
   -- so it is cached
-  pub dropped-some : (k : ℕ) → dropped s ≡ some k → T (cached s k)
+  pub dropped-some : (k : ℕ) → dropped s ≡ Some k → T (cached s k)
   dropped-some k e = victim-cached s v k (full-dropped k e).1
 
   -- where no page is dropped a frame is free
-  pub dropped-none : dropped s ≡ none → length (cached_pages s) < s.frames
+  pub dropped-none : dropped s ≡ None → length (cached_pages s) < s.frames
   unfolding dropped full
   dropped-none =
-      cond-all (λ o. o ≡ none → length (cached_pages s) < s.frames) (full s) (victim s) none (λ f e. absurd (full-victim f e))
+      cond-all (λ o. o ≡ None → length (cached_pages s) < s.frames) (full s) (victim s) None (λ f e. absurd (full-victim f e))
       (λ f _. leb-false s.frames (length (cached_pages s)) f)
 
   -- the cached map once a page has gone, if one must: it has no other pages, and room for one

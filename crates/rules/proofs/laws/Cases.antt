@@ -2,7 +2,8 @@
 use Prim.Native.Nat.{ℕ, ◌≤◌, ◌<◌}
 use mathlib.Core.Path.{◌≡◌, refl, sym, subst, ◌∙◌}
 use mathlib.Core.Bool.{Bool, true, false, not, cond, ◌&&◌, ◌||◌}
-use mathlib.Core.Option.{Option, none, some}
+use Rattle.std.specs.declared.option.Option.{Option}
+use Rattle.std.specs.declared.option.Option.TheVariants.{Some, None}
 use native.Mathlib.Omega.{arith}
 use borrow.Author.Tests.{lt-ltb, le-ltb, le-leb, lt-leb, eq-eqb, ne_eqb, leb-true, ltb-false, eqb-false, not-true, not-false}
 use lib.Dec.{T, leb, ltb, eqb}
@@ -31,9 +32,9 @@ module _ {A : Type 0} (P : A → Type 0) where
   condition-all Waiting x y z f g h = h refl
 
   -- by whether there is one
-  pub option-all : (o : Option ℕ) (f : ℕ → A) (x : A) → ((k : ℕ) → o ≡ some k → P (f k)) → (o ≡ none → P x) → P (on_option o f x)
-  option-all none f x g h = h refl
-  option-all (some k) f x g h = g k refl
+  pub option-all : (o : Option ℕ) (f : ℕ → A) (x : A) → ((k : ℕ) → o ≡ Some k → P (f k)) → (o ≡ None → P x) → P (on_option o f x)
+  option-all None f x g h = h refl
+  option-all (Some k) f x g h = g k refl
 
   -- by whether Read's answer is F
   pub fetch-all : (a : Answer) (f : ℕ → ℕ → A) (x : A) → ((file page : ℕ) → a ≡ Fetch file page → P (f file page)) → P x → P (on_fetch a f x)
@@ -70,11 +71,11 @@ module _ {A : Type 0} (P : A → Type 0) where
   condition-waiting c x y z e p = rw e p
 
   -- there is one
-  pub option-some : (o : Option ℕ) (f : ℕ → A) (x : A) (k : ℕ) → o ≡ some k → P (f k) → P (on_option o f x)
+  pub option-some : (o : Option ℕ) (f : ℕ → A) (x : A) (k : ℕ) → o ≡ Some k → P (f k) → P (on_option o f x)
   option-some o f x k e p = rw e p
 
   -- there is none
-  pub option-none : (o : Option ℕ) (f : ℕ → A) (x : A) → o ≡ none → P x → P (on_option o f x)
+  pub option-none : (o : Option ℕ) (f : ℕ → A) (x : A) → o ≡ None → P x → P (on_option o f x)
   option-none o f x e p = rw e p
 
 -- the outcome of a test from what is known of its numbers

@@ -2,7 +2,7 @@
 use mathlib.Core.Path.{◌≡◌, refl, sym, ap, ◌∙◌, subst}
 use mathlib.Core.Bool.{Bool, true, not, cond}
 use mathlib.Core.List.{List, [], ◌∷◌}
-use mathlib.Core.Option.{none, some}
+use Rattle.std.specs.declared.option.Option.TheVariants.{Some, None}
 use Prim.Native.Nat.{ℕ, ◌+◌, ◌≤◌}
 use native.Mathlib.Omega.{arith}
 use lib.ListN.{length}
@@ -93,16 +93,16 @@ pub once-only : (P : ℕ → Bool) (l : List ℕ) → Once l → Once (only P l)
 once-only P l h k = omega (arith, h k, parts-length P (λ j. eqb j k) l)
 
 -- a list that is not empty has a first member
-pub head-some : (l : List ℕ) → 1 ≤ length l → (k : ℕ) × (head l ≡ some k)
+pub head-some : (l : List ℕ) → 1 ≤ length l → (k : ℕ) × (head l ≡ Some k)
 head-some [] h = absurd (omega arith)
 head-some (x ∷ l) h = (x, refl)
 
 -- the first that passes a test passes it, and stands there
-pub head-there : (P : ℕ → Bool) (l : List ℕ) (k : ℕ) → head (only P l) ≡ some k → T (P k) × (1 ≤ times k l)
+pub head-there : (P : ℕ → Bool) (l : List ℕ) (k : ℕ) → head (only P l) ≡ Some k → T (P k) × (1 ≤ times k l)
 unfolding only
 head-there P [] k e = let z : ◌≡◌ {A = ℕ} 0 1 = cc in absurd (omega arith)
 head-there P (x ∷ l) k e₀ =
-    both (P x) (λ t. (T t → T (P x)) → head (cond t (x ∷ only P l) (only P l)) ≡ some k → T (P k) × (1 ≤ times k (x ∷ l)))
+    both (P x) (λ t. (T t → T (P x)) → head (cond t (x ∷ only P l) (only P l)) ≡ Some k → T (P k) × (1 ≤ times k (x ∷ l)))
     (λ _ p e. let q : x ≡ k = cc in (subst (λ j. T (P j)) q (p tt), subst (λ j. 1 ≤ times j (x ∷ l)) q (omega (arith, times-self x l))))
     (λ _ _ e. let r = head-there P l k e in (r.0, omega (arith, r.1, only-length (λ j. eqb j k) x l))) (λ p. p) e₀
 
@@ -130,11 +130,11 @@ all_there Q (x ∷ l) h =
     (h x (omega (arith, times-self x l)), all_there Q l (λ k e. h k (omega (arith, e, only-length (λ j. eqb j k) x l))))
 
 -- the first member stands there
-pub head-times : (l : List ℕ) (k : ℕ) → head l ≡ some k → 1 ≤ times k l
+pub head-times : (l : List ℕ) (k : ℕ) → head l ≡ Some k → 1 ≤ times k l
 head-times l k e = (head-there (λ _. true) l k (ap head (only-true l) ∙ e)).1
 
 -- an empty list has no first member, and nothing stands there
-pub head-nothing : (l : List ℕ) (k : ℕ) → head l ≡ none → times k l ≡ 0
+pub head-nothing : (l : List ℕ) (k : ℕ) → head l ≡ None → times k l ≡ 0
 unfolding only
 head-nothing [] k e = refl
 head-nothing (x ∷ l) k e = let z : ◌≡◌ {A = ℕ} 0 1 = cc in absurd (omega arith)

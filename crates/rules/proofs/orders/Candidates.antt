@@ -1,6 +1,7 @@
 -- Where the heads of the two orders are found: of a file's cached pages with no reader between the last, of a reader's absent pages the first. Assumes nothing.
 use mathlib.Core.Path.{◌≡◌, refl, sym, ◌∙◌, subst}
-use mathlib.Core.Option.{Option, none, some}
+use Rattle.std.specs.declared.option.Option.{Option}
+use Rattle.std.specs.declared.option.Option.TheVariants.{Some, None}
 use mathlib.Core.Logic.{◌↔◌}
 use Prim.Native.Nat.{ℕ, ◌+◌, ◌≤◌, ◌<◌}
 use native.Mathlib.Omega.{arith}
@@ -24,7 +25,7 @@ use Rattle.rules.specs.declared.Reader.{Reader}
 
 module _ (s : State) (w : Valid s) where
   -- there is nothing to fetch exactly where nothing is wanted
-  no-fetch : (head (fetch_order s) ≡ none) ↔ ((k : ℕ) → T (wanted s k) → ⊥)
+  no-fetch : (head (fetch_order s) ≡ None) ↔ ((k : ℕ) → T (wanted s k) → ⊥)
   unfolding fetch_order
   no-fetch = (none_in s w (wanted s) (wanted-page s w) _ smaller-first (use_key s), none_of s w (wanted s) (wanted-page s w) _ smaller-first (use_key s))
 
@@ -110,7 +111,7 @@ module _ (s : State) where
 
 module _ (s : State) (w : Valid s) where
   -- the head of the fetch order is, for the slot that its use key is of, the first absent page
-  pub first-wanted : (k : ℕ) → head (fetch_order s) ≡ some k
+  pub first-wanted : (k : ℕ) → head (fetch_order s) ≡ Some k
       → (j : ℕ) × (j < 16) × T (sees s (reader_at s j) k) × (use_key s k ≡ use_for s k j) × FirstAbsent s (reader_at s j) k
   first-wanted k e = (m.0, m.1, m.2, m.3, record { ahead_of = sees-before s r k m.2; lacking = and_second (seen s k) _ h; first = first })
     where
@@ -130,19 +131,19 @@ module _ (s : State) (w : Valid s) where
           omega (arith, m.3, fetch-first s w k e i x, use-least s i m.0 m.1, use-rises s w m.0 i k b l m.2)
 
   -- a wanted page is the head if no slot's first absent page has a key below its use key
-  pub best-wanted : (v b : ℕ) → T (wanted s v) → use_key s v ≤ b → NoneBelow s 16 b → head (fetch_order s) ≡ some v
+  pub best-wanted : (v b : ℕ) → T (wanted s v) → use_key s v ≤ b → NoneBelow s 16 b → head (fetch_order s) ≡ Some v
   best-wanted v b h l a = go (head (fetch_order s)) refl
     where
-      go : (o : Option ℕ) → head (fetch_order s) ≡ o → head (fetch_order s) ≡ some v
-      go none e = absurd ((no-fetch s w).0 e v h)
-      go (some k) e = let x = first-wanted k e in fetch-head-is s w v h (λ i g. omega (arith, fetch-first s w k e i g, x.3, a x.0 x.1 k x.2 x.4))
+      go : (o : Option ℕ) → head (fetch_order s) ≡ o → head (fetch_order s) ≡ Some v
+      go None e = absurd ((no-fetch s w).0 e v h)
+      go (Some k) e = let x = first-wanted k e in fetch-head-is s w v h (λ i g. omega (arith, fetch-first s w k e i g, x.3, a x.0 x.1 k x.2 x.4))
 
   -- there is no head where no slot sees its first absent page
-  pub no-wanted : NoneBelow s 16 never → head (fetch_order s) ≡ none
+  pub no-wanted : NoneBelow s 16 never → head (fetch_order s) ≡ None
   no-wanted a = go (head (fetch_order s)) refl
     where
-      go : (o : Option ℕ) → head (fetch_order s) ≡ o → o ≡ none
-      go none e = refl
-      go (some k) e =
+      go : (o : Option ℕ) → head (fetch_order s) ≡ o → o ≡ None
+      go None e = refl
+      go (Some k) e =
           let x = first-wanted k e in
           absurd (omega (arith, x.3, a x.0 x.1 k x.2 x.4, seen-small s k w.look_high (and_first (seen s k) _ (fetch-wanted s w k e))))

@@ -2,7 +2,7 @@
 use mathlib.Core.Path.{◌≡◌, sym, ap, ◌∙◌, subst}
 use mathlib.Core.Bool.{Bool, not}
 use mathlib.Core.List.{map}
-use mathlib.Core.Option.{none, some}
+use Rattle.std.specs.declared.option.Option.TheVariants.{Some, None}
 use mathlib.Core.Logic.{◌⊎◌, inl, inr, ◌↔◌}
 use Prim.Native.Nat.{ℕ, ◌+◌, ◌-◌, ◌*◌, ◌%◌, ◌≤◌, ◌<◌}
 use native.Mathlib.Omega.{arith}
@@ -142,17 +142,17 @@ module _ (s : State) (w : Valid s) where
         ∙ ap (λ l. head (falling (rank s) l)) (only-only (cached s) (λ k. files (file_of k)) (pages s))
 
     -- it has the largest rank
-    pub among-top : (v : ℕ) → victim_among files s ≡ some v → (k : ℕ) → T (cached_among files s k) → rank s k ≤ rank s v
+    pub among-top : (v : ℕ) → victim_among files s ≡ Some v → (k : ℕ) → T (cached_among files s k) → rank s k ≤ rank s v
     among-top v e k h = leb→le (rank s k) (rank s v) (first_of s w (cached_among files s) among_in _ larger-first (rank s) v (sym among-ranked ∙ e) k h)
 
     -- a cached page of the set with the largest rank is the one
-    pub head-is : (v : ℕ) → T (cached_among files s v) → ((k : ℕ) → T (cached_among files s k) → rank s k ≤ rank s v) → victim_among files s ≡ some v
+    pub head-is : (v : ℕ) → T (cached_among files s v) → ((k : ℕ) → T (cached_among files s k) → rank s k ≤ rank s v) → victim_among files s ≡ Some v
     head-is v c top =
         among-ranked
         ∙ first-is s w (cached_among files s) among_in _ larger-first (rank s) among_one v c (λ k h. le→leb (rank s k) (rank s v) (top k h))
 
     -- there is none exactly where the set has no cached page
-    pub among_none : (victim_among files s ≡ none) ↔ ((k : ℕ) → T (cached_among files s k) → ⊥)
+    pub among_none : (victim_among files s ≡ None) ↔ ((k : ℕ) → T (cached_among files s k) → ⊥)
     among_none = (
       λ e. none_in s w (cached_among files s) among_in _ larger-first (rank s) (sym among-ranked ∙ e),
       λ h. among-ranked ∙ none_of s w (cached_among files s) among_in _ larger-first (rank s) h,
@@ -173,16 +173,16 @@ module _ (s : State) (w : Valid s) where
   fetch-by-sort = by-sort s w (wanted s) wanted-page _ smaller-first (use_key s) wanted-one
 
   -- the fetch order's head is wanted
-  pub fetch-wanted : (v : ℕ) → head (fetch_order s) ≡ some v → T (wanted s v)
+  pub fetch-wanted : (v : ℕ) → head (fetch_order s) ≡ Some v → T (wanted s v)
   unfolding fetch_order
   fetch-wanted = first-in s w (wanted s) wanted-page _ smaller-first (use_key s)
 
   -- the fetch order's head has the smallest use key
-  pub fetch-first : (v : ℕ) → head (fetch_order s) ≡ some v → (k : ℕ) → T (wanted s k) → use_key s v ≤ use_key s k
+  pub fetch-first : (v : ℕ) → head (fetch_order s) ≡ Some v → (k : ℕ) → T (wanted s k) → use_key s v ≤ use_key s k
   unfolding fetch_order
   fetch-first v e k h = leb→le (use_key s v) (use_key s k) (first_of s w (wanted s) wanted-page _ smaller-first (use_key s) v e k h)
 
   -- a wanted page of the smallest use key is the fetch order's head
-  pub fetch-head-is : (v : ℕ) → T (wanted s v) → ((k : ℕ) → T (wanted s k) → use_key s v ≤ use_key s k) → head (fetch_order s) ≡ some v
+  pub fetch-head-is : (v : ℕ) → T (wanted s v) → ((k : ℕ) → T (wanted s k) → use_key s v ≤ use_key s k) → head (fetch_order s) ≡ Some v
   unfolding fetch_order
   fetch-head-is v h top = first-is s w (wanted s) wanted-page _ smaller-first (use_key s) wanted-one v h (λ k g. le→leb (use_key s v) (use_key s k) (top k g))

@@ -4,7 +4,8 @@
 use mathlib.Core.Path.{◌≡◌, refl, sym, ap, ap₂, ◌∙◌, subst, fun_ext}
 use mathlib.Core.Bool.{Bool, not, cond, ◌&&◌, ◌||◌, and-true, and-false}
 use mathlib.Core.List.{List, [], ◌∷◌, ◌++◌}
-use mathlib.Core.Option.{Option, none, some}
+use Rattle.std.specs.declared.option.Option.{Option}
+use Rattle.std.specs.declared.option.Option.TheVariants.{Some, None}
 use mathlib.Core.Logic.{◌≢◌, ◌⊎◌, inl, inr}
 use Prim.Native.Nat.{ℕ, zero, suc, ◌+◌, ◌-◌, ◌*◌, ◌/◌, ◌≤◌, ◌<◌}
 use native.Mathlib.Nat.{mul-le-mul_right}
@@ -248,7 +249,7 @@ module _ (s : State) (w : Valid s) (k : ℕ) (c : T (cached s k)) where
 
 -- ---- the steal order is its head and what is left once that is dropped
 
-module _ (s : State) (w : Valid s) (k : ℕ) (e : victim s ≡ some k) where
+module _ (s : State) (w : Valid s) (k : ℕ) (e : victim s ≡ Some k) where
   c : T (cached s k)
   c = victim-cached s w k e
 
@@ -267,14 +268,14 @@ module _ (s : State) (w : Valid s) (k : ℕ) (e : victim s ≡ some k) where
   unfolding victim
   first_goes ne = go (order1989 s) (low-1989 s w) (sym (head-1993 s w) ∙ ap head (sym (steal-1993 s ne)) ∙ e)
     where
-      go : (l : List ℕ) → All Low l → choice s.frames (weight s) l ≡ some k → Goes s.frames (weight s) l k
+      go : (l : List ℕ) → All Low l → choice s.frames (weight s) l ≡ Some k → Goes s.frames (weight s) l k
       go [] low q =
           let none-goes = empty-choice s.frames (weight s) in
           let z : ◌≡◌ {A = ℕ} 0 1 = cc in
           absurd (omega arith)
       go (x ∷ l) low q =
           let g = goes s.frames (weight s) x l low in
-          let p : some g.0 ≡ some k = sym g.1.is ∙ q in
+          let p : Some g.0 ≡ Some k = sym g.1.is ∙ q in
           let r : g.0 ≡ k = cc in
           subst (Goes s.frames (weight s) (x ∷ l)) r g.1
 
@@ -320,7 +321,7 @@ steals zero s = []
 steals (suc n) s = stolen (steal_of s).answer ++ steals n (steal_of s).state
 
 -- without a head the order is empty
-nothing_left : (s : State) → victim s ≡ none → steal_order s ≡ []
+nothing_left : (s : State) → victim s ≡ None → steal_order s ≡ []
 unfolding victim
 nothing_left s e = head-nil (steal_order s) e
 
@@ -338,7 +339,7 @@ steal-repeats (suc n) s w = go (steal-repeats n) (victim s) refl
         → stolen (on_option o (λ k. reply (drop_page s k) (Stolen (file_of k) (page_of k))) (reply s Nothing)).answer
         ++ steals n (on_option o (λ k. reply (drop_page s k) (Stolen (file_of k) (page_of k))) (reply s Nothing)).state
         ≡ take (suc n) (steal_order s)
-    go more none e = let z : steal_order s ≡ [] = nothing_left s e in more s w ∙ rw z (take-nil n)
-    go more (some k) e =
+    go more None e = let z : steal_order s ≡ [] = nothing_left s e in more s w ∙ rw z (take-nil n)
+    go more (Some k) e =
         let d : key_of (file_of k) (page_of k) ≡ k = omega arith in
         ap₂ ◌∷◌ d (more (drop_page s k) (page-dropped s w k (victim-cached s w k e))) ∙ ap (take (suc n)) (sym (steal-first s w k e))

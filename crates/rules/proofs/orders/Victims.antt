@@ -3,7 +3,8 @@
 use mathlib.Core.Path.{◌≡◌, refl, sym, ap, ap₂, ◌∙◌, subst}
 use mathlib.Core.Bool.{Bool, true, false, cond, ◌&&◌, and-false}
 use mathlib.Core.List.{List, [], ◌∷◌, map}
-use mathlib.Core.Option.{Option, none, some}
+use Rattle.std.specs.declared.option.Option.{Option}
+use Rattle.std.specs.declared.option.Option.TheVariants.{Some, None}
 use mathlib.Core.Logic.{◌≢◌, ◌↔◌}
 use Prim.Native.Nat.{ℕ, ◌*◌, ◌%◌, ◌≤◌, ◌<◌}
 use native.Mathlib.Omega.{arith}
@@ -42,7 +43,7 @@ pub steal-1993 : (s : State) → s.rule ≢ 0 → steal_order s ≡ order1993 s
 steal-1993 s ne = by-rule s (λ l. l ≡ order1993 s) (λ e. absurd (ne e)) (λ _. refl)
 
 -- of no pages none goes
-pub empty-choice : (frames : ℕ) (weight : ℕ → ℕ) → choice frames weight [] ≡ none
+pub empty-choice : (frames : ℕ) (weight : ℕ → ℕ) → choice frames weight [] ≡ None
 unfolding choice only
 empty-choice frames weight = refl
 
@@ -123,18 +124,18 @@ module _ (s : State) (w : Valid s) where
   -- ---- the page to give up
 
   -- it is cached
-  pub victim-cached : (v : ℕ) → victim s ≡ some v → T (cached s v)
+  pub victim-cached : (v : ℕ) → victim s ≡ Some v → T (cached s v)
   unfolding victim
   victim-cached v e = num-cached (cached s v) (omega (arith, head-times (steal_order s) v e, each-once v))
 
   -- there is none exactly where nothing is cached
-  pub no-victim : (victim s ≡ none) ↔ ((k : ℕ) → T (cached s k) → ⊥)
+  pub no-victim : (victim s ≡ None) ↔ ((k : ℕ) → T (cached s k) → ⊥)
   unfolding victim
   no-victim = (λ e k c. omega (arith, head-nothing (steal_order s) k e, each-once k, num-in (cached s k) c), λ h. go h (victim s) refl)
     where
-      go : ((k : ℕ) → T (cached s k) → ⊥) → (o : Option ℕ) → victim s ≡ o → o ≡ none
-      go h none e = refl
-      go h (some v) e = absurd (h v (victim-cached v e))
+      go : ((k : ℕ) → T (cached s k) → ⊥) → (o : Option ℕ) → victim s ≡ o → o ≡ None
+      go h None e = refl
+      go h (Some v) e = absurd (h v (victim-cached v e))
 
   -- ---- under the 1989 rule
 
@@ -145,7 +146,7 @@ module _ (s : State) (w : Valid s) where
     victim-all = ap head (steal-1989 s e ∙ sym (only-true (order1989 s)))
 
     -- it has the largest rank
-    pub victim-top : (v : ℕ) → victim s ≡ some v → (k : ℕ) → T (cached s k) → rank s k ≤ rank s v
+    pub victim-top : (v : ℕ) → victim s ≡ Some v → (k : ℕ) → T (cached s k) → rank s k ≤ rank s v
     victim-top v q k h = among-top s w (λ f. true) v (sym victim-all ∙ q) k (and_both (cached s k) true h tt)
 
     -- a set that has the file of every cached page gives it
@@ -153,8 +154,8 @@ module _ (s : State) (w : Valid s) where
     among-all files has = go (victim s) refl
       where
         go : (o : Option ℕ) → victim s ≡ o → victim_among files s ≡ victim s
-        go none q = (among_none s w files).1 (λ k c. no-victim.0 q k (and_first (cached s k) _ c)) ∙ sym q
-        go (some v) q =
+        go None q = (among_none s w files).1 (λ k c. no-victim.0 q k (and_first (cached s k) _ c)) ∙ sym q
+        go (Some v) q =
             let c = victim-cached v q in
             head-is s w files v (and_both (cached s v) _ c (has v c))
             (λ k h. victim-top v q k (and_first (cached s k) _ h))

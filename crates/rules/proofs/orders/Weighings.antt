@@ -4,7 +4,7 @@
 use mathlib.Core.Path.{◌≡◌, refl, sym, ap, ap₂, ◌∙◌, subst}
 use mathlib.Core.Bool.{Bool, true, false, not, cond}
 use mathlib.Core.List.{List, [], ◌∷◌, ◌++◌, map}
-use mathlib.Core.Option.{some}
+use Rattle.std.specs.declared.option.Option.TheVariants.{Some}
 use mathlib.Core.Logic.{◌≢◌}
 use Prim.Native.Nat.{ℕ, zero, suc, ◌+◌, ◌*◌, ◌%◌, ◌≤◌, ◌<◌}
 use native.Mathlib.Nat.{mul-le-mul, mul-le-mul_right, suc-mul}
@@ -145,8 +145,8 @@ module _ (frames : ℕ) (weight : ℕ → ℕ) where
 
   -- page u goes: it is its file's first, and no file's number is above that of its file
   pub record Goes (l : List ℕ) (u : ℕ) : Type 0 where
-    pub is : choice frames weight l ≡ some u
-    pub first : head (of_file (file_of u) l) ≡ some u
+    pub is : choice frames weight l ≡ Some u
+    pub first : head (of_file (file_of u) l) ≡ Some u
     pub top : Top l (file_of u)
     pub here : 1 ≤ times u l
 
@@ -250,12 +250,12 @@ module _ (frames : ℕ) (weight : ℕ → ℕ) where
             let d : file_number l j ≢ B = λ q. ne (standing-one (file_of j) f (count_of l (file_of j)) (count_of (u ∷ l) f) (omega arith) low (q ∙ b)) in
             omega (arith, le, number-rises u l j, d))
 
-    parted : (l : List ℕ) → All Low l → Once l → u < 8192 → times u l ≡ 1 → head (of_file f l) ≡ some u → B ≡ at f (count_of l f)
+    parted : (l : List ℕ) → All Low l → Once l → u < 8192 → times u l ≡ 1 → head (of_file f l) ≡ Some u → B ≡ at f (count_of l f)
         → All (λ j. file_number l j ≤ B) l → Parted l u x
     unfolding only
     parted [] low once lu here first b top = absurd (omega arith)
     parted (k ∷ l) low once lu here first₀ b top =
-        key (file_of k) f (λ t. head (cond t (k ∷ of_file f l) (of_file f l)) ≡ some u → Parted (k ∷ l) u x)
+        key (file_of k) f (λ t. head (cond t (k ∷ of_file f l) (of_file f l)) ≡ Some u → Parted (k ∷ l) u x)
         (λ e first. let q : k ≡ u = cc in self q)
         (λ ne first.
         let away : times u (k ∷ l) ≡ times u l =
@@ -302,7 +302,7 @@ module _ (frames : ℕ) (weight : ℕ → ℕ) where
     few = omega (arith, but-shorter u l (omega (arith, g.here, once u)));
   }
 
-  pub repeat-goes : (n : ℕ) (l : List ℕ) (u : ℕ) → choice frames weight l ≡ some u → repeated frames weight (suc n) l ≡ u ∷ repeated frames weight n (but u l)
+  pub repeat-goes : (n : ℕ) (l : List ℕ) (u : ℕ) → choice frames weight l ≡ Some u → repeated frames weight (suc n) l ≡ u ∷ repeated frames weight n (but u l)
   unfolding repeated
   repeat-goes n l u e = rw e
 

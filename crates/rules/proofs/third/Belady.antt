@@ -2,7 +2,8 @@
 use mathlib.Core.Path.{◌≡◌, refl, sym, ap, ◌∙◌, subst}
 use mathlib.Core.Bool.{Bool, true, false, not, cond, ◌&&◌, ◌||◌}
 use mathlib.Core.List.{List, [], ◌∷◌}
-use mathlib.Core.Option.{Option, none, some}
+use Rattle.std.specs.declared.option.Option.{Option}
+use Rattle.std.specs.declared.option.Option.TheVariants.{Some, None}
 use mathlib.Core.Logic.{◌≢◌}
 use Prim.Native.Nat.{ℕ, zero, suc, ◌+◌, ◌-◌, ◌≤◌, ◌<◌, zero-le}
 use native.Mathlib.Omega.{arith}
@@ -18,30 +19,30 @@ Requests = List (Option ℕ)
 -- how many turns off the key's next read is; the number of turns, where none reads it
 unfoldable pub next_use : Requests → ℕ → ℕ
 next_use [] k = 0
-next_use (none ∷ rs) k = suc (next_use rs k)
-next_use (some x ∷ rs) k = cond (eqb x k) 0 (suc (next_use rs k))
+next_use (None ∷ rs) k = suc (next_use rs k)
+next_use (Some x ∷ rs) k = cond (eqb x k) 0 (suc (next_use rs k))
 
 -- the reads alone
 unfoldable pub reads_in : Requests → List ℕ
 reads_in [] = []
-reads_in (none ∷ rs) = reads_in rs
-reads_in (some x ∷ rs) = x ∷ reads_in rs
+reads_in (None ∷ rs) = reads_in rs
+reads_in (Some x ∷ rs) = x ∷ reads_in rs
 
 -- a run of the requests from the set A with c fetches: a missing key takes a free frame, or the frame of a key whose next use is furthest off
 pub data Furthest (N F : ℕ) : Requests → Set → ℕ → Type 0 where
   -- no turn
   over : {A : Set} → Furthest N F [] A 0
   -- a turn that reads nothing
-  idle : {rs : Requests} {A : Set} {c : ℕ} → Furthest N F rs A c → Furthest N F (none ∷ rs) A c
+  idle : {rs : Requests} {A : Set} {c : ℕ} → Furthest N F rs A c → Furthest N F (None ∷ rs) A c
   -- the key is there
-  hit : {x : ℕ} {rs : Requests} {A : Set} {c : ℕ} → T (A x) → Furthest N F rs A c → Furthest N F (some x ∷ rs) A c
+  hit : {x : ℕ} {rs : Requests} {A : Set} {c : ℕ} → T (A x) → Furthest N F rs A c → Furthest N F (Some x ∷ rs) A c
   -- it takes a free frame
   fill : {x : ℕ} {rs : Requests} {A : Set} {c : ℕ} → x < N → T (not (A x)) → count N A < F
-      → Furthest N F rs (plus A x) c → Furthest N F (some x ∷ rs) A (suc c)
+      → Furthest N F rs (plus A x) c → Furthest N F (Some x ∷ rs) A (suc c)
   -- it takes the frame of v
   evict : {x : ℕ} {rs : Requests} {A : Set} {c : ℕ} → x < N → T (not (A x)) → F ≤ count N A
-      → (v : ℕ) → v < N → T (A v) → ((k : ℕ) → T (A k) → next_use (some x ∷ rs) k ≤ next_use (some x ∷ rs) v)
-      → Furthest N F rs (swap A v x) c → Furthest N F (some x ∷ rs) A (suc c)
+      → (v : ℕ) → v < N → T (A v) → ((k : ℕ) → T (A k) → next_use (Some x ∷ rs) k ≤ next_use (Some x ∷ rs) v)
+      → Furthest N F rs (swap A v x) c → Furthest N F (Some x ∷ rs) A (suc c)
 
 -- ---- the keys read before turn t
 
@@ -52,11 +53,11 @@ near-zero : (rs : Requests) (k : ℕ) → near rs 0 k ≡ false
 unfolding near
 near-zero rs k = leb-suc-zero (next_use rs k)
 
-near-idle : (rs : Requests) (t k : ℕ) → near (none ∷ rs) (suc t) k ≡ near rs t k
+near-idle : (rs : Requests) (t k : ℕ) → near (None ∷ rs) (suc t) k ≡ near rs t k
 unfolding near next_use
 near-idle rs t k = leb-suc-suc (suc (next_use rs k)) t
 
-near-read : (x : ℕ) (rs : Requests) (t k : ℕ) → near (some x ∷ rs) (suc t) k ≡ (eqb x k || near rs t k)
+near-read : (x : ℕ) (rs : Requests) (t k : ℕ) → near (Some x ∷ rs) (suc t) k ≡ (eqb x k || near rs t k)
 unfolding near next_use
 near-read x rs t k = go (eqb x k)
   where
@@ -83,7 +84,7 @@ move N rs A B B' d h t =
     omega (arith, h t, count-empty N, four N (λ k. near rs t k && B' k) empty (λ k. near rs t k && B k) (added B B') (λ k. move_at (near rs t k) (B' k) (B k)))
 
 -- a turn with no read goes by
-idle-step : (N : ℕ) (rs : Requests) (A B : Set) (d : ℕ) → Behind N (none ∷ rs) A B d → Behind N rs A B d
+idle-step : (N : ℕ) (rs : Requests) (A B : Set) (d : ℕ) → Behind N (None ∷ rs) A B d → Behind N rs A B d
 unfolding Behind
 idle-step N rs A B d h t = simp near-idle at (h (suc t))
 
@@ -96,20 +97,20 @@ read_down : (m b : Bool) → num b ≡ 1 → num b + num m ≤ num (m && b) + 1
 read_down true b h = omega arith
 read_down false b h = omega arith
 
-read_step : (N x : ℕ) (rs : Requests) (A B : Set) (d : ℕ) → num (A x) ≡ 1 → num (B x) ≡ 1 → Behind N (some x ∷ rs) A B d → Behind N rs A B d
+read_step : (N x : ℕ) (rs : Requests) (A B : Set) (d : ℕ) → num (A x) ≡ 1 → num (B x) ≡ 1 → Behind N (Some x ∷ rs) A B d → Behind N rs A B d
 unfolding Behind
 read_step N x rs A B d a b h t =
     let both : Set = λ k. eqb x k && near rs t k in
-    let up : count N (λ k. near rs t k && B k) + count N (one x) ≤ count N (λ k. near (some x ∷ rs) (suc t) k && B k) + count N both =
+    let up : count N (λ k. near rs t k && B k) + count N (one x) ≤ count N (λ k. near (Some x ∷ rs) (suc t) k && B k) + count N both =
     four N _ _ _ _ (λ k. rw near-read (key x k (λ e. num (near rs t k && B k) + num e ≤ num ((e || near rs t k) && B k) + num (e && near rs t k))
     (λ e. read_up (near rs t k) (B k) (ap (λ j. num (B j)) (sym e) ∙ b)) (λ e. omega arith))) in
-    let down : count N (λ k. near (some x ∷ rs) (suc t) k && A k) + count N both ≤ count N (λ k. near rs t k && A k) + count N (one x) =
+    let down : count N (λ k. near (Some x ∷ rs) (suc t) k && A k) + count N both ≤ count N (λ k. near rs t k && A k) + count N (one x) =
     four N _ _ _ _ (λ k. rw near-read (key x k (λ e. num ((e || near rs t k) && A k) + num (e && near rs t k) ≤ num (near rs t k && A k) + num e)
     (λ e. read_down (near rs t k) (A k) (ap (λ j. num (A j)) (sym e) ∙ a)) (λ e. omega arith))) in
     omega (arith, h (suc t))
 
 -- the run takes the key that is read now, and the schedule has paid for it
-fetch-paid : (N x : ℕ) (rs : Requests) (A B : Set) (d : ℕ) → x < N → num (B x) ≡ 1 → num (A x) ≡ 0 → Behind N (some x ∷ rs) A B d → 1 ≤ d
+fetch-paid : (N x : ℕ) (rs : Requests) (A B : Set) (d : ℕ) → x < N → num (B x) ≡ 1 → num (A x) ≡ 0 → Behind N (Some x ∷ rs) A B d → 1 ≤ d
 unfolding Behind
 fetch-paid N x rs A B d l b a h =
     let now : count N (λ k. (eqb x k || false) && B k) ≤ count N (λ k. (eqb x k || false) && A k) + d = simp (near-read x rs 0, near-zero) at (h 1) in
@@ -119,12 +120,12 @@ fetch-paid N x rs A B d l b a h =
     mono N _ _ (λ k. key x k (λ e. num ((e || false) && A k) ≤ 0) (λ e. omega (arith, ap (λ j. num (A j)) e)) (λ e. zero-le)) in
     omega (arith, count-only N x l, count-empty N)
 
-fetch-step : (N x : ℕ) (rs : Requests) (A B : Set) (d : ℕ) → x < N → num (A x) ≡ 0 → Behind N (some x ∷ rs) A B d → Behind N (some x ∷ rs) (plus A x) B (d - 1)
+fetch-step : (N x : ℕ) (rs : Requests) (A B : Set) (d : ℕ) → x < N → num (A x) ≡ 0 → Behind N (Some x ∷ rs) A B d → Behind N (Some x ∷ rs) (plus A x) B (d - 1)
 unfolding Behind
 fetch-step N x rs A B d l a h zero = simp (near-zero, count-empty) zero-le
 fetch-step N x rs A B d l a h (suc t) =
-    let up : count N (λ k. near (some x ∷ rs) (suc t) k && A k) + count N (one x)
-    ≤ count N (λ k. near (some x ∷ rs) (suc t) k && plus A x k) + count N empty =
+    let up : count N (λ k. near (Some x ∷ rs) (suc t) k && A k) + count N (one x)
+    ≤ count N (λ k. near (Some x ∷ rs) (suc t) k && plus A x k) + count N empty =
     four N _ _ _ _ (λ k. rw near-read (key x k (λ e. num ((e || near rs t k) && A k) + num e ≤ num ((e || near rs t k) && (e || A k)) + 0)
     (λ e. omega (arith, ap (λ j. num (A j)) e)) (λ e. omega arith))) in
     omega (arith, h (suc t), count-only N x l, count-empty N)
@@ -160,16 +161,16 @@ drop-step N rs A A' B d v rest last full h t = go (near rs t v) refl
         mono N _ _ (λ k. and_mono (near rs t k) (A k) (A' k) (λ m. rest k (λ p. subst T (ap (near rs t) (sym p) ∙ e) m))) in
         omega (arith, h t)
 
-next-self : (x : ℕ) (rs : Requests) → next_use (some x ∷ rs) x ≡ 0
+next-self : (x : ℕ) (rs : Requests) → next_use (Some x ∷ rs) x ≡ 0
 unfolding next_use
 next-self x rs = key x x (λ b. cond b 0 (suc (next_use rs x)) ≡ 0) (λ _. refl) (λ ne. absurd (ne refl))
 
-swap_step : (N x : ℕ) (rs : Requests) (A B : Set) (d v : ℕ) → ((k : ℕ) → T (A k) → next_use (some x ∷ rs) k ≤ next_use (some x ∷ rs) v)
-    → count N B ≤ count N (swap A v x) → Behind N (some x ∷ rs) (plus A x) B d → Behind N (some x ∷ rs) (swap A v x) B d
-swap_step N x rs A B d v last full h = drop-step N (some x ∷ rs) (plus A x) (swap A v x) B d v
+swap_step : (N x : ℕ) (rs : Requests) (A B : Set) (d v : ℕ) → ((k : ℕ) → T (A k) → next_use (Some x ∷ rs) k ≤ next_use (Some x ∷ rs) v)
+    → count N B ≤ count N (swap A v x) → Behind N (Some x ∷ rs) (plus A x) B d → Behind N (Some x ∷ rs) (swap A v x) B d
+swap_step N x rs A B d v last full h = drop-step N (Some x ∷ rs) (plus A x) (swap A v x) B d v
     (λ k. key v k (λ b. v ≢ k → num (eqb x k || A k) ≤ num (eqb x k || (not b && A k))) (λ e ne. absurd (ne e)) (λ _ _. omega arith))
-    (λ k. key x k (λ b. T (b || (not (eqb v k) && A k)) → next_use (some x ∷ rs) k ≤ next_use (some x ∷ rs) v)
-    (λ e _. omega (arith, ap (next_use (some x ∷ rs)) e, next-self x rs)) (λ _ i. last k (and_second (not (eqb v k)) (A k) i)))
+    (λ k. key x k (λ b. T (b || (not (eqb v k) && A k)) → next_use (Some x ∷ rs) k ≤ next_use (Some x ∷ rs) v)
+    (λ e _. omega (arith, ap (next_use (Some x ∷ rs)) e, next-self x rs)) (λ _ i. last k (and_second (not (eqb v k)) (A k) i)))
     full h
 
 -- ---- the theorem
@@ -183,25 +184,25 @@ against {N} (idle {rs} {A} r) B d h Bs s = against r B d (idle-step N rs A B d h
 against (hit a r) B d h [] s = absurd s
 against {N} (hit {x} {rs} {A} a r) B d h (B' ∷ Bs) s =
     let e : ℕ = d + count N (added B B') in
-    let moved : Behind N (some x ∷ rs) A B' e = move N (some x ∷ rs) A B B' d h in
+    let moved : Behind N (Some x ∷ rs) A B' e = move N (Some x ∷ rs) A B B' d h in
     let ih = against r B' e (read_step N x rs A B' e (num-in (A x) a) (num-in (B' x) s.0) moved) Bs s.2 in
     omega arith
 against (fill l a f r) B d h [] s = absurd s
 against {N} (fill {x} {rs} {A} l a f r) B d h (B' ∷ Bs) s =
     let e : ℕ = d + count N (added B B') in
-    let moved : Behind N (some x ∷ rs) A B' e = move N (some x ∷ rs) A B B' d h in
+    let moved : Behind N (Some x ∷ rs) A B' e = move N (Some x ∷ rs) A B B' d h in
     let paid : 1 ≤ e = fetch-paid N x rs A B' e l (num-in (B' x) s.0) (num-out (A x) a) moved in
-    let got : Behind N (some x ∷ rs) (plus A x) B' (e - 1) = fetch-step N x rs A B' e l (num-out (A x) a) moved in
+    let got : Behind N (Some x ∷ rs) (plus A x) B' (e - 1) = fetch-step N x rs A B' e l (num-out (A x) a) moved in
     let ih = against r B' (e - 1) (read_step N x rs (plus A x) B' (e - 1) (in-self x (A x)) (num-in (B' x) s.0) got) Bs s.2 in
     omega arith
 against (evict l a f v lv av last r) B d h [] s = absurd s
 against {N} (evict {x} {rs} {A} l a f v lv av last r) B d h (B' ∷ Bs) s =
     let e : ℕ = d + count N (added B B') in
-    let moved : Behind N (some x ∷ rs) A B' e = move N (some x ∷ rs) A B B' d h in
+    let moved : Behind N (Some x ∷ rs) A B' e = move N (Some x ∷ rs) A B B' d h in
     let paid : 1 ≤ e = fetch-paid N x rs A B' e l (num-in (B' x) s.0) (num-out (A x) a) moved in
-    let got : Behind N (some x ∷ rs) (plus A x) B' (e - 1) = fetch-step N x rs A B' e l (num-out (A x) a) moved in
+    let got : Behind N (Some x ∷ rs) (plus A x) B' (e - 1) = fetch-step N x rs A B' e l (num-out (A x) a) moved in
     let more = swap-count N A v x lv l (num-in (A v) av) (num-out (A x) a) in
-    let left : Behind N (some x ∷ rs) (swap A v x) B' (e - 1) = swap_step N x rs A B' (e - 1) v last (omega (arith, s.1)) got in
+    let left : Behind N (Some x ∷ rs) (swap A v x) B' (e - 1) = swap_step N x rs A B' (e - 1) v last (omega (arith, s.1)) got in
     let ih = against r B' (e - 1) (read_step N x rs (swap A v x) B' (e - 1) (in-self x (not (eqb v x) && A x)) (num-in (B' x) s.0) left) Bs s.2 in
     omega arith
 

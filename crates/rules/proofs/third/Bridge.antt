@@ -2,7 +2,7 @@
 use mathlib.Core.Path.{◌≡◌, refl, ap, ◌∙◌, subst}
 use mathlib.Core.Bool.{Bool, true, false, not, cond, ◌&&◌}
 use mathlib.Core.Logic.{◌⊎◌, inl, inr}
-use mathlib.Core.Option.{some}
+use Rattle.std.specs.declared.option.Option.TheVariants.{Some}
 use Prim.Native.Nat.{ℕ, ◌+◌, ◌-◌, ◌*◌, ◌/◌, ◌%◌, ◌≤◌, ◌<◌}
 use native.Mathlib.Omega.{arith}
 use native.Mathlib.Nat.{mul-le-mul_right, le-div_iff_mul-le, mul_comm, add-mul, one-mul}
@@ -153,7 +153,7 @@ module _ (s : State) (v : Valid s) (w : ℕ) (p : Premises s w) where
       read r = by r.0 r.1 r.2 (side (before (reader_at s r.0) i))
 
   -- so the page to give up is read last of the cached pages
-  pub victim-last : (n i : ℕ) → victim s ≡ some i → (k : ℕ) → T (cached s k)
+  pub victim-last : (n i : ℕ) → victim s ≡ Some i → (k : ℕ) → T (cached s k)
       → next_use (requests n (slots s) s.turn) k ≤ next_use (requests n (slots s) s.turn) i
   victim-last n i e k c =
       omega (

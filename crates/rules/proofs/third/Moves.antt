@@ -2,7 +2,7 @@
 use mathlib.Core.Path.{◌≡◌, refl, sym, ap, ap₂, ◌∙◌, subst, fun_ext}
 use mathlib.Core.Bool.{Bool, true, false, not, cond, ◌&&◌}
 use mathlib.Core.List.{List}
-use mathlib.Core.Option.{none, some}
+use Rattle.std.specs.declared.option.Option.TheVariants.{Some, None}
 use mathlib.Core.Logic.{◌≢◌}
 use Prim.Native.Nat.{ℕ, ◌+◌, ◌≤◌}
 use native.Mathlib.Omega.{arith}
@@ -65,17 +65,17 @@ slot-on r l = rw (goes-below r l) (go (attached r) (ltb r.position r.last) refl 
 
 -- what such a reader reads at its turn
 pub page-now : (r : Reader) → (T (attached r) → r.position ≤ r.last)
-    → page_at (scanned r) 0 ≡ cond (goes r) (some (next_key r)) none
+    → page_at (scanned r) 0 ≡ cond (goes r) (Some (next_key r)) None
 unfolding scanned page_at
 page-now r l = rw (goes-below r l) (go (attached r))
   where
     go : (a : Bool)
         → page_at (cond a (reader r.file r.position r.last) vacant) 0
-        ≡ cond (a && ltb r.position r.last) (some (next_key r)) none
+        ≡ cond (a && ltb r.position r.last) (Some (next_key r)) None
     go true =
         let here : r.position + 0 ≡ r.position = omega arith in
         let k : code r.file (r.position + 0) ≡ next_key r = omega arith in
-        ap₂ (λ c k. cond (ltb c r.last) (some k) none) here k
+        ap₂ (λ c k. cond (ltb c r.last) (Some k) None) here k
     go false = refl
 
 module _ (s : State) (v : Valid s) where

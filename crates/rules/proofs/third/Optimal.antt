@@ -2,7 +2,7 @@
 use mathlib.Core.Path.{◌≡◌, refl, sym, ap, ap₂, ◌∙◌, subst}
 use mathlib.Core.Bool.{Bool, true, false, not, cond}
 use mathlib.Core.List.{List, [], ◌∷◌, ◌++◌}
-use mathlib.Core.Option.{none, some}
+use Rattle.std.specs.declared.option.Option.TheVariants.{Some, None}
 use Prim.Native.Nat.{ℕ, zero, suc, ◌+◌, ◌%◌, ◌≤◌}
 use native.Mathlib.Omega.{arith}
 use lib.ListN.{length, length-append}
@@ -88,11 +88,11 @@ set-as : {rs : Requests} {F d : ℕ} {A B : Set} → A ≡ B → Furthest 8192 F
 set-as {rs} {F} {d} e = subst (λ S. Furthest 8192 F rs S d) e
 
 -- a turn's request
-asked : (s : State) → Valid s → page_at (slots s s.turn) 0 ≡ cond (goes_now s) (some (key_now s)) none
+asked : (s : State) → Valid s → page_at (slots s s.turn) 0 ≡ cond (goes_now s) (Some (key_now s)) None
 unfolding slots
 asked s v = page-now (now_at s) (position_in s v s.turn)
 
-reads-one : (t : Bool) (k : ℕ) (rs : Requests) → cond t (k ∷ []) [] ++ reads_in rs ≡ reads_in (cond t (some k) none ∷ rs)
+reads-one : (t : Bool) (k : ℕ) (rs : Requests) → cond t (k ∷ []) [] ++ reads_in rs ≡ reads_in (cond t (Some k) None ∷ rs)
 unfolding reads_in
 reads-one true k rs = refl
 reads-one false k rs = refl
@@ -102,13 +102,13 @@ module _ (n : ℕ) (s : State) (v : Valid s) (w : ℕ) (p : Premises s w) where
   abbrev more : Requests
   more = requests n (after (slots s) s.turn) ((s.turn + 1) % 16)
 
-  asks : T (goes_now s) → requests (suc n) (slots s) s.turn ≡ some (key_now s) ∷ more
+  asks : T (goes_now s) → requests (suc n) (slots s) s.turn ≡ Some (key_now s) ∷ more
   unfolding requests
-  asks g = ap (λ o. o ∷ more) (asked s v ∙ ap (λ b. cond b (some (key_now s)) none) (is_true (goes_now s) g))
+  asks g = ap (λ o. o ∷ more) (asked s v ∙ ap (λ b. cond b (Some (key_now s)) None) (is_true (goes_now s) g))
 
-  asks-not : T (not (goes_now s)) → requests (suc n) (slots s) s.turn ≡ none ∷ more
+  asks-not : T (not (goes_now s)) → requests (suc n) (slots s) s.turn ≡ None ∷ more
   unfolding requests
-  asks-not g = ap (λ o. o ∷ more) (asked s v ∙ ap (λ b. cond b (some (key_now s)) none) (is_false (goes_now s) g))
+  asks-not g = ap (λ o. o ∷ more) (asked s v ∙ ap (λ b. cond b (Some (key_now s)) None) (is_false (goes_now s) g))
 
   -- a turn of the policy
   furthest-on : {A : Set} {c : ℕ} {h : List ℕ} {d : ℕ} → Step s A c h → Furthest 8192 s.frames more A d

@@ -2,7 +2,8 @@
 use mathlib.Core.Path.{◌≡◌, refl, sym, ap, ap₂, ◌∙◌, fun_ext}
 use mathlib.Core.Bool.{Bool, true, false, cond, ◌&&◌}
 use mathlib.Core.List.{[], ◌∷◌}
-use mathlib.Core.Option.{Option, none, some}
+use Rattle.std.specs.declared.option.Option.{Option}
+use Rattle.std.specs.declared.option.Option.TheVariants.{Some, None}
 use mathlib.Core.Logic.{◌≢◌}
 use Prim.Native.Nat.{ℕ, zero, suc, ◌+◌, ◌-◌, ◌*◌, ◌/◌, ◌%◌, ◌≤◌, ◌<◌, zero-le}
 use native.Mathlib.Omega.{arith}
@@ -20,10 +21,10 @@ listed zero g = []
 listed (suc n) g = g 0 ∷ listed n (λ i. g (suc i))
 
 -- the next use after one turn, by whether the turn reads the key
-next-head : (o : Option ℕ) (rs : Requests) (k : ℕ) (P : ℕ → Type 0) → (o ≡ some k → P 0) → (o ≢ some k → P (suc (next_use rs k))) → P (next_use (o ∷ rs) k)
+next-head : (o : Option ℕ) (rs : Requests) (k : ℕ) (P : ℕ → Type 0) → (o ≡ Some k → P 0) → (o ≢ Some k → P (suc (next_use rs k))) → P (next_use (o ∷ rs) k)
 unfolding next_use
-next-head none rs k P y n = n (λ e. let z : ◌≡◌ {A = ℕ} 0 1 = cc in omega arith)
-next-head (some x) rs k P y n = key x k (λ b. P (cond b 0 (suc (next_use rs k)))) (λ e. y (ap some e)) (λ ne. n (λ e. ne (cc)))
+next-head None rs k P y n = n (λ e. let z : ◌≡◌ {A = ℕ} 0 1 = cc in omega arith)
+next-head (Some x) rs k P y n = key x k (λ b. P (cond b 0 (suc (next_use rs k)))) (λ e. y (ap Some e)) (λ ne. n (λ e. ne (cc)))
 
 next-len : (n : ℕ) (g : ℕ → Option ℕ) (k : ℕ) → next_use (listed n g) k ≤ n
 unfolding listed next_use
@@ -32,19 +33,19 @@ next-len (suc n) g k =
     let ih = next-len n (λ i. g (suc i)) k in
     next-head (g 0) (listed n (λ i. g (suc i))) k (λ m. m ≤ suc n) (λ _. zero-le) (λ _. omega arith)
 
-next_le : (n : ℕ) (g : ℕ → Option ℕ) (k i : ℕ) → g i ≡ some k → next_use (listed n g) k ≤ i
+next_le : (n : ℕ) (g : ℕ → Option ℕ) (k i : ℕ) → g i ≡ Some k → next_use (listed n g) k ≤ i
 unfolding listed next_use
 next_le zero g k i h = zero-le
 next_le (suc n) g k zero h = next-head (g 0) (listed n (λ i. g (suc i))) k (λ m. m ≤ 0) (λ _. zero-le) (λ ne. absurd (ne h))
 next_le (suc n) g k (suc i) h =
     let ih = next_le n (λ i. g (suc i)) k i h in next-head (g 0) (listed n (λ i. g (suc i))) k (λ m. m ≤ suc i) (λ _. zero-le) (λ _. omega arith)
 
-next-hit : (n : ℕ) (g : ℕ → Option ℕ) (k : ℕ) → next_use (listed n g) k < n → g (next_use (listed n g) k) ≡ some k
+next-hit : (n : ℕ) (g : ℕ → Option ℕ) (k : ℕ) → next_use (listed n g) k < n → g (next_use (listed n g) k) ≡ Some k
 unfolding listed next_use
 next-hit zero g k h = absurd (omega arith)
 next-hit (suc n) g k l =
-    let ih : next_use (listed n (λ i. g (suc i))) k < n → g (suc (next_use (listed n (λ i. g (suc i))) k)) ≡ some k = next-hit n (λ i. g (suc i)) k in
-    next-head (g 0) (listed n (λ i. g (suc i))) k (λ m. m < suc n → g m ≡ some k) (λ e _. e) (λ _ h. ih (omega arith)) l
+    let ih : next_use (listed n (λ i. g (suc i))) k < n → g (suc (next_use (listed n (λ i. g (suc i))) k)) ≡ Some k = next-hit n (λ i. g (suc i)) k in
+    next-head (g 0) (listed n (λ i. g (suc i))) k (λ m. m < suc n → g m ≡ Some k) (λ e _. e) (λ _ h. ih (omega arith)) l
 
 -- ---- the slots
 
@@ -59,8 +60,8 @@ pub data Slot : Type 0 where
 
 -- what a slot reads at its turn number q from now on
 unfoldable pub page_at : Slot → ℕ → Option ℕ
-page_at vacant q = none
-page_at (reader f c z) q = cond (ltb (c + q) z) (some (code f (c + q))) none
+page_at vacant q = None
+page_at (reader f c z) q = cond (ltb (c + q) z) (Some (code f (c + q))) None
 
 -- the slot after its turn
 unfoldable pub advance : Slot → Slot
@@ -79,15 +80,15 @@ unfoldable pub requests : ℕ → Slots → ℕ → Requests
 requests zero σ u = []
 requests (suc n) σ u = page_at (σ u) 0 ∷ requests n (after σ u) ((u + 1) % 16)
 
-past : (m z : ℕ) (o : Option ℕ) → z ≤ m → cond (ltb m z) o none ≡ none
-past m z o l = less m z (λ b. cond b o none ≡ none) (λ h. absurd (omega arith)) (λ _. refl)
+past : (m z : ℕ) (o : Option ℕ) → z ≤ m → cond (ltb m z) o None ≡ None
+past m z o l = less m z (λ b. cond b o None ≡ None) (λ h. absurd (omega arith)) (λ _. refl)
 
 advance-page : (s : Slot) (q : ℕ) → page_at (advance s) q ≡ page_at s (suc q)
 unfolding page_at advance
 advance-page vacant q = refl
 advance-page (reader f c z) q =
-    less c z (λ b. cond (ltb (cond b (c + 1) c + q) z) (some (code f (cond b (c + 1) c + q))) none ≡ cond (ltb (c + suc q) z) (some (code f (c + suc q))) none)
-    (λ l. ap (λ m. cond (ltb m z) (some (code f m)) none) (omega arith))
+    less c z (λ b. cond (ltb (cond b (c + 1) c + q) z) (Some (code f (cond b (c + 1) c + q))) None ≡ cond (ltb (c + suc q) z) (Some (code f (c + suc q))) None)
+    (λ l. ap (λ m. cond (ltb m z) (Some (code f m)) None) (omega arith))
     (λ l. past (c + q) z _ (omega arith) ∙ sym (past (c + suc q) z _ (omega arith)))
 
 -- ---- turns and seats
@@ -183,7 +184,7 @@ Fits (reader f c z) = z ≤ 1024
 
 -- a slot's read that is coming is a turn that reads the page
 away-reads : (far : ℕ) (s : Slot) (u f p j : ℕ) → u < 16 → j < 16 → (P : ℕ → Type 0) → P far
-    → ((i : ℕ) → (u + i) % 16 ≡ j → page_at s (i / 16) ≡ some (code f p) → P i) → P (away far s u f p j)
+    → ((i : ℕ) → (u + i) % 16 ≡ j → page_at s (i / 16) ≡ Some (code f p) → P i) → P (away far s u f p j)
 unfolding away page_at
 away-reads far vacant u f p j lu lj P n y = n
 away-reads far (reader g c z) u f p j lu lj P n y =
@@ -191,21 +192,21 @@ away-reads far (reader g c z) u f p j lu lj P n y =
     (λ e l h. y (16 * (p + 1 - c - 1) + distance u j) (seat-turn u j (p + 1 - c - 1) lu lj) (paged e l h)) n
   where
     paged : g ≡ f → c ≤ p → p < z
-        → cond (ltb (c + (16 * (p + 1 - c - 1) + distance u j) / 16) z) (some (code g (c + (16 * (p + 1 - c - 1) + distance u j) / 16))) none
-        ≡ some (code f p)
+        → cond (ltb (c + (16 * (p + 1 - c - 1) + distance u j) / 16) z) (Some (code g (c + (16 * (p + 1 - c - 1) + distance u j) / 16))) None
+        ≡ Some (code f p)
     paged e l h =
         let at = sixteen (16 * (p + 1 - c - 1) + distance u j) (p + 1 - c - 1) (distance u j) refl (omega arith) in
-        rw at.0 (less (c + (p + 1 - c - 1)) z (λ b. cond b (some (code g (c + (p + 1 - c - 1)))) none ≡ some (code f p))
-        (λ _. ap some (omega arith)) (λ k. absurd (omega arith)))
+        rw at.0 (less (c + (p + 1 - c - 1)) z (λ b. cond b (Some (code g (c + (p + 1 - c - 1)))) None ≡ Some (code f p))
+        (λ _. ap Some (omega arith)) (λ k. absurd (omega arith)))
 
 -- a turn that reads the page is a slot's read that is coming
-reads-away : (far : ℕ) (s : Slot) (u f p j q : ℕ) → Fits s → p < 1024 → page_at s q ≡ some (code f p) → away far s u f p j ≡ 16 * q + distance u j
+reads-away : (far : ℕ) (s : Slot) (u f p j q : ℕ) → Fits s → p < 1024 → page_at s q ≡ Some (code f p) → away far s u f p j ≡ 16 * q + distance u j
 unfolding away page_at Fits
 reads-away far vacant u f p j q w lp h = let z : ◌≡◌ {A = ℕ} 0 1 = cc in absurd (omega arith)
 reads-away far (reader g c z) u f p j q w lp h =
     less (c + q) z
     (λ b.
-    cond b (some (code g (c + q))) none ≡ some (code f p)
+    cond b (Some (code g (c + q))) None ≡ Some (code f p)
     → cond (comes g c z f p) (16 * (p + 1 - c - 1) + distance u j) far ≡ 16 * q + distance u j)
     (λ l e.
     let codes : code g (c + q) ≡ code f p = cc in
@@ -228,7 +229,7 @@ next-use n σ u k lu w = rw (requests-listed n σ u lu) (le_antisymm le ge)
         let len = next-len n (turn_at σ u) k in
         le-least 16 (λ j. away n (σ j) u (k / 1024) (k % 1024) j) n (next_use (listed n (turn_at σ u)) k) len
         (λ j l. away-reads n (σ j) u (k / 1024) (k % 1024) j lu l (λ m. next_use (listed n (turn_at σ u)) k ≤ m) len
-        (λ i e r. next_le n (turn_at σ u) k i (rw e (r ∙ ap some (omega arith)))))
+        (λ i e r. next_le n (turn_at σ u) k i (rw e (r ∙ ap Some (omega arith)))))
 
     ge : least 16 (λ j. away n (σ j) u (k / 1024) (k % 1024) j) n ≤ next_use (listed n (turn_at σ u)) k
     ge = less (next_use (listed n (turn_at σ u)) k) n (λ _. least 16 (λ j. away n (σ j) u (k / 1024) (k % 1024) j) n ≤ next_use (listed n (turn_at σ u)) k)
@@ -239,6 +240,6 @@ next-use n σ u k lu w = rw (requests-listed n σ u lu) (le_antisymm le ge)
           arith,
           turn-seat u i lu,
           least-le 16 (λ j. away n (σ j) u (k / 1024) (k % 1024) j) n j (omega arith),
-          reads-away n (σ j) u (k / 1024) (k % 1024) j (i / 16) (w j) (omega arith) (next-hit n (turn_at σ u) k l ∙ ap some (omega arith)),
+          reads-away n (σ j) u (k / 1024) (k % 1024) j (i / 16) (w j) (omega arith) (next-hit n (turn_at σ u) k l ∙ ap Some (omega arith)),
         ))
         (λ l. omega (arith, least-far 16 (λ j. away n (σ j) u (k / 1024) (k % 1024) j) n))

@@ -2,7 +2,8 @@
 use mathlib.Core.Path.{◌≡◌, refl, sym, ap, ◌∙◌, subst, fun_ext}
 use mathlib.Core.Bool.{Bool, true, false, not, cond, ◌&&◌, ◌||◌}
 use mathlib.Core.List.{List, [], ◌∷◌, map}
-use mathlib.Core.Option.{Option, none, some}
+use Rattle.std.specs.declared.option.Option.{Option}
+use Rattle.std.specs.declared.option.Option.TheVariants.{Some, None}
 use mathlib.Core.Logic.{◌⊎◌, inl, inr}
 use Prim.Native.Nat.{ℕ, ◌+◌, ◌≤◌, ◌<◌}
 use native.Mathlib.Omega.{arith}
@@ -67,7 +68,7 @@ pub data Step (s : State) (A : Set) : ℕ → List ℕ → Type 0 where
       → A ≡ plus (cached s) (key_now s) → Step s A 1 (key_now s ∷ [])
   -- its page takes the frame of the head of the steal order
   evicts : T (goes_now s) → key_now s < 8192 → T (not (cached s (key_now s))) → s.frames ≤ count 8192 (cached s)
-      → (v : ℕ) → victim s ≡ some v → v < 8192 → T (cached s v) → A ≡ swap (cached s) v (key_now s) → Step s A 1 (key_now s ∷ [])
+      → (v : ℕ) → victim s ≡ Some v → v < 8192 → T (cached s v) → A ≡ swap (cached s) v (key_now s) → Step s A 1 (key_now s ∷ [])
 
 -- a turn from s: the maps that it leaves, the pages in fetch as before
 pub data TurnCase (s : State) : Turn → Type 0 where
@@ -286,7 +287,7 @@ module _ (s : State) (v : Valid s) (closed : (k : ℕ) → T (in_fetch s k) → 
       dropped-same : s.fetch_time ≡ 0 → dropped (awaiting s s.turn) ≡ dropped s
       unfolding dropped full victim cached_pages pages
       dropped-same free =
-          ap (λ l. cond (full s) (head l) none)
+          ap (λ l. cond (full s) (head l) None)
           (steal-same s v s.turn v.turn_high here free (put_bit s.fetching (key_now s) 1) (rw asked at (read_kept s s.turn v)))
 
       -- the pages in fetch are as before
@@ -297,15 +298,15 @@ module _ (s : State) (v : Valid s) (closed : (k : ℕ) → T (in_fetch s k) → 
           ∙ key (key_now s) j (λ b. (not b && (b || in_fetch s j)) ≡ in_fetch s j)
           (λ _. sym (is_false (in_fetch s j) (not_T (in_fetch s j) (closed j)))) (λ _. refl))
 
-      fill_step : count 8192 (cached s) < s.frames → Step s (on (stored none)) 1 (key_now s ∷ [])
+      fill_step : count 8192 (cached s) < s.frames → Step s (on (stored None)) 1 (key_now s ∷ [])
       fill_step l = fills on-goes low out l (fun_ext (on-put s.cached v.cached_map (key_now s) low))
 
-      evict-step : (k : ℕ) → dropped s ≡ some k → Step s (on (stored (some k))) 1 (key_now s ∷ [])
+      evict-step : (k : ℕ) → dropped s ≡ Some k → Step s (on (stored (Some k))) 1 (key_now s ∷ [])
       unfolding full
       evict-step k e =
           let c : T (cached s k) = dropped-some s v k e in
           let p : Page s k = v.cached_in k c in
-          let f : (full s ≡ true) × (victim s ≡ some k) = full-dropped s v k e in
+          let f : (full s ≡ true) × (victim s ≡ Some k) = full-dropped s v k e in
           evicts on-goes low out
           (omega (arith, leb-true s.frames (length (cached_pages s)) f.0, cached-count s v.sizes_high v.cached_in)) k f.1
           p.low c
@@ -313,8 +314,8 @@ module _ (s : State) (v : Valid s) (closed : (k : ℕ) → T (in_fetch s k) → 
           ∙ ap (λ b. eqb (key_now s) j || b) (off-put s.cached v.cached_map k p.low j)))
 
       fetch-step : (o : Option ℕ) → dropped s ≡ o → Step s (on (stored o)) 1 (key_now s ∷ [])
-      fetch-step none e = fill_step (omega (arith, dropped-none s v e, cached-count s v.sizes_high v.cached_in))
-      fetch-step (some k) e = evict-step k e
+      fetch-step None e = fill_step (omega (arith, dropped-none s v e, cached-count s v.sizes_high v.cached_in))
+      fetch-step (Some k) e = evict-step k e
 
       fetch-case : s.fetch_time ≡ 0 → TurnCase s (turn_of s)
       fetch-case free =
