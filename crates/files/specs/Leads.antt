@@ -1,43 +1,56 @@
 -- The choice of a file by the 1993 rule (A.6), one file after the other. Assumes nothing: these are definitions.
-use Rattle.std.specs.Prelude.{ℕ, ◌≤◌, ◌<◌, ◌≡◌, cond, ◌&&◌, List, ◌≢◌, get_or, replicate, ltb}
+use Rattle.std.specs.Prelude.{ℕ, ◌≤◌, ◌<◌, ◌≡◌, ◌≢◌, Bool, true, cond, ◌&&◌, List, Option, None, Some, get_or, ltb}
 use Rattle.rules.specs.Orders.{weight_sum, standing}
 use Rattle.rules.specs.declared.View.{View}
 use Rattle.parts.specs.Files.{weight_in}
 use Rattle.files.specs.declared.Lead.{Lead}
+use Rattle.files.specs.declared.Shares.{Shares}
 
--- the file that leads after a look at file f, which has so many cached pages: it leads if it has some and its number is higher. The sum is `weight_sum`, which
--- is never 0, so that any cached page makes a number above 0
-abbrev pub leading : ℕ → ℕ → ℕ → ℕ → ℕ → Lead → Lead
-leading frames sum weight f pages best =
-    cond (ltb 0 pages && ltb best.number (standing frames sum weight f pages))
-    (record { file = f; number = standing frames sum weight f pages })
-    best
-
--- how many cached pages file f has, by the files' counts
-abbrev pub pages_in : List ℕ → ℕ → ℕ
-pages_in held f = get_or held f 0
+-- ---- the shares
 
 -- the files' weights
 abbrev pub weights_of : View → ℕ → ℕ
 weights_of v = weight_in v.expected v.attaches v.sizes
 
--- the files' weights and, at 8, `weight_sum`, which is never 0, in one array; under the 1989 rule all are 0
-pub record Weights (v : View) (weights : List ℕ) : Type 0 where
-  pub none : v.rule ≡ 0 → weights ≡ replicate 9 0
-  pub sum : v.rule ≢ 0 → get_or weights 8 0 ≡ weight_sum (weights_of v)
-  pub each : v.rule ≢ 0 → (f : ℕ) → f < 8 → get_or weights f 0 ≡ weights_of v f
+-- these are a view's: the frames, the weights, and `weight_sum`, which is never 0
+pub record Shared (v : View) (s : Shares) : Type 0 where
+  pub by_1993 : v.rule ≢ 0
+  pub frames_are : s.frames ≡ v.frames
+  pub weights_are : (f : ℕ) → f < 8 → get_or s.weights f 0 ≡ weights_of v f
+  pub sum_is : s.sum ≡ weight_sum (weights_of v)
 
--- the ranges of such an array; that of a valid state has them
-pub record Weighed (weights : List ℕ) : Type 0 where
-  pub sum_high : get_or weights 8 0 ≤ 8192000
-  pub each_high : (f : ℕ) → f < 8 → get_or weights f 0 ≤ get_or weights 8 0
+-- under the 1989 rule there are none
+abbrev pub SharesOf : View → Option Shares → Type 0
+SharesOf v None = v.rule ≡ 0
+SharesOf v (Some s) = Shared v s
 
--- the file's number, by the frames, the weights and the counts
-abbrev pub number_in : ℕ → List ℕ → List ℕ → ℕ → ℕ
-number_in frames weights held f = standing frames (get_or weights 8 0) (get_or weights f 0) f (pages_in held f)
+-- ---- the file that leads
 
--- no file with cached pages has a higher number, and if any has cached pages, this one has
-pub record Foremost (frames : ℕ) (weights held : List ℕ) (file : ℕ) : Type 0 where
+-- how many cached pages file f has, by the files' counts
+abbrev pub pages_in : List ℕ → ℕ → ℕ
+pages_in held f = get_or held f 0
+
+-- the number of file f where it has so many cached pages
+abbrev pub number_in : Shares → ℕ → ℕ → ℕ
+number_in s f pages = standing s.frames s.sum (get_or s.weights f 0) f pages
+
+-- is the number above that of the file that leads, if any does?
+abbrev pub above : Option Lead → ℕ → Bool
+above None number = true
+above (Some best) number = ltb best.number number
+
+-- the file that leads after a look at file f, which has so many cached pages: it leads if it has some and its number is higher
+abbrev pub leading : Shares → ℕ → ℕ → Option Lead → Option Lead
+leading s f pages best =
+    cond (ltb 0 pages && above best (number_in s f pages)) (Some (record { file = f; number = number_in s f pages })) best
+
+-- the file has cached pages, and of the first n files none with cached pages has a higher number
+pub record Tops (s : Shares) (held : List ℕ) (n file : ℕ) : Type 0 where
   pub low : file < 8
-  pub top : (f : ℕ) → f < 8 → 0 < pages_in held f
-      → (0 < pages_in held file) × (number_in frames weights held f ≤ number_in frames weights held file)
+  pub some : 0 < pages_in held file
+  pub top : (f : ℕ) → f < n → 0 < pages_in held f → number_in s f (pages_in held f) ≤ number_in s file (pages_in held file)
+
+-- so does the file chosen; none is where no file has cached pages
+abbrev pub Foremost : Shares → List ℕ → Option ℕ → Type 0
+Foremost s held None = (f : ℕ) → f < 8 → 0 < pages_in held f → ⊥
+Foremost s held (Some file) = Tops s held 8 file

@@ -1,11 +1,11 @@
 -- One reader's turns before it meets F, and the slots one after the other. Assumes nothing.
 use Prim.Native.Nat.{ℕ, ◌+◌, ◌-◌, ◌*◌, ◌/◌, ◌≤◌, ◌<◌}
-use mathlib.Core.Path.{◌≡◌, refl, ap, ◌∙◌}
+use mathlib.Core.Path.{◌≡◌, ap, ◌∙◌}
 use mathlib.Core.List.{List}
 use native.Mathlib.Omega.{arith}
 use borrow.Author.Tests.{eq-eqb}
 use lib.Dec.{T}
-use lib.ListN.{get_or, length, set, length-set}
+use lib.ListN.{get_or, set, length-set}
 use lib.Seq.{get_or-set_same, get_or-set_other}
 use Rattle.bits.specs.Map.{bit, on, next_bit}
 use Rattle.bits.proofs.Bits.{bit_le}
@@ -37,19 +37,14 @@ own-few n distance m l = omega arith
 
 -- ---- positions, one slot after the other
 
--- none is moved
-pub advanced-none : (v : View) (n : ℕ) (seats : List ℕ) → length seats ≡ 72 → Advanced v n 0 seats seats
-advanced-none v n seats e = record { long = e; position = λ j l. absurd (omega arith); rest = λ i l. refl }
-
--- one more is
-pub advanced-more : (v : View) (n m pages : ℕ) (seats next : List ℕ) → m < 16 → Advanced v n m seats next → pages ≡ reads_of v n m
-    → Advanced v n (m + 1) seats (set next m ((reader_in v.readers m).position + pages))
-advanced-more v n m pages seats next l a e = record {
-  long = let z = a.long in simp length-set z;
-  position = one_more (λ j. get_or (set next m p) j 0 ≡ (reader_in v.readers j).position + reads_of v n j) m
-      (λ j h. get_or-set_other next m j p 0 (omega arith) ∙ a.position j h)
-      (get_or-set_same next m p 0 (omega (arith, a.long)) ∙ ap (λ x. (reader_in v.readers m).position + x) e);
-  rest = λ i h. get_or-set_other next m i p 0 (omega arith) ∙ a.rest i (omega arith);
+-- one more has moved
+pub advanced-more : (v : View) (n m pages : ℕ) (positions : List ℕ) → m < 16 → Advanced v n m positions → pages ≡ reads_of v n m
+    → Advanced v n (m + 1) (set positions m ((reader_in v.readers m).position + pages))
+advanced-more v n m pages positions l a e = record {
+  long = simp length-set a.long;
+  moved = one_more (λ j. get_or (set positions m p) j 0 ≡ (reader_in v.readers j).position + reads_of v n j) m
+      (λ j h. get_or-set_other positions m j p 0 (omega arith) ∙ a.moved j h)
+      (get_or-set_same positions m p 0 (omega (arith, a.long)) ∙ ap (λ x. (reader_in v.readers m).position + x) e);
 }
   where
     p : ℕ

@@ -1,6 +1,6 @@
 -- Turns of a Run that meet no F, many at once: what each reader reads in them, and where it is then. Between two turns of a Run no page is in fetch, so every
 -- reader runs. Assumes nothing: these are definitions.
-use Rattle.std.specs.Prelude.{ℕ, min, ◌+◌, ◌-◌, ◌/◌, ◌%◌, ◌≤◌, ◌<◌, ◌≡◌, List, T, get_or, length}
+use Rattle.std.specs.Prelude.{ℕ, min, ◌+◌, ◌-◌, ◌/◌, ◌%◌, ◌<◌, ◌≡◌, List, T, length, slice_index}
 use Rattle.bits.specs.Map.{on}
 use Rattle.rules.specs.Readers.{reader_in, next_key}
 use Rattle.rules.specs.declared.Reader.{Reader}
@@ -23,8 +23,7 @@ AllCached cached r n = (i : ℕ) → i < n → T (on cached (next_key r + i))
 abbrev pub Clear : View → List ℕ → ℕ → ℕ → Type 0
 Clear v cached m n = (j : ℕ) → j < m → AllCached cached (reader_in v.readers j) (reads_of v n j)
 
--- the array of the readers with the positions of the first m slots after these turns
-pub record Advanced (v : View) (n m : ℕ) (seats seats' : List ℕ) : Type 0 where
-  pub long : length seats' ≡ 72
-  pub position : (j : ℕ) → j < m → get_or seats' j 0 ≡ (reader_in v.readers j).position + reads_of v n j
-  pub rest : (i : ℕ) → m ≤ i → get_or seats' i 0 ≡ get_or seats i 0
+-- the first m slots have these positions after these turns
+pub record Advanced (v : View) (n m : ℕ) (positions : List ℕ) : Type 0 where
+  pub long : length positions ≡ 16
+  pub moved : (j : ℕ) → j < m → slice_index positions j ≡ (reader_in v.readers j).position + reads_of v n j

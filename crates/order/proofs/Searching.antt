@@ -1,13 +1,8 @@
 -- The search for the page of the highest rank, from page to page and from file to file. Assumes nothing.
-use mathlib.Core.Path.{◌≡◌, refl, sym, ap, subst, ◌∙◌}
-use mathlib.Core.Bool.{Bool, true, false, cond}
-use mathlib.Core.List.{List}
-use Prim.Native.Nat.{ℕ, ◌+◌, ◌-◌, ◌*◌, ◌/◌, ◌≤◌, ◌<◌}
+use Rattle.std.proofs.Common.{◌≡◌, refl, sym, ap, subst, ◌∙◌, Bool, true, false, cond, ℕ, ◌+◌, ◌-◌, ◌*◌, ◌/◌, ◌≤◌, ◌<◌, T, arith}
 use native.Mathlib.Decide.{ℕ_discrete, dec_lt}
-use native.Mathlib.Omega.{arith}
 use borrow.Author.Tests.{eq-eqb, ltb-true, ltb-false}
-use lib.Dec.{T, ltb, eqb→eq}
-use lib.ListN.{get_or}
+use lib.Dec.{ltb, eqb→eq}
 use Rattle.bits.specs.Map.{bit, last_bit}
 use Rattle.bits.proofs.Finds.{Last, last-is}
 use Rattle.rules.specs.Pages.{file_of, page_of, cached}
@@ -24,9 +19,10 @@ use Rattle.files.specs.Sets.{NoFile}
 use Rattle.files.proofs.Sets.{below}
 use Rattle.uses.specs.declared.Pick.{Pick}
 use Rattle.uses.specs.Sights.{Ranked}
-use Rattle.uses.specs.Queues.{Queued}
+use Rattle.uses.specs.declared.Queue.{Queue}
+use Rattle.uses.specs.Queueing.{Has}
 use Rattle.rears.proofs.Rearing.{some-ahead}
-use Rattle.order.specs.Searches.{ShortOf, higher_of, AllAhead, Raised, First}
+use Rattle.order.specs.Searches.{HasShort, higher_of, AllAhead, Raised, First}
 use Rattle.order.proofs.Sweeps.{before-reads, rank_most}
 
 -- ---- a file's pages
@@ -80,21 +76,19 @@ module _ (s : State) (files : ℕ → Bool) (f : ℕ) (p : Pick) where
       raised-high h = raised-on 0 q a.page (omega arith) (λ k c g l u. omega (arith, rank_most s k (is-ahead s files f o k c g free), h, g))
 
       -- to the first, for no reader left is short of one
-      pub raised_all : (queue : List ℕ) (first end : ℕ) → Queued s.readers f 0 queue first end
-          → ((i : ℕ) → first ≤ i → i < end → n ≤ get_or queue i 0 / 16) → Raised s files f 0 p q
-      raised_all queue first end u far = raised-on 0 q a.page (omega arith) (λ k c g l m. absurd (none k g m (is-ahead s files f o k c g free)))
+      pub raised_all : (queue : Queue) → HasShort s.readers f n queue → queue.first ≡ queue.end → Raised s files f 0 p q
+      raised_all queue u none-left = raised-on 0 q a.page (omega arith) (λ k c g l m. absurd (none k g m (is-ahead s files f o k c g free)))
         where
           none : (k : ℕ) → file_of k ≡ f → page_of k ≤ n → T (ahead s k) → ⊥
           none k g l h =
               let j = some-ahead s k h in
               let b = before-is (reader_at s j.0) k j.2 in
-              let x = u.all j.0 (omega arith) j.1 (rw (← g) (before-reads (reader_at s j.0) k b)) in
-              omega (arith, x.3, far x.0 x.1 x.2, b.past, j.1)
+              let x = u.all j.0 j.1 (rw (← g) (before-reads (reader_at s j.0) k b)) (omega (arith, b.past)) in
+              omega (arith, x.1, x.2)
 
   -- to the nearest reader that is short of the page: this one has the highest rank of those between
   module _ (w : Valid s) (key page to : ℕ) (low : key < 8192) (its : page_of key ≡ page) (own : file_of key ≡ f) (here : T (cached s key)) (q : Pick)
-      (a : Raised s files f page p q) (queue : List ℕ) (first end : ℕ) (short : ShortOf s.readers f queue first end page)
-      (near : (i : ℕ) → first ≤ i → i < end → get_or queue i 0 / 16 ≤ to) where
+      (a : Raised s files f page p q) (queue : Queue) (short : HasShort s.readers f page queue) (near : (x : ℕ) → Has queue x → x / 16 ≤ to) where
     clear : (k : ℕ) → file_of k ≡ f → to < page_of k → Clear s k key
     clear k g l j u h e r = by (dec_lt (reader_at s j).position page)
       where
@@ -103,8 +97,7 @@ module _ (s : State) (files : ℕ → Bool) (f : ℕ) (p : Pick) where
 
         by : Dec ((reader_at s j).position < page) → page_of key ≤ (reader_at s j).position
         by (yes m) =
-            let x = short.all j u reads m in
-            absurd (omega (arith, x.3, near x.0 x.1 x.2))
+            absurd (omega (arith, near _ (short.all j u reads m)))
         by (no m) = omega arith
 
     last-highest : (k : ℕ) → T (cached s k) → file_of k ≡ f → to < page_of k → page_of k ≤ page → rank s k ≤ rank s key

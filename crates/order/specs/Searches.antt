@@ -1,34 +1,27 @@
 -- The search for the page to give up: which readers are short of a page, and the best page so far, with its number. Assumes nothing: these are definitions.
-use Rattle.std.specs.Prelude.{ℕ, ◌/◌, ◌%◌, ◌≤◌, ◌<◌, ◌≡◌, Bool, true, cond, List, T, ltb, get_or}
+use Rattle.std.specs.Prelude.{ℕ, ◌/◌, ◌%◌, ◌≤◌, ◌<◌, ◌≡◌, Bool, true, cond, List, T, ltb}
 use Rattle.rules.specs.Pages.{file_of, page_of, cached}
 use Rattle.rules.specs.Readers.{reader_in, reads_file}
 use Rattle.rules.specs.UseTimes.{ahead}
 use Rattle.rules.specs.Ranks.{rank, cached_among}
 use Rattle.rules.specs.declared.State.{State}
-use Rattle.rules.specs.declared.View.{View}
 use Rattle.rules.specs.declared.Reader.{Reader}
 use Rattle.uses.specs.declared.Pick.{Pick}
-use Rattle.uses.specs.declared.Terms.{Terms}
-use Rattle.uses.specs.Sights.{Sighted, Ranked}
-use Rattle.uses.specs.Queues.{In, queue_number, Queued}
+use Rattle.uses.specs.declared.Queue.{Queue}
+use Rattle.uses.specs.Sights.{Ranked}
+use Rattle.uses.specs.Queues.{queue_number}
+use Rattle.uses.specs.Queueing.{Has}
 
 -- ---- the readers of a file
 
--- all of them are in the queue, in a view as the search reads it
-abbrev pub SightQueued : Terms → List ℕ → List ℕ → List ℕ → List ℕ → ℕ → ℕ → ℕ → Type 0
-SightQueued t seats cached fetching queue f first end = (v : View) × Sighted t seats cached fetching v × Queued v.readers f 0 queue first end
+-- in the queue are readers of file f alone, and all of those that are short of the page
+pub record HasShort (readers : List Reader) (f page : ℕ) (q : Queue) : Type 0 where
+  pub sits : (x : ℕ) → Has q x → T (reads_file f (reader_in readers (x % 16))) × (x / 16 ≡ (reader_in readers (x % 16)).position)
+  pub all : (j : ℕ) → j < 16 → T (reads_file f (reader_in readers j)) → (reader_in readers j).position < page → Has q (queue_number readers j)
 
--- from `first` to before `end` of the queue stand the readers of file f that are short of the page, all of them and no other
-pub record ShortOf (readers : List Reader) (f : ℕ) (queue : List ℕ) (first end page : ℕ) : Type 0 where
-  pub reads : (i : ℕ) → first ≤ i → i < end → T (reads_file f (reader_in readers (get_or queue i 0 % 16)))
-  pub position : (i : ℕ) → first ≤ i → i < end → get_or queue i 0 / 16 ≡ (reader_in readers (get_or queue i 0 % 16)).position
-  pub short : (i : ℕ) → first ≤ i → i < end → get_or queue i 0 / 16 < page
-  pub all : (j : ℕ) → j < 16 → T (reads_file f (reader_in readers j)) → (reader_in readers j).position < page → In queue first end (queue_number readers j)
-
--- so it is in a view as the search reads it
-abbrev pub SightShort : Terms → List ℕ → List ℕ → List ℕ → List ℕ → ℕ → ℕ → ℕ → ℕ → Type 0
-SightShort t seats cached fetching queue f first end page =
-    (v : View) × Sighted t seats cached fetching v × ShortOf v.readers f queue first end page
+-- each one of the queue is short of the page
+abbrev pub AllShort : Queue → ℕ → Type 0
+AllShort q page = (x : ℕ) → Has q x → x / 16 < page
 
 -- ---- what the search keeps
 

@@ -1,15 +1,35 @@
 -- The page to give up where a page is ahead of no reader: the least position of those that have a page before them, the pages passed over, and the best of
 -- the files. Assumes nothing.
-use mathlib.Core.Path.{◌≡◌, refl, sym, ap, subst, ◌∙◌}
-use mathlib.Core.Bool.{Bool, true, false, not, cond, ◌&&◌}
-use mathlib.Core.List.{List}
-use mathlib.Core.Logic.{◌⊎◌, inl, inr}
-use Prim.Native.Nat.{ℕ, ◌+◌, ◌-◌, ◌*◌, ◌≤◌, ◌<◌}
+use Rattle.std.proofs.Common.{
+  ◌≡◌,
+  refl,
+  sym,
+  ap,
+  subst,
+  ◌∙◌,
+  Bool,
+  true,
+  false,
+  not,
+  List,
+  ◌⊎◌,
+  inl,
+  inr,
+  ℕ,
+  min,
+  ◌+◌,
+  ◌-◌,
+  ◌*◌,
+  ◌≤◌,
+  ◌<◌,
+  T,
+  arith,
+  get_or,
+}
 use native.Mathlib.Decide.{ℕ_discrete, dec_lt, dec_le}
-use native.Mathlib.Omega.{arith}
-use borrow.Author.Tests.{eq-eqb, lt-ltb, le-ltb, le-leb, lt-leb}
-use lib.Dec.{T, T_not, leb, ltb, eqb→eq}
-use lib.ListN.{get_or}
+use borrow.Author.Tests.{eq-eqb}
+use lib.Dec.{T_not, eqb→eq}
+use Rattle.std.specs.declared.option.Option.{Option}
 use Rattle.bits.specs.Map.{bit, on, last_bit}
 use Rattle.bits.proofs.Finds.{last-is}
 use Rattle.rules.specs.Pages.{size, file_of, page_of, key_of, cached, Page}
@@ -26,7 +46,7 @@ use Rattle.rules.proofs.orders.Ranks.{rank-behind, rank-ahead}
 use Rattle.rules.specs.declared.State.{State}
 use Rattle.rules.specs.declared.Reader.{Reader}
 use Rattle.uses.specs.declared.Pick.{Pick}
-use Rattle.uses.specs.Seats.{last_seat}
+use Rattle.uses.specs.Seats.{last_seat, up_to}
 use Rattle.files.specs.Sets.{NoFile}
 use Rattle.uses.specs.Sights.{Ranked}
 use Rattle.rears.specs.Rears.{Ahead, Least, Back, Free, Rear}
@@ -37,51 +57,50 @@ use Rattle.uses.proofs.Seating.{seat_is}
 
 module _ (readers : List Reader) (f page : ℕ) where
   -- no slot from the last reader's on
-  pub least-none : (at : ℕ) → at ≡ last_seat readers f 16 → Least readers f page at page
+  pub least-none : (at : Option ℕ) → at ≡ last_seat readers f 16 → Least readers f page (up_to at) page
   least-none at e = record {
     low = omega arith;
-    all = λ j l u h. absurd ((seat_is readers f 16).after j (omega arith) u h);
+    all = λ j l u h. absurd ((seat_is readers f 16).after j (omega (arith, ap up_to e, l)) u h);
     met = λ h. absurd (omega arith);
   }
 
   -- one slot more, and those before it without a reader of the file
-  pub least_more : (n at next r q : ℕ) → at ≡ n + 1 → n < 16 → T (reads_file f (reader_in readers n)) → next ≡ last_seat readers f n
-      → q ≡ cond (ltb (reader_in readers n).position r && leb page (reader_in readers n).last) (reader_in readers n).position r
-      → Least readers f page at r → Least readers f page next q
-  least_more n at next r q e l here s d a = rw d (go (dec_lt c r) (dec_le page (reader_in readers n).last))
-    where
-      c : ℕ
-      c = (reader_in readers n).position
+  module _ (n : ℕ) (next : Option ℕ) (r : ℕ) (l : n < 16) (here : T (reads_file f (reader_in readers n))) (s : next ≡ last_seat readers f n)
+      (a : Least readers f page (n + 1) r) where
+    low : up_to next ≤ n
+    low = omega (arith, ap up_to s, (seat_is readers f n).high)
 
-      -- what is no higher than r, nor than the position of a reader that has the page, does
-      from : (x : ℕ) → x ≤ r → (page ≤ (reader_in readers n).last → x ≤ c)
-          → (j : ℕ) → next ≤ j → j < 16 → T (reads_file f (reader_in readers j)) → page ≤ (reader_in readers j).last → x ≤ (reader_in readers j).position
-      from x low here-too j m u h p = by (dec_lt n j) (ℕ_discrete j n)
-        where
-          by : Dec (n < j) → Dec (j ≡ n) → x ≤ (reader_in readers j).position
-          by (yes g) _ = omega (arith, low, a.all j (omega arith) u h p)
-          by (no g) (yes g2) = rw g2 (here-too (rw g2 at p))
-          by (no g) (no g2) = absurd ((seat_is readers f n).after j (omega arith) (omega arith) h)
+    -- what is no higher than r, nor than the position of a reader that has the page, does
+    from : (x : ℕ) → x ≤ r → (page ≤ (reader_in readers n).last → x ≤ (reader_in readers n).position)
+        → (j : ℕ) → up_to next ≤ j → j < 16 → T (reads_file f (reader_in readers j)) → page ≤ (reader_in readers j).last → x ≤ (reader_in readers j).position
+    from x less here-too j m u h p = by (dec_lt n j) (ℕ_discrete j n)
+      where
+        by : Dec (n < j) → Dec (j ≡ n) → x ≤ (reader_in readers j).position
+        by (yes g) _ = omega (arith, less, a.all j (omega arith) u h p)
+        by (no g) (yes g2) = rw g2 (here-too (rw g2 at p))
+        by (no g) (no g2) = absurd ((seat_is readers f n).after j (omega (arith, ap up_to s, m)) (omega arith) h)
 
-      low : next ≤ n
-      low = omega (arith, s, (seat_is readers f n).high)
+    -- the slot met before
+    still : r < page
+        → (j : ℕ) × (up_to next ≤ j) × (j < 16) × T (reads_file f (reader_in readers j)) × ((reader_in readers j).position ≡ r)
+        × (page ≤ (reader_in readers j).last)
+    still h = let m = a.met h in (m.0, omega (arith, m.1, low), m.2, m.3, m.4, m.5)
 
-      -- the slot met before
-      still : r < page
-          → (j : ℕ) × (next ≤ j) × (j < 16) × T (reads_file f (reader_in readers j)) × ((reader_in readers j).position ≡ r)
-          × (page ≤ (reader_in readers j).last)
-      still h = let m = a.met h in (m.0, omega (arith, m.1, e, low), m.2, m.3, m.4, m.5)
+    -- it does not have the page before it
+    pub least-past : (reader_in readers n).last < page → Least readers f page (up_to next) r
+    least-past h = record { low = a.low; all = from r (omega arith) (λ p. absurd (omega arith)); met = still }
 
-      go : Dec (c < r) → Dec (page ≤ (reader_in readers n).last) → Least readers f page next (cond (ltb c r && leb page (reader_in readers n).last) c r)
-      go (yes g) (yes p) = rw (lt-ltb c r g, le-leb page _ p) (record {
-        low = omega (arith, a.low);
-        all = from c (omega arith) (λ _. omega arith);
-        met = λ _. (n, low, l, here, refl, p);
-      })
-      go (yes g) (no p) =
-          rw (lt-ltb c r g, lt-leb page (reader_in readers n).last (omega arith))
-          (record { low = a.low; all = from r (omega arith) (λ z. absurd (p z)); met = still })
-      go (no g) _ = rw (le-ltb c r (omega arith)) (record { low = a.low; all = from r (omega arith) (λ _. omega arith); met = still })
+    -- it has, if it is not past it
+    pub least-nearer : page ≤ (reader_in readers n).last → Least readers f page (up_to next) (min r (reader_in readers n).position)
+    least-nearer p = by (dec_lt (reader_in readers n).position r)
+      where
+        by : Dec ((reader_in readers n).position < r) → Least readers f page (up_to next) (min r (reader_in readers n).position)
+        by (yes g) =
+            let e : min r (reader_in readers n).position ≡ (reader_in readers n).position = omega arith in
+            rw e (record { low = omega (arith, a.low); all = from (reader_in readers n).position (omega arith) (λ _. omega arith); met = λ _. (n, low, l, here, refl, p) })
+        by (no g) =
+            let e : min r (reader_in readers n).position ≡ r = omega arith in
+            rw e (record { low = a.low; all = from r (omega arith) (λ _. omega arith); met = still })
 
 -- ---- the pages passed over
 
@@ -181,8 +200,8 @@ module _ (s : State) (w : Valid s) (files : ℕ → Bool) where
     module _ (size page : ℕ) (low : n < 8) (few : page ≤ 1024) (es : size ≡ get_or s.sizes n 0) (b : Back s.readers s.cached n size page)
         (free : Free s.readers n page) where
       -- a page of the file that is ahead of none is up to the page found
-      up_to : (k : ℕ) → file_of k ≡ n → T (cached s k) → T (not (ahead s k)) → page_of k ≤ page
-      up_to k e h z = by (dec_lt page (page_of k))
+      no_further : (k : ℕ) → file_of k ≡ n → T (cached s k) → T (not (ahead s k)) → page_of k ≤ page
+      no_further k e h z = by (dec_lt page (page_of k))
         where
           by : Dec (page < page_of k) → page_of k ≤ page
           by (yes g) =
@@ -193,11 +212,11 @@ module _ (s : State) (w : Valid s) (files : ℕ → Bool) where
 
       -- the file has none
       pub rear-clear : page ≡ 0 → Rear s files (n + 1) p
-      rear-clear e = rear-one p a.page a.deep (omega arith) (λ k f h z. absurd (omega (arith, e, up_to k f (and_first (cached s k) _ h) z)))
+      rear-clear e = rear-one p a.page a.deep (omega arith) (λ k f h z. absurd (omega (arith, e, no_further k f (and_first (cached s k) _ h) z)))
 
       -- the one found goes no sooner
       pub rear-keep : 2 * never + (page * 8 + n) ≤ p.value → Rear s files (n + 1) p
-      rear-keep l = rear-one p a.page a.deep (omega arith) (λ k f h z. omega (arith, l, f, up_to k f (and_first (cached s k) _ h) z))
+      rear-keep l = rear-one p a.page a.deep (omega arith) (λ k f h z. omega (arith, l, f, no_further k f (and_first (cached s k) _ h) z))
 
       -- it goes sooner
       pub rear-take : files n ≡ true → (page ≡ 0 → ⊥) → p.value < 2 * never + (page * 8 + n)
@@ -211,7 +230,7 @@ module _ (s : State) (w : Valid s) (files : ℕ → Bool) where
             held = λ _. and_both (cached s k) _ here (passed _ (ap files e ∙ o));
             its = λ _. rank-behind s k (clear (side (ahead s k))) ∙ omega arith;
           })
-          (λ _. omega arith) (omega arith) (λ i f h z. omega (arith, f, up_to i f (and_first (cached s i) _ h) z))
+          (λ _. omega arith) (omega arith) (λ i f h z. omega (arith, f, no_further i f (and_first (cached s i) _ h) z))
         where
           clear : T (ahead s (key_of n page)) ⊎ T (not (ahead s (key_of n page))) → T (not (ahead s (key_of n page)))
           clear (inl x) = absurd (free (omega arith) (some-ahead s (key_of n page) x))

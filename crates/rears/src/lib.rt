@@ -2,92 +2,69 @@
 
 #![tactic(auto)]
 
-ghost use Rattle.std.specs.Prelude.{◌≡◌, Bool, true, cond, ◌&&◌, List, ℕ, ◌+◌, ◌<◌, ◌≤◌, leb, ltb, get_or};
-ghost use Rattle.rules.specs.Valid.{Valid};
-ghost use Rattle.rules.specs.Views.{state_of};
+ghost use Rattle.std.specs.Prelude.{◌≡◌, Bool, true, ℕ, ◌+◌, ◌<◌, ◌≤◌, slice_index};
+ghost use Rattle.rules.specs.declared.View.{View};
 ghost use Rattle.files.specs.Sets.{in_set};
-ghost use Rattle.uses.specs.Seats.{Seated};
-ghost use Rattle.uses.specs.Sights.{SeatsOf};
+ghost use Rattle.uses.specs.Shown.{Shows, seen};
 ghost use Rattle.rears.specs.Rears.{Least, Back, Free, Rear};
 
+use files::FileSet;
 use parts::NEVER;
-use rules::{Reader, View};
-use uses::Pick;
-
-// The lesser of `least` and a reader's position, where the page is not past the reader's last.
-fn nearer(position: u16, last: u16, page: usize, least: usize) -> usize
-    ensures value { result ≡ cond (ltb position least && leb page last) position least }
-    ensures low { result ≤ least }
-{
-    if least <= position as usize {
-        return least;
-    }
-    if (last as usize) < page {
-        return least;
-    }
-    position as usize
-}
+use uses::{Pick, Sight};
 
 // The least position of the file's readers that still have the page before them; the page itself where none has.
-fn least_ahead(seats: &[u16; 72], file: usize, page: usize) -> usize
-    requires { (file < 8) × SeatsOf seats.now }
-    ensures least { (readers : List Reader) → Seated readers 16 seats.now → Least readers file page 0 result }
+fn least_ahead(sight: &Sight, file: usize, page: usize) -> usize
+    requires { file < 8 }
+    ensures least { (v : View) → Shows sight.now v → Least v.readers file page 0 result }
     ensures low { result ≤ page }
 {
+    let seats = sight.seats;
     let mut least = page;
-    let mut at = seats[48 + file] as usize;
-    while 0 < at {
-        let slot = at - 1;
-        least = nearer(seats[slot], seats[56 + slot], page, least);
-        at = seats[32 + slot] as usize;
+    let mut at = seats.last_slots[file];
+    while let Some(slot) = at {
+        let slot = slot as usize;
+        if page <= seats.lasts[slot] as usize {
+            least = least.min(seats.positions[slot] as usize);
+        }
+        at = seats.before[slot];
     }
     least
 }
 
 // The last cached page of the file that a step back does not pass over: every cached one between it and the page is ahead of a reader. The page itself, if it
 // is cached and ahead of none.
-fn back_from(seats: &[u16; 72], cached: &[u64; 128], file: usize, page: usize) -> usize
-    requires { (file < 8) × (page ≤ 1024) × SeatsOf seats.now }
-    ensures back { (readers : List Reader) → Seated readers 16 seats.now
-        → Back readers cached.now file page result × (result ≡ page → Free readers file result) }
+fn back_from(sight: &Sight, file: usize, page: usize) -> usize
+    requires { (file < 8) × (page ≤ 1024) }
+    ensures back { (v : View) → Shows sight.now v
+        → Back v.readers sight.now.cached.now file page result × (result ≡ page → Free v.readers file result) }
     ensures low { result ≤ page }
 {
-    bits::last_set(cached, file * 1024, least_ahead(seats, file, page))
+    bits::last_set(sight.cached, file * 1024, least_ahead(sight, file, page))
 }
 
 // The last cached page of the file that is ahead of no reader; 0 where there is none.
-fn behind_all(seats: &[u16; 72], cached: &[u64; 128], file: usize, size: u16) -> usize
-    requires { (file < 8) × (size ≤ 1024) × SeatsOf seats.now }
-    ensures back { (readers : List Reader) → Seated readers 16 seats.now
-        → Back readers cached.now file size result × Free readers file result }
-    ensures low { result ≤ size }
+fn behind_all(sight: &Sight, file: usize) -> usize
+    requires { file < 8 }
+    ensures back { (v : View) → Shows sight.now v
+        → Back v.readers sight.now.cached.now file (slice_index sight.now.sizes.now file) result × Free v.readers file result }
+    ensures low { result ≤ 1024 }
 {
-    let mut page = back_from(seats, cached, file, size as usize);
-    if page == 0 {
-        return page;
-    }
-    let mut next = back_from(seats, cached, file, page);
-    while next < page {
+    let mut page = sight.sizes[file] as usize;
+    let mut next = back_from(sight, file, page);
+    while 0 < next && next < page {
         page = next;
-        next = back_from(seats, cached, file, page);
+        next = back_from(sight, file, page);
     }
-    page
+    next
 }
 
 // The best page so far, or the file's last one that is ahead of no reader, where that is higher.
-fn further_behind(
-    seats: &[u16; 72],
-    cached: &[u64; 128],
-    file: usize,
-    size: u16,
-    best: Pick,
-) -> Pick
-    requires { (file < 8) × (size ≤ 1024) × SeatsOf seats.now }
-    ensures { (v : View) (fetching : List ℕ) → Valid (state_of v cached.now fetching) → Seated v.readers 16 seats.now
-        → size ≡ get_or v.sizes file 0 → (files : ℕ → Bool) → files file ≡ true
-        → Rear (state_of v cached.now fetching) files file best → Rear (state_of v cached.now fetching) files (file + 1) result }
+fn further_behind(sight: &Sight, file: usize, best: Pick) -> Pick
+    requires { file < 8 }
+    ensures { (v : View) → Shows sight.now v → (files : ℕ → Bool) → files file ≡ true
+        → Rear (seen sight.now v) files file best → Rear (seen sight.now v) files (file + 1) result }
 {
-    let page = behind_all(seats, cached, file, size);
+    let page = behind_all(sight, file);
     if page == 0 {
         return best;
     }
@@ -100,19 +77,14 @@ fn further_behind(
 }
 
 // Of the files of a set the page that goes first of those ahead of no reader: by its page, then by its file.
-pub fn furthest_behind(sizes: &[u16; 8], seats: &[u16; 72], cached: &[u64; 128], files: u64) -> Pick
-    requires { ((f : ℕ) → get_or sizes.now f 0 ≤ 1024) × SeatsOf seats.now }
-    ensures { (v : View) (fetching : List ℕ) → Valid (state_of v cached.now fetching) → Seated v.readers 16 seats.now
-        → sizes.now ≡ v.sizes → Rear (state_of v cached.now fetching) (in_set files) 8 result }
+pub fn furthest_behind(sight: &Sight, files: FileSet) -> Pick
+    ensures { (v : View) → Shows sight.now v → Rear (seen sight.now v) (in_set files) 8 result }
 {
-    let mut best = Pick { key: 0, value: 0 };
-    let mut file = files::first_file(files);
-    let end = files::end_of_files(files);
-    while file < end {
-        if bits::has_digit(files, file) {
-            best = further_behind(seats, cached, file, sizes[file], best);
+    let mut best = Pick::NONE;
+    for file in files.first()..files.end() {
+        if files.has(file) {
+            best = further_behind(sight, file, best);
         }
-        file += 1;
     }
     best
 }

@@ -1,6 +1,6 @@
--- What the searches rest on: a choice, the pages not present, one slot's use key, the readers' array, a file's readers by position.
-pub mod Chosen
+-- What the searches rest on: the pages not present, one slot's use key, the seats, a file's readers by position, what a search reads.
 pub mod Between
 pub mod Slots
 pub mod Seating
 pub mod Queueing
+pub mod Sighting

@@ -1,5 +1,6 @@
--- What the contracts of the searches speak of: the page chosen, the readers' array, a file's readers by position, what a search reads.
-pub mod Choices
+-- What the contracts of the searches speak of: the seats of the readers, a file's readers by position, what a search reads.
 pub mod Seats
 pub mod Queues
+pub mod Queueing
 pub mod Sights
+pub mod Shown

@@ -7,9 +7,9 @@ use Rattle.rules.specs.Valid.{Valid}
 use Rattle.rules.specs.Views.{state_of}
 use Rattle.rules.specs.declared.State.{State}
 use Rattle.rules.specs.declared.View.{View}
-use Rattle.rules.specs.declared.Reader.{Reader}
 use Rattle.uses.specs.declared.Terms.{Terms}
 use Rattle.uses.specs.declared.Pick.{Pick}
+use Rattle.uses.specs.declared.Seats.{Seats}
 use Rattle.uses.specs.Seats.{Seated}
 
 -- ---- what a search reads of a view
@@ -43,18 +43,11 @@ pub record Sits (v : View) (slot position pace k : ℕ) : Type 0 where
   pub position_is : position ≡ (reader_in v.readers slot).position
   pub pace_is : pace ≡ (reader_in v.readers slot).pace
 
--- `state_under` is valid, and its readers are in this array
-pub record Sighted (t : Terms) (seats cached fetching : List ℕ) (v : View) : Type 0 where
+-- `state_under` is valid, and its sizes and its readers are these
+pub record Sighted (t : Terms) (sizes : List ℕ) (seats : Seats) (cached fetching : List ℕ) (v : View) : Type 0 where
   pub valid : Valid (state_under t v cached fetching)
   pub seated : Seated v.readers 16 seats
-
--- there is such a view
-abbrev pub Sight : Terms → List ℕ → List ℕ → List ℕ → Type 0
-Sight t seats cached fetching = (v : View) × Sighted t seats cached fetching v
-
--- the array is that of some readers
-abbrev pub SeatsOf : List ℕ → Type 0
-SeatsOf seats = (readers : List Reader) × Seated readers 16 seats
+  pub sizes_are : sizes ≡ v.sizes
 
 -- ---- what it keeps
 

@@ -1,26 +1,31 @@
 -- The page of the files that are open is the box's.
-use mathlib.Core.Path.{refl, ◌∙◌}
+use Rattle.std.proofs.Common.{refl, ◌∙◌}
 use Rattle.parts.proofs.Carried.{held_high}
 use Rattle.uses.specs.Sights.{Sighted}
-use Rattle.files.proofs.Leading.{weights-in}
-use Rattle.order.proofs.victim.Goals.{After-terms_of}
+use Rattle.uses.proofs.Sighting.{sound}
+use Rattle.order.proofs.victim.Goals.{After-of}
 use Rattle.order.proofs.victim.Goals as goal
 
 -- the view as the search reads it
-sighted : (c : After-terms_of) →
-    let a = c.args in
-    Sighted c.terms_of.result c.seats_of-seats.result a.cached.now a.fetching.now a.v
-sighted c =
-    rw c.terms_of.ensures (record { valid = c.requires.0; seated = c.seats_of-seats.ensures })
+sighted : (c : After-of) → let a = c.args in
+    Sighted c.of.result a.v.sizes c.of-seats.result a.cached.now a.fetching.now a.v
+sighted c = rw c.of.ensures (record { valid = c.requires.0; seated = c.of-seats.ensures; sizes_are = refl })
 
-pub files_open-files-requires : goal.files_open-files-requires
-files_open-files-requires c =
-    (c.requires.0.frames_high, weights-in _ _ _ _ c.requires.0 c.weights_of-weights.ensures, held_high _ _ c.requires.1)
+pub open-files-requires : goal.open-files-requires
+open-files-requires c = held_high _ _ c.requires.1
 
-pub victim_among-requires : goal.victim_among-requires
-victim_among-requires c = (c.requires.0.sizes_high, (c.args.v, sighted (goal.at.victim_among-requires c).After-terms_of))
+pub invariant_of-sight : goal.invariant_of-sight
+invariant_of-sight c =
+    let s = sound _ _ _ _ _ _ (sighted (goal.at.invariant_of-sight c).After-of) in record {
+      turn_fits = s.turn_fits;
+      sizes_fit = s.sizes_fit;
+      positions_fit = s.positions_fit;
+      chains_fall = s.chains_fall;
+      chains_begin = s.chains_begin;
+    }
 
 pub returns : goal.returns
 returns c =
-    (rw c.terms_of.ensures at c.victim_among.ensures) c.args.v (record { valid = c.requires.0; seated = c.seats_of-seats.ensures }) refl
-    ∙ c.files_open-files.ensures _ _ _ c.requires.0 refl c.weights_of-weights.ensures c.requires.1
+    let a = c.args in
+    (rw c.of.ensures at c.victim_among.ensures) a.v (record { valid = c.requires.0; seated = c.of-seats.ensures; sizes_are = refl })
+    ∙ c.open-files.ensures a.v a.cached.now a.fetching.now c.requires.0 c.of_view-shares.ensures c.requires.1

@@ -1,12 +1,12 @@
 -- The first page goes, if there is one.
-use mathlib.Core.Path.{sym}
+use Rattle.std.proofs.Common.{sym}
 use Rattle.order.proofs.Firsts.{first-victim, first-nothing}
 use Rattle.order.proofs.victim_among.Goals as goal
 
 pub returns-then-first-eq0 : goal.returns-then-first-eq0
-returns-then-first-eq0 c = λ v g e.
-    sym (first-nothing _ g.valid _ c.first_among-first.result (c.first_among-first.ensures v g e) c.if-first-eq0.true)
+returns-then-first-eq0 c = λ v h.
+    sym (first-nothing _ h.valid _ c.first_among-first.result (c.first_among-first.ensures v h) c.if-first-eq0.true)
 
 pub returns : goal.returns
-returns c = λ v g e.
-    sym (first-victim _ g.valid _ c.first_among-first.result (c.first_among-first.ensures v g e) c.if-first-eq0.false)
+returns c = λ v h.
+    sym (first-victim _ h.valid _ c.first_among-first.result (c.first_among-first.ensures v h) c.if-first-eq0.false)

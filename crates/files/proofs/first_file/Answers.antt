@@ -1,7 +1,0 @@
--- The first digit of the set.
-use Rattle.files.proofs.Sets.{set_first}
-use Rattle.files.proofs.first_file.Goals as goal
-
-pub returns : goal.returns
-returns c =
-    set_first c.args.files c.next_one.result c.next_one.ensures
