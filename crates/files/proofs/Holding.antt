@@ -11,6 +11,7 @@ use Rattle.rules.specs.Valid.{Valid}
 use Rattle.rules.specs.Orders.{victim}
 use Rattle.rules.specs.Ranks.{victim_among}
 use Rattle.rules.proofs.orders.Victims.{among-all}
+use Rattle.rules.specs.declared.Rule.TheVariants.{Of1989}
 use Rattle.rules.specs.declared.State.{State}
 use Rattle.parts.specs.Held.{Held}
 use Rattle.parts.proofs.Carried.{held-some}
@@ -18,7 +19,7 @@ use Rattle.files.specs.Sets.{in_set}
 use Rattle.files.specs.declared.FileSet.{FileSet}
 
 -- under the 1989 rule the page to give up is that of the files with cached pages
-pub victim-of-held : (s : State) → Valid s → s.rule ≡ 0 → (held : List ℕ) → Held s.cached held → (files : FileSet)
+pub victim-of-held : (s : State) → Valid s → s.rule ≡ Of1989 → (held : List ℕ) → Held s.cached held → (files : FileSet)
     → ((f : ℕ) → f < 8 → 0 < get_or held f 0 → T (in_set files f)) → victim_among (in_set files) s ≡ victim s
 victim-of-held s w e held h files has = among-all s w e (in_set files) (λ k c. in-set k c (w.cached_in k c).low)
   where

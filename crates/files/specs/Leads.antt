@@ -1,6 +1,7 @@
 -- The choice of a file by the 1993 rule (A.6), one file after the other. Assumes nothing: these are definitions.
-use Rattle.std.specs.Prelude.{ℕ, ◌≤◌, ◌<◌, ◌≡◌, ◌≢◌, Bool, true, cond, ◌&&◌, List, Option, None, Some, get_or, ltb}
+use Rattle.std.specs.Prelude.{ℕ, ◌≤◌, ◌<◌, ◌≡◌, Bool, true, cond, ◌&&◌, List, Option, None, Some, get_or, ltb}
 use Rattle.rules.specs.Orders.{weight_sum, standing}
+use Rattle.rules.specs.declared.Rule.TheVariants.{Of1989, Of1993}
 use Rattle.rules.specs.declared.View.{View}
 use Rattle.parts.specs.Files.{weight_in}
 use Rattle.files.specs.declared.Lead.{Lead}
@@ -14,14 +15,14 @@ weights_of v = weight_in v.expected v.attaches v.sizes
 
 -- these are a view's: the frames, the weights, and `weight_sum`, which is never 0
 pub record Shared (v : View) (s : Shares) : Type 0 where
-  pub by_1993 : v.rule ≢ 0
+  pub by_1993 : v.rule ≡ Of1993
   pub frames_are : s.frames ≡ v.frames
   pub weights_are : (f : ℕ) → f < 8 → get_or s.weights f 0 ≡ weights_of v f
   pub sum_is : s.sum ≡ weight_sum (weights_of v)
 
 -- under the 1989 rule there are none
 abbrev pub SharesOf : View → Option Shares → Type 0
-SharesOf v None = v.rule ≡ 0
+SharesOf v None = v.rule ≡ Of1989
 SharesOf v (Some s) = Shared v s
 
 -- ---- the file that leads

@@ -5,7 +5,7 @@
 
 ghost use Rattle.std.specs.Prelude.{◌≡◌, List, ℕ, ◌≤◌, ◌<◌, T, eqb, get_or};
 
-use rules::View;
+use rules::{Rule, View};
 
 // A set of files: a word with a digit for each file.
 #[derive(Clone, Copy)]
@@ -114,9 +114,9 @@ impl Shares {
         requires { Weighable v.frames v.expected v.sizes }
         ensures { SharesOf v result }
     {
-        if v.rule == 0 {
+        let Rule::Of1993 = v.rule else {
             return None;
-        }
+        };
         let expected = v.expected;
         let attaches = v.attaches;
         let sizes = v.sizes;
