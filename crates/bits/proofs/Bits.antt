@@ -1,16 +1,12 @@
 -- Laws of the bits of a map.
-use mathlib.Core.Path.{◌≡◌, refl, sym, ◌∙◌}
-use mathlib.Core.List.{List, [], ◌∷◌}
-use Prim.Native.Nat.{ℕ, ◌+◌, ◌*◌, ◌/◌, ◌%◌, ◌^◌, ◌≤◌, ◌<◌}
-use native.Mathlib.Nat.{zero-add}
-use native.Mathlib.Decide.{ℕ_discrete, dec_lt}
-use native.Mathlib.Omega.{arith}
-use lib.Arith.{digits_div, digits_mod}
-use lib.Bits.{bit_and, bit_or, bit_xor}
-use lib.ListN.{length, get_or, set, length-set}
-use lib.Seq.{get_or-set_same, get_or-set_other, set_out}
+use Rattle.std.proofs.Common.{◌≡◌, List, [], ◌∷◌, ℕ, ◌+◌, ◌-◌, ◌*◌, ◌/◌, ◌%◌, ◌^◌, ◌≤◌, ◌<◌, length, get_or, set, bit_and, bit_or, refl, sym, ◌∙◌}
+use Rattle.std.proofs.Common.{zero-add, arith, length-set, get_or-set_same, get_or-set_other}
+use Rattle.std.proofs.Math.Decide.{ℕ_discrete, dec_lt}
+use Rattle.std.proofs.Math.Arith.{digits_div, digits_mod}
+use Rattle.std.proofs.Math.Seq.{set_out}
+use Rattle.std.proofs.lemmas.Nat.{one_shl}
 use Rattle.bits.specs.Map.{digit, bit, put_bit}
-use Rattle.bits.proofs.Words.{put, shl_one, or_put, xor-put, put-digit, put-digits, put-lt}
+use Rattle.bits.proofs.Words.{put, or_put, and_put, put-digit, put-digits, put-lt}
 
 -- a bit is 0 or 1
 pub bit_le : (words : List ℕ) (k : ℕ) → bit words k ≤ 1
@@ -51,13 +47,12 @@ put_is words k v = refl
 
 -- what `set_bit` writes
 pub or_is : (words : List ℕ) (k : ℕ) → set words (k / 64) (bit_or (get_or words (k / 64) 0) (1 * 2 ^ (k % 64) % 2 ^ 64)) ≡ put_bit words k 1
-or_is words k = rw (shl_one (k % 64) (omega arith), or_put (get_or words (k / 64) 0) (k % 64)) (sym (put_is words k 1))
+or_is words k = rw (one_shl (k % 64) 64 (omega arith), or_put (get_or words (k / 64) 0) (k % 64)) (sym (put_is words k 1))
 
 -- what `clear_bit` writes
-pub xor_is : (words : List ℕ) (k : ℕ)
-    → set words (k / 64) (bit_xor (get_or words (k / 64) 0) (bit_and (get_or words (k / 64) 0) (1 * 2 ^ (k % 64) % 2 ^ 64)))
-    ≡ put_bit words k 0
-xor_is words k = rw (shl_one (k % 64) (omega arith), xor-put (get_or words (k / 64) 0) (k % 64)) (sym (put_is words k 0))
+pub and_is : (words : List ℕ) (k : ℕ) → get_or words (k / 64) 0 < 2 ^ 64
+    → set words (k / 64) (bit_and (get_or words (k / 64) 0) (2 ^ 64 - 1 - 1 * 2 ^ (k % 64) % 2 ^ 64)) ≡ put_bit words k 0
+and_is words k f = rw (one_shl (k % 64) 64 (omega arith), and_put (get_or words (k / 64) 0) (k % 64) f (omega arith)) (sym (put_is words k 0))
 
 -- the bit of k is v
 pub put_same : (words : List ℕ) (k v : ℕ) → v ≤ 1 → k / 64 < length words → bit (put_bit words k v) k ≡ v

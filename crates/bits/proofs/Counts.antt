@@ -1,13 +1,9 @@
 -- Laws of the counts of a map's set bits.
-use mathlib.Core.Path.{◌≡◌, refl, sym, ap, ap₂, ◌∙◌}
-use mathlib.Core.List.{List, [], ◌∷◌}
-use Prim.Native.Nat.{ℕ, zero, suc, ◌+◌, ◌-◌, ◌*◌, ◌/◌, ◌%◌, ◌^◌, ◌≤◌, ◌<◌}
-use native.Mathlib.Nat.{zero-add, add-zero, add-suc, pow-suc}
-use native.Mathlib.Decide.{ℕ_discrete}
-use native.Mathlib.Omega.{arith}
-use lib.Arith.{lt-one}
-use lib.Count.{ones_step, ones as digit_sum}
-use lib.ListN.{get_or, length}
+use Rattle.std.proofs.Common.{◌≡◌, List, [], ◌∷◌, ℕ, zero, suc, ◌+◌, ◌-◌, ◌*◌, ◌/◌, ◌%◌, ◌^◌, ◌≤◌, ◌<◌, length, get_or, refl, sym, ap, ap₂, ◌∙◌}
+use Rattle.std.proofs.Common.{zero-add, add-zero, add-suc, pow-suc, arith}
+use Rattle.std.proofs.Math.Decide.{ℕ_discrete}
+use Rattle.std.specs.Int.Count.{ones_step, ones as digit_sum}
+use Rattle.std.proofs.Math.Arith.{lt-one}
 use Rattle.bits.specs.Map.{digit, bit, put_bit, ones}
 use Rattle.bits.proofs.Words.{digit-step, digit-shr, shl-low, shl-high}
 use Rattle.bits.proofs.Bits.{Same, bit_le, bit_word, word_same, whole_same, put_same, put_other}
@@ -105,15 +101,6 @@ ones_cut words a n first l m =
     let g : first * 64 + y ≡ a + n - z = omega arith in
     let p : ones words a n ≡ ones words a x + ones words (a + x) (y + z) = ap (ones words a) e ∙ ones-add words a x (y + z) in
     p ∙ rw (f, ones-add words (first * 64) y z, g) (omega arith)
-
--- a part of the first word, whole words, a part of the last
-pub ones-parts : (words : List ℕ) (a n : ℕ) → 64 - a % 64 < n
-    → ones words a n
-    ≡ ones words a (64 - a % 64) + ones words ((a / 64 + 1) * 64) (((a + n) / 64 - (a / 64 + 1)) * 64)
-    + ones words (a + n - (a + n) % 64) ((a + n) % 64)
-ones-parts words a n h =
-    let e : (a / 64 + 1) * 64 - a ≡ 64 - a % 64 = omega arith in
-    rw e at (ones_cut words a n (a / 64 + 1) (omega arith) (omega arith))
 
 -- ---- a bit put
 

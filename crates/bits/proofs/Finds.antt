@@ -1,17 +1,13 @@
 -- Laws of the next bit and of the last set one.
-use mathlib.Core.Path.{◌≡◌, refl, sym, ap, ◌∙◌}
-use mathlib.Core.Bool.{Bool, true, false, cond}
-use mathlib.Core.List.{List, [], ◌∷◌}
-use Prim.Native.Nat.{ℕ, min, zero, suc, ◌+◌, ◌-◌, ◌*◌, ◌/◌, ◌%◌, ◌^◌, ◌≤◌, ◌<◌}
-use native.Mathlib.Nat.{le_antisymm, add-zero, mod-lt}
-use native.Mathlib.Decide.{dec_lt}
-use native.Mathlib.Omega.{arith}
-use borrow.Author.Tests.{eqb-true, eqb-false}
-use lib.Count.{count_leading_zeros, count_trailing_zeros}
-use lib.Dec.{eqb, lit<}
-use lib.ListN.{get_or}
+use Rattle.std.proofs.Common.{◌≡◌, Bool, true, false, cond, List, [], ◌∷◌, ℕ, min, zero, suc, ◌+◌, ◌-◌, ◌*◌, ◌/◌, ◌%◌, ◌^◌, ◌≤◌, ◌<◌, get_or, eqb}
+use Rattle.std.proofs.Common.{w64, refl, sym, ap, ◌∙◌, le_antisymm, add-zero, mod-lt, lit<, arith, eqb-true}
+use Rattle.std.proofs.Math.Decide.{dec_lt}
+use Rattle.std.specs.Int.Count.{count_leading_zeros, count_trailing_zeros, trailing_of_zero}
+use Rattle.std.proofs.lemmas.Bool.{eqb-false}
+use Rattle.std.proofs.lemmas.Nat.{shr_le}
+use Rattle.std.proofs.lemmas.Nat.Bits.{bit_at-zero, bit_at_not, bit_at-trailing_zeros}
 use Rattle.bits.specs.Map.{digit, bit, next_bit, last_bit}
-use Rattle.bits.proofs.Words.{digit-shr, digit_not, shl-high, trailing-clear, trailing-set, leading-clear, leading-set}
+use Rattle.bits.proofs.Words.{digit-shr, shl-high, leading-clear, leading-set}
 use Rattle.bits.proofs.Bits.{Same, bit_le, bit_word, word_same, whole_same}
 
 -- no key from a to before b has the bit v
@@ -98,12 +94,6 @@ next-alike xs ys v u a b (suc n) s =
 pub next-same : (xs : List ℕ) (a : ℕ) (ys : List ℕ) (b n v : ℕ) → Same xs a ys b n → b + next_bit xs v a n ≡ a + next_bit ys v b n
 next-same xs a ys b n v s = next-alike xs ys v v a b n (λ j h. ap (λ (x : ℕ). eqb x v) (s j h))
 
--- a bit and its opposite
-other : (x y : ℕ) → x + y ≡ 1 → eqb y 0 ≡ eqb x 1
-other zero y e = let q : y ≡ 1 = omega arith in rw q
-other (suc zero) y e = let q : y ≡ 0 = omega arith in rw q
-other (suc (suc x)) y e = let z : ⊥ = omega arith in absurd z
-
 -- the next 0 of a word is the next 1 of its complement
 pub next-not : (w s : ℕ) → w < 2 ^ 64 → next_bit ((2 ^ 64 - 1 - w) ∷ []) 1 s (64 - s) ≡ next_bit (w ∷ []) 0 s (64 - s)
 next-not w s h =
@@ -111,23 +101,36 @@ next-not w s h =
     omega (
       arith,
       next-alike (w ∷ []) (x ∷ []) 0 1 s s (64 - s) (λ j p.
-          rw (bit_word w (s + j) (omega arith), bit_word x (s + j) (omega arith))
-          (other (digit x (s + j)) (digit w (s + j)) (digit_not 64 w (s + j) h (omega arith)))),
+          rw (bit_word w (s + j) (omega arith), bit_word x (s + j) (omega arith), bit_at_not w64 w (s + j) h (omega arith))
+          (other (digit w (s + j)) (omega arith))),
     )
+  where
+    other : (a : ℕ) → a ≤ 1 → eqb a 0 ≡ eqb (1 - a) 1
+    other zero u = refl
+    other (suc zero) u = refl
+    other (suc (suc a)) u = absurd (omega arith)
+
+-- the digits below a word's trailing zeros are clear, and the one at their end is set
+trailing : (x : ℕ) → x < 2 ^ 64 → let t = count_trailing_zeros 64 x in ((i : ℕ) → i < t → digit x i ≡ 0) × (t < 64 → digit x t ≡ 1)
+trailing zero h = rw (trailing_of_zero 64) ((λ i l. bit_at-zero i), λ l. absurd (omega arith))
+trailing (suc x) h = let t = bit_at-trailing_zeros w64 (suc x) (omega arith) h in (t.2, λ _. t.1)
 
 -- the next 1 of a word, by the zeros below it
-pub next-shr : (w s : ℕ) → s < 64 → min (s + count_trailing_zeros 64 (w / 2 ^ s)) 64 ≡ next_bit (w ∷ []) 1 s (64 - s)
-next-shr w s h = next-only (w ∷ []) 1 s (64 - s) (min (s + t) 64) record {
+pub next-shr : (w s : ℕ) → w < 2 ^ 64 → s < 64 → min (s + count_trailing_zeros 64 (w / 2 ^ s)) 64 ≡ next_bit (w ∷ []) 1 s (64 - s)
+next-shr w s f h = next-only (w ∷ []) 1 s (64 - s) (min (s + t) 64) record {
   low = omega arith;
   high = omega arith;
-  before = λ k l u e. omega (arith, sym e ∙ at k l (omega arith), trailing-clear 64 (w / 2 ^ s) (k - s) (omega arith));
+  before = λ k l u e. omega (arith, sym e ∙ at k l (omega arith), (trailing (w / 2 ^ s) g).0 (k - s) (omega arith));
   found = λ u.
-      let f : min (s + t) 64 ≡ s + t = omega arith in
-      rw f (bit_word w (s + t) (omega arith) ∙ sym (digit-shr w s t) ∙ trailing-set 64 (w / 2 ^ s) (omega arith));
+      let q : min (s + t) 64 ≡ s + t = omega arith in
+      rw q (bit_word w (s + t) (omega arith) ∙ sym (digit-shr w s t) ∙ (trailing (w / 2 ^ s) g).1 (omega arith));
 }
   where
     t : ℕ
     t = count_trailing_zeros 64 (w / 2 ^ s)
+
+    g : w / 2 ^ s < 2 ^ 64
+    g = omega (arith, shr_le w s)
 
     at : (k : ℕ) → s ≤ k → k < 64 → bit (w ∷ []) k ≡ digit (w / 2 ^ s) (k - s)
     at k l u =
@@ -143,9 +146,17 @@ next_word words v a r e =
     omega (arith, next-same words a (get_or words (a / 64) 0 ∷ []) (a % 64) n v (word_same words a n (omega arith))) in
     rw f (next_is words v a n)
 
--- the walk has come to a key with the bit v
-pub next-at : (words : List ℕ) (v a n r : ℕ) → a ≤ r → r < a + n → Without words v a r → bit words r ≡ v → r ≡ next_bit words v a n
-next-at words v a n r l u s e = next-only words v a n r record { low = l; high = omega arith; before = s; found = λ h. e }
+-- the walk has come to key b, and r is the next of the m keys from there on
+pub next-at : (words : List ℕ) (v a n b m r : ℕ) → a ≤ b → b < a + n → Without words v a b → Next words v b m r → r < b + m
+    → min r (a + n) ≡ next_bit words v a n
+next-at words v a n b m r l u s t h = next-only words v a n (min r (a + n)) record {
+  low = omega (arith, t.low);
+  high = omega arith;
+  before = λ k p q e. without-join words v a b r s t.before k p (omega arith) e;
+  found = λ p.
+      let e : min r (a + n) ≡ r = omega arith in
+      rw e (t.found h);
+}
 
 -- the walk has come to the end
 pub next-none : (words : List ℕ) (v a n b : ℕ) → a + n ≤ b → Without words v a b → a + n ≡ next_bit words v a n

@@ -1,18 +1,16 @@
 -- Laws of many bits at once: a run of them set, and those of another map cleared.
-use mathlib.Core.Path.{◌≡◌, refl, sym, ap, ◌∙◌}
-use mathlib.Core.Bool.{Bool, true, false, ◌&&◌, ◌||◌, not, or_assoc, or_comm}
-use mathlib.Core.List.{List}
-use Prim.Native.Nat.{ℕ, ◌+◌, ◌-◌, ◌*◌, ◌/◌, ◌%◌, ◌^◌, ◌≤◌, ◌<◌}
-use native.Mathlib.Nat.{mod-lt}
-use native.Mathlib.Decide.{ℕ_discrete, dec_lt}
-use native.Mathlib.Omega.{arith}
-use borrow.Author.Tests.{lt-ltb, le-ltb, le-leb, lt-leb, eq-eqb}
-use lib.Bits.{bit_and, bit_or, bit_xor, and_zero_l}
-use lib.Dec.{eqb, lit<}
-use lib.ListN.{length, get_or, set, get_or-eq_default}
-use lib.Seq.{get_or-set_same, get_or-set_other}
+use Rattle.std.proofs.Common.{◌≡◌, Bool, true, false, ◌&&◌, ◌||◌, not, List, ℕ, min, ◌+◌, ◌-◌, ◌*◌, ◌/◌, ◌%◌, ◌^◌, ◌≤◌, ◌<◌, eqb, length, get_or, set}
+use Rattle.std.proofs.Common.{bit_and, bit_or, w64, refl, sym, ap, ◌∙◌, pow_pos, arith, lt-ltb, le-ltb, le-leb, eq-eqb, shl_exact, get_or-set_same}
+use Rattle.std.proofs.Common.{get_or-set_other}
+use Rattle.std.proofs.Math.Nat.{zero-div}
+use Rattle.std.proofs.Math.Decide.{ℕ_discrete, dec_lt}
+use Rattle.std.proofs.lemmas.Bool.{lt-leb}
+use Rattle.std.proofs.Math.Bool.{or_assoc, or_comm}
+use Rattle.std.proofs.Math.ListN.{get_or-eq_default}
+use Rattle.std.proofs.Math.Pow.{high_ones}
+use Rattle.std.proofs.lemmas.Nat.Bits.{bit_at_and, bit_at_or, bit_at_not, bit_at_mask_inside, bit_at_mask_below, bit_at_mask_above, ones_shr}
 use Rattle.bits.specs.Map.{digit, bit, on, one_of}
-use Rattle.bits.proofs.Words.{digit-shr, digit-high, digit_not, digit_or, digit-without, by_digits, or_set, shl-low, shl-high}
+use Rattle.bits.proofs.Words.{by_digits, or_set}
 
 -- ---- the keys of a run
 
@@ -59,32 +57,21 @@ run_more xs ys zs a b n k h p q = rw (q, p, ← or_assoc (one_of b n k) (one_of 
 
 -- ---- a run of bits set
 
--- every digit of a full word is set
-full-digit : (i : ℕ) → i < 64 → digit (2 ^ 64 - 1 - 0) i ≡ 1
-full-digit i h = omega (arith, digit_not 64 0 i (lit< tt) h, digit-high 0 0 i (lit< tt) (omega arith))
-
 -- the word with a run of digits set: `(!0 >> (64 - n)) << s`
-abbrev mask_of : ℕ → ℕ → ℕ
-mask_of s n = (2 ^ 64 - 1 - 0) / 2 ^ (64 - n) * 2 ^ s % 2 ^ 64
-
--- its digits from s on
-mask-from : (s n i : ℕ) → s ≤ i → i < 64 → digit (mask_of s n) i ≡ digit (2 ^ 64 - 1 - 0) (64 - n + (i - s))
-mask-from s n i l h =
-    let e : s + (i - s) ≡ i = omega arith in
-    let x = (2 ^ 64 - 1 - 0) / 2 ^ (64 - n) in
-    (rw e at (shl-high x s 64 (i - s) (omega arith))) ∙ digit-shr (2 ^ 64 - 1 - 0) (64 - n) (i - s)
+mask_is : (s n : ℕ) → s + n ≤ 64 → (2 ^ 64 - 1) / 2 ^ (64 - n) * 2 ^ s % 2 ^ 64 ≡ 2 ^ (s + n) - 2 ^ s
+mask_is s n h =
+    let e : 64 - (64 - n) ≡ n = omega arith in
+    let f : n + s ≡ s + n = omega arith in
+    rw (ones_shr 64 (64 - n) (omega arith), e) (shl_exact n s 64 (omega (arith, pow_pos n)) (omega arith) ∙ sym (rw f at (high_ones n s)))
 
 -- what `mask` gives
-pub mask-digit : (s n i : ℕ) → s + n ≤ 64 → eqb (digit (mask_of s n) i) 1 ≡ one_of s n i
+pub mask-digit : (s n i : ℕ) → s + n ≤ 64 → eqb (digit ((2 ^ 64 - 1) / 2 ^ (64 - n) * 2 ^ s % 2 ^ 64) i) 1 ≡ one_of s n i
 mask-digit s n i h =
-    run_is s n i (eqb (digit (mask_of s n) i) 1)
-    (λ l u. eq-eqb (digit (mask_of s n) i) 1 (mask-from s n i l (omega arith) ∙ full-digit (64 - n + (i - s)) (omega arith)))
-    (λ u. ap (λ (x : ℕ). eqb x 1) (shl-low ((2 ^ 64 - 1 - 0) / 2 ^ (64 - n)) s 64 i (omega arith) u))
-    (λ u. ap (λ (x : ℕ). eqb x 1) (above u (dec_lt i 64)))
-  where
-    above : s + n ≤ i → Dec (i < 64) → digit (mask_of s n) i ≡ 0
-    above u (yes g) = mask-from s n i (omega arith) g ∙ digit-high (2 ^ 64 - 1 - 0) 64 (64 - n + (i - s)) (lit< tt) (omega arith)
-    above u (no g) = digit-high (mask_of s n) 64 i (mod-lt ((2 ^ 64 - 1 - 0) / 2 ^ (64 - n) * 2 ^ s) (lit< tt)) (omega arith)
+    rw (mask_is s n h)
+    (run_is s n i (eqb (digit (2 ^ (s + n) - 2 ^ s) i) 1)
+    (λ l u. eq-eqb _ 1 (bit_at_mask_inside s (s + n) i l u))
+    (λ u. ap (λ (x : ℕ). eqb x 1) (bit_at_mask_below s (s + n) i u))
+    (λ u. ap (λ (x : ℕ). eqb x 1) (bit_at_mask_above s (s + n) i u)))
 
 -- a word that takes the digits of a run has the run's bits besides its own
 pub run-set : (words : List ℕ) (a n r : ℕ) → a / 64 < length words → a % 64 + n ≤ 64 → ((i : ℕ) → eqb (digit r i) 1 ≡ one_of (a % 64) n i)
@@ -105,7 +92,7 @@ run-set words a n r h p d k = by (ℕ_discrete (k / 64) (a / 64))
     by : Dec (k / 64 ≡ a / 64)
         → eqb (digit (get_or (set words (a / 64) (bit_or w r)) (k / 64) 0) (k % 64)) 1 ≡ (one_of a n k || eqb (digit (get_or words (k / 64) 0) (k % 64)) 1)
     by (yes e) =
-        rw (e, get_or-set_same words (a / 64) (bit_or w r) 0 h, digit_or w r (k % 64), ← same e, ← d (k % 64))
+        rw (e, get_or-set_same words (a / 64) (bit_or w r) 0 h, bit_at_or w r (k % 64), ← same e, ← d (k % 64))
         (or_set (digit w (k % 64)) (digit r (k % 64)) (omega arith) (omega arith) ∙ or_comm (eqb (digit w (k % 64)) 1) (eqb (digit r (k % 64)) 1))
     by (no e) =
         let f : false ≡ one_of a n k = run_is a n k false (λ l u. absurd (e (omega arith))) (λ u. refl) (λ u. refl) in
@@ -113,44 +100,48 @@ run-set words a n r h p d k = by (ℕ_discrete (k / 64) (a / 64))
 
 -- ---- the bits of another map cleared
 
--- the word x without the digits of y
-abbrev lacking : ℕ → ℕ → ℕ
-lacking x y = bit_xor x (bit_and x y)
+-- the word x without the digits of y: `x & !y`
+abbrev pub lacking : ℕ → ℕ → ℕ
+lacking x y = bit_and x (2 ^ 64 - 1 - y)
 
-one-lacking : (a b : ℕ) → a ≤ 1 → b ≤ 1 → eqb (lacking a b) 1 ≡ (eqb a 1 && not (eqb b 1))
-one-lacking = by_digits (λ a b. eqb (lacking a b) 1 ≡ (eqb a 1 && not (eqb b 1))) refl refl refl refl
+-- its digits
+lacking-digit : (x y i : ℕ) → y < 2 ^ 64 → i < 64 → eqb (digit (lacking x y) i) 1 ≡ (eqb (digit x i) 1 && not (eqb (digit y i) 1))
+lacking-digit x y i f h = rw (bit_at_and x (2 ^ 64 - 1 - y) i, bit_at_not w64 y i f h) (both (digit x i) (digit y i) (omega arith) (omega arith))
+  where
+    both : (a b : ℕ) → a ≤ 1 → b ≤ 1 → eqb (min a (1 - b)) 1 ≡ (eqb a 1 && not (eqb b 1))
+    both = by_digits (λ a b. eqb (min a (1 - b)) 1 ≡ (eqb a 1 && not (eqb b 1))) refl refl refl refl
 
--- zs is xs, whose first i words lack the digits of ys
+-- zs is xs, whose first i words lack the bits of ys
 pub record Lacking (xs ys zs : List ℕ) (i : ℕ) : Type 0 where
-  pub done : (j : ℕ) → j < i → get_or zs j 0 ≡ lacking (get_or xs j 0) (get_or ys j 0)
+  pub done : (k : ℕ) → k / 64 < i → on zs k ≡ (on xs k && not (on ys k))
   pub left : (j : ℕ) → i ≤ j → get_or zs j 0 ≡ get_or xs j 0
 
 pub lacking-none : (xs ys : List ℕ) → Lacking xs ys xs 0
-lacking-none xs ys = record { done = λ j h. absurd (omega arith); left = λ j h. refl }
+lacking-none xs ys = record { done = λ k h. absurd (omega arith); left = λ j h. refl }
 
 -- one word more
-pub lacking-more : (xs ys zs : List ℕ) (i : ℕ) → i < length zs → Lacking xs ys zs i → Lacking xs ys (set zs i (lacking (get_or zs i 0) (get_or ys i 0))) (i + 1)
-lacking-more xs ys zs i h t = record {
-  done = λ j u. by j u (ℕ_discrete j i);
+pub lacking-more : (xs ys zs : List ℕ) (i : ℕ) → i < length zs → get_or ys i 0 < 2 ^ 64 → Lacking xs ys zs i
+    → Lacking xs ys (set zs i (lacking (get_or zs i 0) (get_or ys i 0))) (i + 1)
+unfolding bit
+lacking-more xs ys zs i h f t = record {
+  done = λ k u. by k u (ℕ_discrete (k / 64) i);
   left = λ j u. get_or-set_other zs i j w 0 (λ e. omega arith) ∙ t.left j (omega arith);
 }
   where
     w : ℕ
     w = lacking (get_or zs i 0) (get_or ys i 0)
 
-    by : (j : ℕ) → j < i + 1 → Dec (j ≡ i) → get_or (set zs i w) j 0 ≡ lacking (get_or xs j 0) (get_or ys j 0)
-    by j u (yes e) = rw (e, get_or-set_same zs i w 0 h, t.left i (omega arith))
-    by j u (no e) = get_or-set_other zs i j w 0 e ∙ t.done j (omega arith)
+    by : (k : ℕ) → k / 64 < i + 1 → Dec (k / 64 ≡ i) → on (set zs i w) k ≡ (on xs k && not (on ys k))
+    by k u (yes e) = rw (e, get_or-set_same zs i w 0 h, t.left i (omega arith)) (lacking-digit (get_or xs i 0) (get_or ys i 0) (k % 64) f (omega arith))
+    by k u (no e) = rw (get_or-set_other zs i (k / 64) w 0 e) (t.done k (omega arith))
 
 -- all words: past them no bit is set
 pub lacking-all : (xs ys zs : List ℕ) (i : ℕ) → length xs ≤ i → Lacking xs ys zs i → (k : ℕ) → on zs k ≡ (on xs k && not (on ys k))
 unfolding bit
-lacking-all xs ys zs i h t k =
-    rw (word (k / 64) (dec_lt (k / 64) i), digit-without (get_or xs (k / 64) 0) (get_or ys (k / 64) 0) (k % 64))
-    (one-lacking (digit (get_or xs (k / 64) 0) (k % 64)) (digit (get_or ys (k / 64) 0) (k % 64)) (omega arith) (omega arith))
+lacking-all xs ys zs i h t k = by (dec_lt (k / 64) i)
   where
-    word : (j : ℕ) → Dec (j < i) → get_or zs j 0 ≡ lacking (get_or xs j 0) (get_or ys j 0)
-    word j (yes u) = t.done j u
-    word j (no u) =
-        let e : get_or xs j 0 ≡ 0 = get_or-eq_default xs 0 (omega arith) in
-        t.left j (omega arith) ∙ rw (e, and_zero_l (get_or ys j 0))
+    by : Dec (k / 64 < i) → on zs k ≡ (on xs k && not (on ys k))
+    by (yes u) = t.done k u
+    by (no u) =
+        let e : get_or xs (k / 64) 0 ≡ 0 = get_or-eq_default xs 0 (omega arith) in
+        rw (t.left (k / 64) (omega arith), e, zero-div)

@@ -1,22 +1,17 @@
--- Laws of the digits of one word.
-use mathlib.Core.Path.{◌≡◌, refl, sym, ap, ◌∙◌}
-use mathlib.Core.Bool.{cond, ◌||◌}
-use Prim.Native.Nat.{ℕ, zero, suc, ◌+◌, ◌-◌, ◌*◌, ◌/◌, ◌%◌, ◌^◌, ◌≤◌, ◌<◌}
-use native.Mathlib.Nat.{pow-suc, one-mul, zero-mul, div-eq_of_lt, lt_of_lt_of_le}
-use native.Mathlib.Numerals.{one-add}
-use native.Mathlib.Decide.{ℕ_discrete}
-use native.Mathlib.Omega.{arith}
-use borrow.Author.Tests.{eq-eqb, ne_eqb}
-use lib.Bits.{bit_and, bit_or, bit_xor, and_high, and_le_l, and_zero_r, and_shr, and_mod, or_add_and, or_shr, or_mod, xor_add_and, xor_shr, xor_mod}
-use lib.Bits.{shifted_half, shifted_even}
-use lib.Count.{under, count_trailing_zeros, count_leading_zeros, leading_length}
-use lib.Dec.{eqb, lit<}
-use lib.Pow.{pow-add, pow_mono, field, mod-mod-pow, shl_exact, shl-shr, shr-shr}
+-- Laws of the digits of one word. `digit` is the library's `bit_at`.
+use Rattle.std.proofs.Common.{◌≡◌, cond, ◌||◌, ℕ, zero, suc, ◌+◌, ◌-◌, ◌*◌, ◌/◌, ◌%◌, ◌^◌, ◌≤◌, ◌<◌, max, eqb, w64, refl, sym, ap, ◌∙◌, add-zero}
+use Rattle.std.proofs.Common.{pow-suc, arith, eq-eqb, ne_eqb, bit_and, bit_or}
+use Rattle.std.proofs.Math.Decide.{ℕ_discrete}
+use Rattle.std.specs.Int.Bits.{and_le_l, or_add_and}
+use Rattle.std.specs.Int.Count.{count_leading_zeros}
+use Rattle.std.proofs.Math.Pow.{pow-lt, field, mod-mod-pow}
+use Rattle.std.proofs.lemmas.Nat.{shl-shr, shr-shr, and_comm, and-not, leading_length}
+use Rattle.std.proofs.lemmas.Nat.Bits.{bit_at-suc, bit_at-zero, bit_at_above, bit_at_cat_low, bit_at_set_same, bit_at_set_other, and_pow}
 use Rattle.bits.specs.Map.{digit}
 
 -- the digits of w / 2 are those of w from 1 on
 pub digit-step : (w i : ℕ) → digit w (suc i) ≡ digit (w / 2) i
-digit-step w i = ap (λ (x : ℕ). x % 2) (ap (λ (k : ℕ). w / 2 ^ k) (sym (one-add i)) ∙ sym (shr-shr w 1 i))
+digit-step = bit_at-suc
 
 -- the digits of `w >> s`
 pub digit-shr : (w s i : ℕ) → digit (w / 2 ^ s) i ≡ digit w (s + i)
@@ -24,27 +19,9 @@ digit-shr w s i = ap (λ (x : ℕ). x % 2) (shr-shr w s i)
 
 -- a word of n digits has no digit set from n on
 pub digit-high : (w n i : ℕ) → w < 2 ^ n → n ≤ i → digit w i ≡ 0
-digit-high w n i h p = ap (λ (x : ℕ). x % 2) (div-eq_of_lt (lt_of_lt_of_le h (pow_mono p)))
-
--- the digits of the complement
-pub digit_not : (n w i : ℕ) → w < 2 ^ n → i < n → digit (2 ^ n - 1 - w) i + digit w i ≡ 1
-digit_not zero w i h p = absurd (omega arith)
-digit_not (suc n) w zero h p = rw pow-suc (omega (arith, pow-suc 2 n))
-digit_not (suc n) w (suc i) h p =
-    let e : (2 ^ suc n - 1 - w) / 2 ≡ 2 ^ n - 1 - w / 2 = rw pow-suc (omega (arith, pow-suc 2 n)) in
-    rw (digit-step (2 ^ suc n - 1 - w) i, digit-step w i, e) (digit_not n (w / 2) i (omega (arith, pow-suc 2 n)) (omega arith))
+digit-high = bit_at_above
 
 -- ---- two words, digit by digit
-
--- the digits of `x | y`
-pub digit_or : (x y i : ℕ) → digit (bit_or x y) i ≡ bit_or (digit x i) (digit y i)
-digit_or x y i = ap (λ (w : ℕ). w % 2) (or_shr x y i) ∙ or_mod (x / 2 ^ i) (y / 2 ^ i) 1
-
--- the digits of `x ^ (x & y)`
-pub digit-without : (x y i : ℕ) → digit (bit_xor x (bit_and x y)) i ≡ bit_xor (digit x i) (bit_and (digit x i) (digit y i))
-digit-without x y i =
-    rw (xor_shr x (bit_and x y) i, and_shr x y i) (
-    xor_mod (x / 2 ^ i) (bit_and (x / 2 ^ i) (y / 2 ^ i)) 1 ∙ ap (bit_xor (digit x i)) (and_mod (x / 2 ^ i) (y / 2 ^ i) 1))
 
 -- a law of two digits, shown for each two
 pub by_digits : (P : ℕ → ℕ → Type 0) → P 0 0 → P 0 1 → P 1 0 → P 1 1 → (a b : ℕ) → a ≤ 1 → b ≤ 1 → P a b
@@ -57,14 +34,10 @@ by_digits P s t u v zero (suc (suc b)) p q = let z : ⊥ = omega arith in absurd
 by_digits P s t u v (suc zero) (suc (suc b)) p q = let z : ⊥ = omega arith in absurd z
 
 -- a digit of `x | y` is set where one of the two is
-pub or_set : (a b : ℕ) → a ≤ 1 → b ≤ 1 → eqb (bit_or a b) 1 ≡ (eqb a 1 || eqb b 1)
-or_set = by_digits (λ a b. eqb (bit_or a b) 1 ≡ (eqb a 1 || eqb b 1)) refl refl refl refl
+pub or_set : (a b : ℕ) → a ≤ 1 → b ≤ 1 → eqb (max a b) 1 ≡ (eqb a 1 || eqb b 1)
+or_set = by_digits (λ a b. eqb (max a b) 1 ≡ (eqb a 1 || eqb b 1)) refl refl refl refl
 
 -- ---- shifts to the left
-
--- `1 << s` does not wrap
-pub shl_one : (s : ℕ) → s < 64 → 1 * 2 ^ s % 2 ^ 64 ≡ 2 ^ s
-shl_one s h = shl_exact 1 s 64 (lit< tt) (omega arith) ∙ one-mul (2 ^ s)
 
 -- the digits of a remainder
 digit-mod : (w n i : ℕ) → i < n → digit (w % 2 ^ n) i ≡ digit w i
@@ -74,9 +47,7 @@ digit-mod w n i h =
 
 -- the digits below a multiple of 2 ^ k
 low_clear : (w k i : ℕ) → i < k → digit (w * 2 ^ k) i ≡ 0
-low_clear w zero i h = absurd (omega arith)
-low_clear w (suc k) zero h = omega (arith, shifted_even w k)
-low_clear w (suc k) (suc i) h = rw (digit-step (w * 2 ^ suc k) i, shifted_half w k) (low_clear w k i (omega arith))
+low_clear w k i h = rw add-zero at (bit_at_cat_low w k 0 i h) ∙ bit_at-zero i
 
 -- `w << k` in a word of n digits: the k lowest are 0
 pub shl-low : (w k n i : ℕ) → k ≤ n → i < k → digit (w * 2 ^ k % 2 ^ n) i ≡ 0
@@ -92,29 +63,19 @@ shl-high w k n i h = digit-mod (w * 2 ^ k) n (k + i) h ∙ sym (digit-shr (w * 2
 abbrev pub put : ℕ → ℕ → ℕ → ℕ
 put w i v = w - digit w i * 2 ^ i + v * 2 ^ i
 
--- `w & (1 << i)`
-and_one : (w i : ℕ) → bit_and w (2 ^ i) ≡ digit w i * 2 ^ i
-and_one w i =
-    let e : 2 ^ (1 + i) - 2 ^ i ≡ 2 ^ i = omega (arith, pow-add 2 1 i) in
-    rw e at (and_high w 1 i)
-
 -- the digit's part of the word
 digit-part : (w i : ℕ) → digit w i * 2 ^ i ≤ w
-digit-part w i = rw (and_one w i) at (and_le_l w (2 ^ i))
+digit-part w i = rw (and_pow w i) at (and_le_l w (2 ^ i))
 
 -- `w | (1 << i)`
 pub or_put : (w i : ℕ) → bit_or w (2 ^ i) ≡ put w i 1
-or_put w i = omega (arith, or_add_and w (2 ^ i), and_one w i, digit-part w i)
+or_put w i = omega (arith, or_add_and w (2 ^ i), and_pow w i, digit-part w i)
 
--- the digit is in the word
-and_again : (w i d : ℕ) → digit w i ≡ d → bit_and w (d * 2 ^ i) ≡ d * 2 ^ i
-and_again w i zero e = rw (zero-mul (2 ^ i)) (and_zero_r w)
-and_again w i (suc zero) e = rw (one-mul (2 ^ i)) (and_one w i ∙ rw e (one-mul (2 ^ i)))
-and_again w i (suc (suc d)) e = absurd (omega arith)
-
--- `w ^ (w & (1 << i))`
-pub xor-put : (w i : ℕ) → bit_xor w (bit_and w (2 ^ i)) ≡ put w i 0
-xor-put w i = rw (and_one w i) (omega (arith, xor_add_and w (digit w i * 2 ^ i), and_again w i (digit w i) refl, digit-part w i))
+-- `w & !(1 << i)`
+pub and_put : (w i : ℕ) → w < 2 ^ 64 → i < 64 → bit_and w (2 ^ 64 - 1 - 2 ^ i) ≡ put w i 0
+and_put w i f h =
+    let x : ℕ = 2 ^ 64 - 1 - 2 ^ i in
+    rw (and_comm w x) (omega (arith, and-not 64 (2 ^ i) w (pow-lt h) f, and_comm w (2 ^ i), and_pow w i))
 
 -- the digits of w / 2, and the lowest one
 put_step : (w i v : ℕ) → put w (suc i) v ≡ put (w / 2) i v * 2 + w % 2
@@ -144,33 +105,7 @@ put-lt zero w i v h p q = absurd (omega arith)
 put-lt (suc n) w zero v h p q = omega (arith, pow-suc 2 n)
 put-lt (suc n) w (suc i) v h p q = rw (put_step w i v) (omega (arith, pow-suc 2 n, put-lt n (w / 2) i v (omega (arith, pow-suc 2 n)) (omega arith) q))
 
--- ---- the zeros at the ends of a word
-
--- no digit below the trailing zeros' end is set
-pub trailing-clear : (n w i : ℕ) → i < count_trailing_zeros n w → digit w i ≡ 0
-unfolding count_trailing_zeros
-trailing-clear zero w i h = absurd (omega arith)
-trailing-clear (suc n) w zero h = go (w % 2) refl h
-  where
-    go : (d : ℕ) → w % 2 ≡ d → 0 < under d (count_trailing_zeros n (w / 2)) → digit w 0 ≡ 0
-    go zero e l = omega arith
-    go (suc d) e l = absurd (omega arith)
-trailing-clear (suc n) w (suc i) h = digit-step w i ∙ trailing-clear n (w / 2) i (go (w % 2) h)
-  where
-    go : (d : ℕ) → suc i < under d (count_trailing_zeros n (w / 2)) → i < count_trailing_zeros n (w / 2)
-    go zero l = omega arith
-    go (suc d) l = absurd (omega arith)
-
--- the digit at their end is
-pub trailing-set : (n w : ℕ) → count_trailing_zeros n w < n → digit w (count_trailing_zeros n w) ≡ 1
-unfolding count_trailing_zeros
-trailing-set zero w h = absurd (omega arith)
-trailing-set (suc n) w h = go (w % 2) refl (trailing-set n (w / 2)) h
-  where
-    go : (d : ℕ) → w % 2 ≡ d → (count_trailing_zeros n (w / 2) < n → digit (w / 2) (count_trailing_zeros n (w / 2)) ≡ 1)
-        → under d (count_trailing_zeros n (w / 2)) < suc n → digit w (under d (count_trailing_zeros n (w / 2))) ≡ 1
-    go zero e ih l = digit-step w (count_trailing_zeros n (w / 2)) ∙ ih (omega arith)
-    go (suc d) e ih l = omega arith
+-- ---- the zeros above a word's digits
 
 -- none of the leading zeros is set
 pub leading-clear : (n w i : ℕ) → w < 2 ^ n → n ≤ count_leading_zeros n w + i → digit w i ≡ 0
@@ -192,8 +127,8 @@ leading-set n w i h p =
 
 -- the digits of a word with one set
 pub or_digits : (w i : ℕ) → i < 64 → (j : ℕ) → digit (bit_or w (1 * 2 ^ i % 2 ^ 64)) j ≡ cond (eqb j i) 1 (digit w j)
-or_digits w i l j = rw (shl_one i l, or_put w i) (by (ℕ_discrete j i))
+or_digits w i l j = by (ℕ_discrete j i)
   where
-    by : Dec (j ≡ i) → digit (put w i 1) j ≡ cond (eqb j i) 1 (digit w j)
-    by (yes e) = rw (eq-eqb j i e, e) (put-digit w i 1 (omega arith))
-    by (no e) = rw (ne_eqb j i e) (put-digits w i 1 j e (omega arith))
+    by : Dec (j ≡ i) → digit (bit_or w (1 * 2 ^ i % 2 ^ 64)) j ≡ cond (eqb j i) 1 (digit w j)
+    by (yes e) = rw (eq-eqb j i e, e) (bit_at_set_same w64 w i l)
+    by (no e) = rw (ne_eqb j i e) (bit_at_set_other w64 w i l j e)

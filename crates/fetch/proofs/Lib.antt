@@ -1,3 +1,2 @@
--- What the next fetch rests on: the next page in neither map, a reader's first absent page, the search.
-pub mod Lacks
+-- What the next fetch rests on: a reader's first absent page, the search.
 pub mod Searching

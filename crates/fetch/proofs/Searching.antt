@@ -1,11 +1,6 @@
 -- The search for the head of the fetch order, slot by slot: a reader's first absent page, and the one used soonest. Assumes nothing.
-use mathlib.Core.Path.{◌≡◌, refl, sym, ap₂, ◌∙◌, subst}
-use mathlib.Core.Bool.{Bool, not, ◌&&◌}
 use Rattle.std.specs.declared.option.Option.TheVariants.{Some, None}
-use Prim.Native.Nat.{ℕ, zero, suc, ◌+◌, ◌-◌, ◌*◌, ◌≤◌, ◌<◌}
-use native.Mathlib.Omega.{arith}
-use borrow.Author.Tests.{eq-eqb}
-use lib.Dec.{T, eqb, eqb→eq}
+use Rattle.std.proofs.Common.{◌≡◌, Bool, not, ◌&&◌, ℕ, zero, suc, ◌+◌, ◌-◌, ◌*◌, ◌≤◌, ◌<◌, refl, sym, ap₂, ◌∙◌, subst, T, eqb, eqb→eq, eq-eqb, arith}
 use Rattle.bits.specs.Map.{bit, joined, next_bit}
 use Rattle.bits.proofs.Bits.{bit_le}
 use Rattle.bits.proofs.Finds.{Next, next_is}
@@ -18,7 +13,7 @@ use Rattle.rules.specs.Orders.{absent, fetch_order}
 use Rattle.rules.specs.Ranks.{FirstAbsent, NoneBelow, AtLeast, Before}
 use Rattle.rules.proofs.laws.Cases.{passed}
 use Rattle.rules.proofs.orders.LookAheads.{before-is, is-before, use-least}
-use Rattle.rules.proofs.orders.Candidates.{none_below, slot-below, absent-least, absent-wanted, best-wanted, no-wanted}
+use Rattle.rules.proofs.orders.Candidates.{slot-below, absent-least, absent-wanted, best-wanted, no-wanted}
 use Rattle.rules.specs.declared.State.{State}
 use Rattle.rules.specs.declared.Reader.{Reader}
 use Rattle.uses.specs.Sights.{lower}
@@ -70,10 +65,6 @@ module _ (s : State) (r : Reader) (here : T (attached r)) (key : ℕ)
     }
 
 module _ (s : State) where
-  -- a search starts without slots
-  pub soonest-none : Soonest s 0 (record { key = 0; value = never })
-  soonest-none = record { low = omega arith; page = λ h. absurd (omega arith); its = λ h. absurd (omega arith); below = none_below s never }
-
   module _ (m : ℕ) (p : Pick) (a : Soonest s m p) where
     -- one slot more, whose page, if any, is used no sooner
     pub soonest-keep : (T (attached (reader_at s m)) → AtLeast s p.value m) → Soonest s (m + 1) p

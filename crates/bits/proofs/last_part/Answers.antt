@@ -1,9 +1,5 @@
 -- The last set bit of a part of one word.
-use mathlib.Core.Path.{sym, ◌∙◌}
-use mathlib.Core.List.{[], ◌∷◌}
-use Prim.Native.Nat.{◌*◌, ◌/◌, ◌%◌}
-use native.Mathlib.Omega.{arith}
-use lib.ListN.{get_or}
+use Rattle.std.proofs.Common.{[], ◌∷◌, ◌*◌, ◌/◌, ◌%◌, get_or, sym, ◌∙◌, arith}
 use Rattle.bits.proofs.Bits.{whole_same}
 use Rattle.bits.proofs.Finds.{last-is, last-same}
 use Rattle.bits.proofs.last_part.Goals as goal

@@ -1,43 +1,44 @@
 -- Invariant: no bit with the value lies between the start and the place reached. Measure: the keys that are left.
-use Prim.Native.Nat.{◌+◌, ◌-◌, ◌*◌, ◌/◌, ◌%◌}
-use native.Mathlib.Omega.{arith}
-use borrow.Author.Rules.{rules}
-use borrow.Author.Tests.{ltb-true}
+use Rattle.std.proofs.Common.{◌+◌, ◌-◌, ◌*◌, ◌/◌, ◌%◌, ◌∙◌, arith, rules}
 use Rattle.bits.proofs.Finds.{Next, without-join, next_word, next-at, next-none}
 use Rattle.bits.proofs.next_bit.Goals.{After-next_digit-r}
 use Rattle.bits.proofs.next_bit.Goals as goal
 
 -- the next bit v of the turn's word
-found : (c : After-next_digit-r) →
-    Next c.args.words.now c.args.v c.loop-at.at (64 - c.loop-at.at % 64)
+found : (g : _) → (c : After-next_digit-r g) →
+    Next (g.M.PageMap.words c.args.words.now) c.args.v c.loop-at.at (64 - c.loop-at.at % 64)
     (c.loop-at.at / 64 * 64 + c.next_digit-r.result)
-found c =
-    next_word c.args.words.now c.args.v c.loop-at.at c.next_digit-r.result c.next_digit-r.ensures
+found g c =
+    next_word (g.M.PageMap.words c.args.words.now) c.args.v c.loop-at.at c.next_digit-r.result
+    (rw c.word.ensures at c.next_digit-r.ensures)
 
 pub loop-at-init : goal.loop-at-init
-loop-at-init c = (search rules, λ k l u e. omega arith)
+loop-at-init g c = (search rules, λ k l u e. omega arith)
 
 pub overflow_add-at : goal.overflow_add-at
-overflow_add-at c = omega (arith, found c)
+overflow_add-at g c = omega (arith, found g c)
 
-pub returns-then-at-end : goal.returns-then-at-end
-returns-then-at-end c =
+pub returns-then-r-lt64 : goal.returns-then-r-lt64
+returns-then-r-lt64 g c =
     let a = c.args in
-    let t = found (goal.at.returns-then-at-end c).After-next_digit-r in
-    let q = c.loop-at.at / 64 * 64 + c.next_digit-r.result in
-    next-at a.words.now a.v a.from a.n q (omega arith) (omega (arith, ltb-true))
-    (without-join a.words.now a.v a.from c.loop-at.at q c.loop-at.invariant.1 t.before) (t.found (omega arith))
+    let t = found g (goal.at.returns-then-r-lt64 g c).After-next_digit-r in
+    c.min.ensures
+    ∙ next-at _ a.v a.from a.n c.loop-at.at (64 - c.loop-at.at % 64) (c.loop-at.at / 64 * 64 + c.next_digit-r.result)
+    c.loop-at.invariant.0 c.loop-at-test.true c.loop-at.invariant.1 t (omega arith)
+
+pub loop-at-smaller : goal.loop-at-smaller
+loop-at-smaller g c = omega (arith, c.if-r-lt64.false)
 
 pub loop-at-preserved : goal.loop-at-preserved
-loop-at-preserved c =
+loop-at-preserved g c =
     let a = c.args in
-    let t = found (goal.at.loop-at-preserved c).After-next_digit-r in (
+    let t = found g (goal.at.loop-at-preserved g c).After-next_digit-r in (
       omega arith,
-      without-join a.words.now a.v a.from c.loop-at.at
+      without-join _ a.v a.from c.loop-at.at
           (c.loop-at.at / 64 * 64 + c.next_digit-r.result) c.loop-at.invariant.1 t.before,
     )
 
 pub returns : goal.returns
-returns c =
+returns g c =
     let a = c.args in
-    next-none a.words.now a.v a.from a.n c.loop-at.at c.loop-at-test.false c.loop-at.invariant.1
+    next-none _ a.v a.from a.n c.loop-at.at c.loop-at-test.false c.loop-at.invariant.1

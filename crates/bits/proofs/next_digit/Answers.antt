@@ -1,6 +1,5 @@
 -- The next 0 of a word is the next 1 of its complement.
-use mathlib.Core.Path.{◌≡◌, ◌∙◌}
-use native.Mathlib.Omega.{arith}
+use Rattle.std.proofs.Common.{◌≡◌, ◌∙◌, arith}
 use Rattle.bits.proofs.Finds.{next-not}
 use Rattle.bits.proofs.next_digit.Goals as goal
 

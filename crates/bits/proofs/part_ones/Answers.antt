@@ -1,5 +1,5 @@
 -- Of a word, the digits from one to another: shifted out below and above, the ones that stay are theirs.
-use mathlib.Core.Path.{◌∙◌}
+use Rattle.std.proofs.Common.{◌∙◌}
 use Rattle.bits.proofs.Counts.{ones_shl}
 use Rattle.bits.proofs.part_ones.Goals as goal
 

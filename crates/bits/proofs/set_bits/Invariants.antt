@@ -1,7 +1,5 @@
 -- Invariant: of the run, the bits up to the place reached are set besides those of the start. Measure: the keys that are left.
-use mathlib.Core.Path.{◌≡◌}
-use mathlib.Core.Bool.{◌||◌}
-use Prim.Native.Nat.{ℕ, ◌-◌, ◌≤◌}
+use Rattle.std.proofs.Common.{◌≡◌, ◌||◌, ℕ, ◌-◌, ◌≤◌}
 use Rattle.bits.specs.Map.{on, one_of}
 use Rattle.bits.proofs.set_bits.Given as goal
 

@@ -1,11 +1,7 @@
--- Invariant: of the slots passed, no first absent page is used sooner than the best (`Soonest`). Measure: the slots that are left.
-use Prim.Native.Nat.{◌-◌, ◌≤◌}
+-- Invariant: of the slots passed, no first absent page is used sooner than the best (`Soonest`).
 use Rattle.rules.specs.Views.{state_of}
 use Rattle.fetch.specs.Soonest.{Soonest}
 use Rattle.fetch.proofs.next_fetch.Given as goal
 
 abbrev pub invariant-loop-slot : goal.invariant-loop-slot
-invariant-loop-slot l = (l.slot ≤ 16) × Soonest (state_of l.v l.cached l.fetching) l.slot l.best
-
-abbrev pub decreases-loop-slot : goal.decreases-loop-slot
-decreases-loop-slot l = 16 - l.slot
+invariant-loop-slot l = Soonest (state_of l.v l.cached l.fetching) l.slot l.best
