@@ -16,6 +16,7 @@ use Rattle.rules.specs.declared.State.{State}
 use Rattle.rules.specs.declared.Reader.{Reader}
 use Rattle.rules.specs.declared.Reply.{Reply}
 use Rattle.rules.specs.declared.Answer.TheVariants.{Refused, End, Fetch}
+use Rattle.rules.specs.declared.Refusal.TheVariants.{SlotEmpty, ReaderWaits}
 use Rattle.rules.specs.declared.Condition.{Condition}
 use Rattle.rules.specs.declared.Condition.TheVariants.{Empty, Running, Waiting}
 use Rattle.calls.specs.Inner.{Readable}
@@ -41,11 +42,11 @@ stays s slot r e = ap (set s.readers slot) e ∙ set-get_or s.readers slot no_re
 
 -- by the condition of the slot's record
 module _ (s : State) (slot : ℕ) (low : slot < 16) (r : Reader) (e : r ≡ reader_at s slot) where
-  pub read-empty : r.condition ≡ Empty → reply (with_fetching (with_reader s slot r) s.fetching) (Refused 6) ≡ read_of s slot
+  pub read-empty : r.condition ≡ Empty → reply (with_fetching (with_reader s slot r) s.fetching) (Refused SlotEmpty) ≡ read_of s slot
   unfolding read_of
   read-empty h = rw (stays s slot r e, ← e) (search answers depth 12)
 
-  pub read-waiting : r.condition ≡ Waiting → reply (with_fetching (with_reader s slot r) s.fetching) (Refused 7) ≡ read_of s slot
+  pub read-waiting : r.condition ≡ Waiting → reply (with_fetching (with_reader s slot r) s.fetching) (Refused ReaderWaits) ≡ read_of s slot
   unfolding read_of
   read-waiting h = rw (stays s slot r e, ← e) (search answers depth 12)
 

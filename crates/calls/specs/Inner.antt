@@ -11,21 +11,12 @@ use Rattle.rules.specs.declared.State.{State}
 use Rattle.rules.specs.declared.Reader.{Reader}
 use Rattle.rules.specs.declared.Reply.{Reply}
 use Rattle.rules.specs.declared.Answer.{Answer}
-use Rattle.rules.specs.declared.View.{View}
-use Rattle.rules.specs.declared.Outcome.{Outcome}
-use Rattle.rules.specs.declared.Answer.TheVariants.{Refused, Arrived, Replaced}
+use Rattle.rules.specs.declared.Answer.TheVariants.{Arrived, Replaced}
+use Rattle.rules.specs.declared.Refusal.{Refusal}
+use Rattle.rules.specs.declared.Refusal.TheVariants.{NoFile, NoPage, NotInFetch}
+use Rattle.std.specs.declared.result.Result.{Result}
+use Rattle.std.specs.declared.result.Result.TheVariants.{Ok, Err}
 use Rattle.calls.specs.declared.Step.{Step}
-use Rattle.calls.specs.declared.Landing.{Landing}
-use Rattle.calls.specs.declared.Fetched.{Fetched}
-use Rattle.calls.specs.declared.Fetched.TheVariants.{Open, Refused as NotOpen}
-
--- a view and an answer
-abbrev pub outcome_of : View → Answer → Outcome
-outcome_of v a = record { view = v; answer = a }
-
--- a refusal, which leaves the view
-abbrev pub refusal : View → ℕ → Outcome
-refusal v number = outcome_of v (Refused number)
 
 -- a record that Read can look at; every record of a valid state is one
 abbrev pub Readable : Reader → Type 0
@@ -36,11 +27,11 @@ abbrev pub stepped : State → ℕ → Step → List ℕ → Reply
 stepped s slot r fetching = reply (with_fetching (with_reader s slot r.reader) fetching) r.answer
 
 -- what Arrive and Lost find of a page: its key where it is in fetch, else 3, 8 or 9
-unfoldable pub open_fetch : List ℕ → List ℕ → ℕ → ℕ → Fetched
+abbrev pub open_fetch : List ℕ → List ℕ → ℕ → ℕ → Result ℕ Refusal
 open_fetch sizes fetching file page =
-    cond (no_file_in sizes file) (NotOpen 3)
-    (cond (no_page_in sizes file page) (NotOpen 8)
-    (cond (on fetching (key_of file page)) (Open (key_of file page)) (NotOpen 9)))
+    cond (no_file_in sizes file) (Err NoFile)
+    (cond (no_page_in sizes file page) (Err NoPage)
+    (cond (on fetching (key_of file page)) (Ok (key_of file page)) (Err NotInFetch)))
 
 -- the page chosen, if any, is one that the map has
 abbrev pub CachedIn : List ℕ → Option ℕ → Type 0
@@ -49,10 +40,6 @@ CachedIn words gone = (k : ℕ) → gone ≡ Some k → (k < 8192) × (bit words
 -- the cached map without that page, if there is one
 abbrev pub eased : List ℕ → Option ℕ → List ℕ
 eased words gone = on_option gone (without words) words
-
--- the state and the answer after an Arrive: the readers are these, and so are the maps
-abbrev pub landed_in : State → Landing → List ℕ → List ℕ → Reply
-landed_in s r cached fetching = reply (with_fetching (with_cached (with_readers s r.readers) cached) fetching) r.answer
 
 -- Arrive's answer, which names that page
 abbrev pub arrival_of : Option ℕ → Answer

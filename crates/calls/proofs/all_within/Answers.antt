@@ -1,17 +1,11 @@
--- Invariant: the numbers passed are in range, so all are if the others are. Measure: the numbers that are left.
-use borrow.Author.Rules.{rules}
-use Rattle.rules.specs.Lists.{within}
-use Rattle.calls.proofs.Walks.{every_more, every-fails, every-end}
+-- Every number passes the test.
+use Rattle.std.proofs.Common.{rules, leb, ◌∙◌}
+use Rattle.std.proofs.lemmas.Iterator.{YieldsList-from_slice}
+use Rattle.std.proofs.lemmas.Iterator.Search.{all_from_yields_List}
+use Rattle.parts.proofs.Tests.{every-list, high-within}
 use Rattle.calls.proofs.all_within.Goals as goal
-
-pub returns-then-not-within : goal.returns-then-not-within
-returns-then-not-within c =
-    search (every-fails (within 0 c.args.high), rules)
-
-pub loop-i-preserved : goal.loop-i-preserved
-loop-i-preserved c =
-    search (every_more (within 0 c.args.high), rules)
 
 pub returns : goal.returns
 returns c =
-    search (every-end (within 0 c.args.high), rules)
+    all_from_yields_List (λ n. leb n c.args.high) _ _ _ c.all.ensures.ran (YieldsList-from_slice c.args.numbers.now cc) (λ x b q k. search rules)
+    ∙ every-list _ _ (high-within c.args.high) c.args.numbers.now

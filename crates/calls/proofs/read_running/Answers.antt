@@ -7,25 +7,20 @@ use Rattle.calls.proofs.Slots.{read-end, read-fetch}
 use Rattle.calls.proofs.read_running.Goals as goal
 
 pub returns-then-old : goal.returns-then-old
-returns-then-old c v i e =
-    rw c.answered.ensures
-    (read-end (state_of v c.args.cached.now c.args.fetching.now) i c.args.old e c.if-old.true)
+returns-then-old c v i e = read-end (state_of v c.args.cached.now c.args.fetching.now) i c.args.old e c.if-old.true
 
 pub returns-then-has_bit : goal.returns-then-has_bit
 unfolding read_running
-returns-then-has_bit c v i e =
-    rw (c.answered-then-has_bit.ensures, c.onward.ensures) (search keyed depth 12)
+returns-then-has_bit c v i e = rw c.onward.ensures (search keyed depth 12)
 
 pub returns-then-has_bit-2 : goal.returns-then-has_bit-2
 unfolding read_running
-returns-then-has_bit-2 c v i e =
-    rw (c.answered-then-has_bit-2.ensures, c.in_condition-waiting.ensures) (search keyed depth 12)
+returns-then-has_bit-2 c v i e = rw c.in_condition-reader.ensures (search keyed depth 12)
 
 pub returns : goal.returns
 returns c v i e =
     let a = c.args in
-    rw c.answered-2.ensures
-    (read-fetch (state_of v a.cached.now a.fetching.now) i a.old _ _ _ _ _
+    read-fetch (state_of v a.cached.now a.fetching.now) i a.old _ _ _ _ _
     c.if-old.false c.next_key-key.ensures
     c.has_bit.ensures c.if-has_bit.false c.has_bit-2.ensures c.if-has_bit-2.false
-    c.in_condition-waiting.ensures c.set_bit.ensures)
+    c.in_condition-reader.ensures c.set_bit.ensures

@@ -10,9 +10,9 @@ returns-in-Running c = λ v i l e. search (read-runs, c.read_running.ensures v i
 pub returns-in-Empty : goal.returns-in-Empty
 returns-in-Empty c =
     let a = c.args in
-    λ v i l e. rw c.answered.ensures (read-empty (state_of v a.cached.now a.fetching.now) i l a.old e (search rules))
+    λ v i l e. (read-empty (state_of v a.cached.now a.fetching.now) i l a.old e (search rules))
 
 pub returns-in-Waiting : goal.returns-in-Waiting
 returns-in-Waiting c =
     let a = c.args in
-    λ v i l e. rw c.answered-in-Waiting.ensures (read-waiting (state_of v a.cached.now a.fetching.now) i l a.old e (search rules))
+    λ v i l e. (read-waiting (state_of v a.cached.now a.fetching.now) i l a.old e (search rules))

@@ -1,38 +1,46 @@
--- The rule and the readers expected are in range and stored, or the idle state comes back.
-use Prim.Native.Nat.{◌≤◌}
-use mathlib.Core.Bool.{true}
-use mathlib.Core.Path.{◌≡◌, sym, ◌∙◌}
-use native.Mathlib.Omega.{arith}
-use Rattle.rules.specs.Lists.{within, every}
-use Rattle.rules.specs.Calls.{rule_in, setup_of}
-use Rattle.calls.proofs.Ranges.{settings-without, rule-low}
-use Rattle.calls.proofs.setup_by_rule.Goals.{Then-rule_in}
+-- The settings are in range and stored, or the idle state comes back.
+use Rattle.std.proofs.Common.{arith, rules, refl, sym, ◌∙◌, subst, ap}
+use Rattle.rules.specs.Calls.{setup_of, fresh}
+use Rattle.rules.specs.Valid.{Valid}
+use Rattle.rules.proofs.calls.Kept.{setup-valid}
+use Rattle.calls.proofs.Ranges.{InRange, settings}
+use Rattle.calls.proofs.Outcomes.{answers}
+use Rattle.calls.proofs.setup_by_rule.Goals.{Else-not-settings_in}
 use Rattle.calls.proofs.setup_by_rule.Goals as goal
 
--- a rule and readers expected that pass are in range
-ranged : (c : Then-rule_in) →
-    rule_in c.args.rule c.args.expected ≡ true
-ranged c = sym c.rule_in.ensures ∙ c.if-rule_in.true
+-- settings that pass are in range
+ranged : (c : Else-not-settings_in) →
+    let a = c.args in
+    InRange a.frames a.look_ahead a.fetch_time a.sizes a.rule a.expected
+ranged c = settings _ _ _ _ _ _ (sym c.settings_in.ensures ∙ c.if-not-settings_in.false)
 
--- the rule fits a byte, and the others 16 bits
-low : (c : Then-rule_in) →
-    (c.args.rule ≤ 1) × (every (within 0 65535) c.args.expected ≡ true)
-low c =
-    rule-low c.args.rule c.args.expected (ranged c)
+pub returns-then-not-settings_in : goal.returns-then-not-settings_in
+unfolding setup_of
+returns-then-not-settings_in c = rw c.idle.ensures (search answers depth 12)
 
-pub stored-readers-requires : goal.stored-readers-requires
-stored-readers-requires c = (low c).1
+pub overflow_cast-frames : goal.overflow_cast-frames
+overflow_cast-frames c = omega (arith, ranged (goal.at.overflow_cast-frames c).Else-not-settings_in)
 
-pub overflow_cast-rule : goal.overflow_cast-rule
-overflow_cast-rule c = omega (arith, (low (goal.at.overflow_cast-rule c).Then-rule_in).0)
+pub overflow_cast-look_ahead : goal.overflow_cast-look_ahead
+overflow_cast-look_ahead c = omega (arith, ranged (goal.at.overflow_cast-look_ahead c).Else-not-settings_in)
 
-pub set_up-requires : goal.set_up-requires
-set_up-requires c = rw c.stored-readers.ensures (ranged (goal.at.set_up-requires c).Then-rule_in)
+pub overflow_cast-fetch_time : goal.overflow_cast-fetch_time
+overflow_cast-fetch_time c = omega (arith, ranged (goal.at.overflow_cast-fetch_time c).Else-not-settings_in)
 
-pub returns-then-rule_in : goal.returns-then-rule_in
-returns-then-rule_in c = rw (← c.stored-readers.ensures) c.set_up.ensures
+pub stored-requires : goal.stored-requires
+stored-requires c = (ranged (goal.at.stored-requires c).Else-not-settings_in).sizes_high
+
+pub stored-requires-2 : goal.stored-requires-2
+stored-requires-2 c = (ranged (goal.at.stored-requires-2 c).Else-not-settings_in).expected_high
+
+pub empty-requires : goal.empty-requires
+unfolding setup_of
+empty-requires c =
+    let p = sym c.settings_in.ensures ∙ c.if-not-settings_in.false in
+    let a = c.args in
+    let v = setup-valid a.frames a.look_ahead a.fetch_time a.sizes a.rule a.expected (search rules) (search rules) in
+    rw (c.fresh.ensures, c.stored.ensures, c.stored-2.ensures, c.from_number.ensures) (rw p at v)
 
 pub returns : goal.returns
 unfolding setup_of
-returns c =
-    rw (settings-without _ _ _ _ _ _ (sym c.rule_in.ensures ∙ c.if-rule_in.false), c.refuse.ensures, c.idle.ensures)
+returns c = rw (c.empty.ensures, c.fresh.ensures, c.stored.ensures, c.stored-2.ensures, c.from_number.ensures) (search answers depth 12)

@@ -3,18 +3,14 @@ use Rattle.rules.specs.Calls.{woken}
 use Rattle.calls.proofs.Outcomes.{keyed}
 use Rattle.calls.proofs.wake_reader.Goals as goal
 
-pub returns-then-next_key-key : goal.returns-then-next_key-key
+pub returns-in-Waiting : goal.returns-in-Waiting
 unfolding woken
-returns-then-next_key-key c = search keyed depth 12
+returns-in-Waiting c = search keyed depth 12
 
 pub returns-in-Empty : goal.returns-in-Empty
 unfolding woken
 returns-in-Empty c = search keyed depth 12
 
-pub returns-in-Running : goal.returns-in-Running
+pub returns-in-Empty-2 : goal.returns-in-Empty-2
 unfolding woken
-returns-in-Running c = search keyed depth 12
-
-pub returns-else-next_key-key : goal.returns-else-next_key-key
-unfolding woken
-returns-else-next_key-key c = search keyed depth 12
+returns-in-Empty-2 c = search keyed depth 12
