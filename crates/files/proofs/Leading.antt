@@ -1,5 +1,32 @@
 -- The file that the 1993 rule chooses (A.6): a search over the files keeps the one with the highest number. Assumes nothing.
-use Rattle.std.proofs.Common.{ℕ, ◌+◌, ◌-◌, ◌*◌, ◌/◌, ◌%◌, ◌≤◌, ◌<◌, ◌≡◌, ◌∙◌, true, cond, ◌&&◌, List, Option, None, Some, T, ltb, eqb, refl, sym, ap, subst, arith, below_more}
+use Rattle.std.proofs.Common.{
+  ℕ,
+  ◌+◌,
+  ◌-◌,
+  ◌*◌,
+  ◌/◌,
+  ◌%◌,
+  ◌≤◌,
+  ◌<◌,
+  ◌≡◌,
+  ◌∙◌,
+  true,
+  cond,
+  ◌&&◌,
+  List,
+  Option,
+  None,
+  Some,
+  T,
+  ltb,
+  eqb,
+  refl,
+  sym,
+  ap,
+  subst,
+  arith,
+  below_more,
+}
 use lib.Dec.{eqb→eq}
 use Rattle.bits.specs.Map.{bit, ones}
 use Rattle.bits.proofs.Bits.{bit_le}
@@ -90,7 +117,8 @@ whole-file s w f l =
         absurd (omega arith))
         (λ ne _. omega (arith, bit_le s.cached k)) (w.cached_in k)
 
-module _ (v : View) (shares : Shares) (held : List ℕ) (a : Shared v shares) (cached fetching : List ℕ) (w : Valid (state_of v cached fetching)) (h : Held cached held) where
+module _ (v : View) (shares : Shares) (held : List ℕ) (a : Shared v shares) (cached fetching : List ℕ) (w : Valid (state_of v cached fetching))
+    (h : Held cached held) where
   abbrev s : State
   s = state_of v cached fetching
 

@@ -1,5 +1,30 @@
 -- The best of the files' heads is that of the page to give up. Assumes nothing.
-use Rattle.std.proofs.Common.{ℕ, ◌+◌, ◌≤◌, ◌<◌, ◌≡◌, ◌∙◌, Bool, true, false, List, Option, None, Some, T, sym, ap, subst, arith, get_or, set, length, length-set, get_or-set_same, get_or-set_other}
+use Rattle.std.proofs.Common.{
+  ℕ,
+  ◌+◌,
+  ◌≤◌,
+  ◌<◌,
+  ◌≡◌,
+  ◌∙◌,
+  Bool,
+  true,
+  false,
+  List,
+  Option,
+  None,
+  Some,
+  T,
+  sym,
+  ap,
+  subst,
+  arith,
+  get_or,
+  set,
+  length,
+  length-set,
+  get_or-set_same,
+  get_or-set_other,
+}
 use Rattle.std.proofs.lemmas.List.{get_or_past}
 use native.Mathlib.Decide.{ℕ_discrete, dec_lt}
 use borrow.Author.Tests.{eq-eqb, ne_eqb}

@@ -89,7 +89,6 @@ impl Heads {
 
     // The head of a file: the one known or, where none is, the one looked up, which is known from now on.
     fn head(&mut self, sight: &Sight, file: usize) -> Pick
-        
         requires { (file < 8) × (sight.now.terms.done ≤ 16384) }
         ensures { (v : View) → Shows sight.now v → Kept (seen sight.now v) sight.now.terms.done self.old
             → HeadIs (seen sight.now v) sight.now.terms.done (alone file) 8 result
@@ -108,7 +107,6 @@ impl Heads {
 
     // The page to give up among the files of a set.
     pub fn victim(&mut self, sight: &Sight, files: FileSet) -> Option<u16>
-        
         requires { sight.now.terms.done ≤ 16384 }
         ensures { (v : View) → Shows sight.now v → Kept (seen sight.now v) sight.now.terms.done self.old
             → (result ≡ victim_among (in_set files) (seen sight.now v))

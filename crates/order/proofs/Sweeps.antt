@@ -119,7 +119,8 @@ module _ (s : State) (k : ℕ) (queue : List ℕ) (end : ℕ) where
 
   module _ (from at top : ℕ) (down : from ≡ at + 1) (a : Swept s k (Asked queue from end) top) where
     -- one more, and what it leaves
-    swept-one : (next : ℕ) → rank s k ≤ next → next ≤ top → (T (sees s (reader_at s (slice_index queue at % 16)) k) → next ≤ use_for s k (slice_index queue at % 16))
+    swept-one : (next : ℕ) → rank s k ≤ next → next ≤ top → (T (sees s (reader_at s (slice_index queue at % 16)) k)
+        → next ≤ use_for s k (slice_index queue at % 16))
         → Swept s k (Asked queue at end) next
     swept-one next l u h = record { bound = l; high = omega (arith, a.high); used = λ j o m g. by j o m g (ℕ_discrete o.0 at) }
       where

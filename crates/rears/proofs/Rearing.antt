@@ -97,7 +97,8 @@ module _ (readers : List Reader) (f page : ℕ) where
         by : Dec ((reader_in readers n).position < r) → Least readers f page (up_to next) (min r (reader_in readers n).position)
         by (yes g) =
             let e : min r (reader_in readers n).position ≡ (reader_in readers n).position = omega arith in
-            rw e (record { low = omega (arith, a.low); all = from (reader_in readers n).position (omega arith) (λ _. omega arith); met = λ _. (n, low, l, here, refl, p) })
+            rw e (record { low = omega (arith, a.low); all = from (reader_in readers n).position (omega arith) (λ _. omega arith); met = λ _.
+                (n, low, l, here, refl, p) })
         by (no g) =
             let e : min r (reader_in readers n).position ≡ r = omega arith in
             rw e (record { low = a.low; all = from r (omega arith) (λ _. omega arith); met = still })

@@ -1,5 +1,32 @@
 -- The seats: the last slot with a reader of a file, the seats slot by slot, other positions, a file's chain. Assumes nothing.
-use Rattle.std.proofs.Common.{◌≡◌, refl, sym, ap, ◌∙◌, Bool, true, false, cond, List, ℕ, zero, suc, ◌+◌, ◌≤◌, ◌<◌, T, arith, length, set, replicate, length-set, slice_index, get_or, get_or-set_same, get_or-set_other}
+use Rattle.std.proofs.Common.{
+  ◌≡◌,
+  refl,
+  sym,
+  ap,
+  ◌∙◌,
+  Bool,
+  true,
+  false,
+  cond,
+  List,
+  ℕ,
+  zero,
+  suc,
+  ◌+◌,
+  ◌≤◌,
+  ◌<◌,
+  T,
+  arith,
+  length,
+  set,
+  replicate,
+  length-set,
+  slice_index,
+  get_or,
+  get_or-set_same,
+  get_or-set_other,
+}
 use native.Mathlib.Decide.{ℕ_discrete, dec_lt}
 use native.Mathlib.Numerals.{add-one}
 use borrow.Author.Tests.{eq-eqb, ne_eqb}

@@ -22,14 +22,16 @@ put_in-requires-clause-key_bound c =
 
 pub put_in-requires-clause-cached_len : goal.put_in-requires-clause-cached_len
 put_in-requires-clause-cached_len c =
-    (c.q.invariant.0.cached_map.all, dropped-has (state_of c.q.inside.view c.q.inside.cached c.q.inside.fetching) c.q.invariant.0 _ (c.give_up-gone.ensures ∙ ap dropped (sym c.q.view_is)))
+    (c.q.invariant.0.cached_map.all, dropped-has (state_of c.q.inside.view c.q.inside.cached c.q.inside.fetching) c.q.invariant.0 _
+        (c.give_up-gone.ensures ∙ ap dropped (sym c.q.view_is)))
 
 pub returns-in-Ok : goal.returns-in-Ok
 returns-in-Ok c =
     let i = c.q.inside in
     let put = c.put_in.ensures in
     rw (← c.q.view_is)
-    (arrived (state_of i.view i.cached i.fetching) c.args.file c.args.page _ _ _ _ _ _ (sym c.open_fetch.ensures ∙ c.in-Ok.is) (c.give_up-gone.ensures ∙ ap dropped (sym c.q.view_is)) c.wake-q-inside.ensures
+    (arrived (state_of i.view i.cached i.fetching) c.args.file c.args.page _ _ _ _ _ _ (sym c.open_fetch.ensures ∙ c.in-Ok.is)
+        (c.give_up-gone.ensures ∙ ap dropped (sym c.q.view_is)) c.wake-q-inside.ensures
     put.cached_after put.still c.arrival.ensures)
 
 pub invariant_of-q : goal.invariant_of-q

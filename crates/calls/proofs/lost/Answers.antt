@@ -19,7 +19,8 @@ clear_bit-requires c =
 pub returns-in-Ok : goal.returns-in-Ok
 returns-in-Ok c =
     let i = c.q.inside in
-    rw (← c.q.view_is) (lost-found (state_of i.view i.cached i.fetching) c.args.file c.args.page _ _ _ (sym c.open_fetch.ensures ∙ c.in-Ok.is) c.wake-q-inside.ensures c.clear_bit.ensures)
+    rw (← c.q.view_is) (lost-found (state_of i.view i.cached i.fetching) c.args.file c.args.page _ _ _
+        (sym c.open_fetch.ensures ∙ c.in-Ok.is) c.wake-q-inside.ensures c.clear_bit.ensures)
 
 pub invariant_of-q : goal.invariant_of-q
 invariant_of-q c = (kept-by (lost _ _) _ _ _ (returns-in-Ok c) (subst Valid c.q.view_is c.q.invariant.0), c.q.invariant.1)
