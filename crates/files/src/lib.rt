@@ -4,6 +4,7 @@
 #![tactic(auto)]
 
 ghost use Rattle.std.specs.Prelude.{◌≡◌, List, ℕ, ◌≤◌, ◌<◌, T, eqb, get_or};
+ghost use Rattle.parts.specs.Files.{weight_in};
 
 use rules::{Rule, View};
 
@@ -87,6 +88,20 @@ impl FileSet {
     }
 }
 
+// The files' weights, of a view of any numbers.
+pub fn weights_of(v: &View) -> [u64; 8]
+    ensures { (f : ℕ) → f < 8 → get_or result f 0 ≡ weight_in v.now.expected v.now.attaches v.now.sizes f }
+{
+    let expected = v.expected;
+    let attaches = v.attaches;
+    let sizes = v.sizes;
+    let mut weights = [0u64; 8];
+    for (file, weight) in weights.iter_mut().enumerate() {
+        *weight = parts::weight(expected[file], attaches[file], sizes[file]);
+    }
+    weights
+}
+
 // The file that leads in the choice of the 1993 rule so far, and its number.
 #[derive(Clone, Copy)]
 struct Lead {
@@ -117,18 +132,10 @@ impl Shares {
         let Rule::Of1993 = v.rule else {
             return None;
         };
-        let expected = v.expected;
-        let attaches = v.attaches;
-        let sizes = v.sizes;
-        let mut weights = [0u64; 8];
-        for (file, weight) in weights.iter_mut().enumerate() {
-            *weight = parts::weight(expected[file], attaches[file], sizes[file]);
-        }
-        let sum = parts::weight_sum(expected, attaches, sizes);
         Some(Shares {
             frames: v.frames,
-            weights,
-            sum,
+            weights: weights_of(&v),
+            sum: parts::weight_sum(v.expected, v.attaches, v.sizes),
         })
     }
 
