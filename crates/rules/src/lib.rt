@@ -2,8 +2,9 @@
 
 #![tactic(auto)]
 
-ghost use Rattle.std.specs.Prelude.{◌≡◌};
+ghost use Rattle.std.specs.Prelude.{◌≡◌, ◌<◌, MatchResult};
 ghost use Rattle.rules.specs.Refusals.{refusal_number};
+ghost use Rattle.rules.specs.Image.{condition_number, rule_number};
 
 // A reader's condition.
 #[derive(Clone, Copy, PartialEq, Eq)]
@@ -18,6 +19,55 @@ pub enum Condition {
 pub enum Rule {
     Of1989,
     Of1993,
+}
+
+// No condition, or no steal rule, has this number.
+#[derive(Clone, Copy)]
+pub struct NoNumber;
+
+impl From<Condition> for u8 {
+    ghost from_gives = { λ c n. n ≡ condition_number c };
+
+    fn from(condition: Condition) -> u8 {
+        condition as u8
+    }
+}
+
+impl TryFrom<u8> for Condition {
+    type Error = NoNumber;
+
+    ghost try_from_gives = { λ n r. MatchResult r (λ c. n ≡ condition_number c) (λ _. 2 < n) };
+
+    fn try_from(n: u8) -> Result<Condition, NoNumber> {
+        match n {
+            0 => Ok(Condition::Empty),
+            1 => Ok(Condition::Running),
+            2 => Ok(Condition::Waiting),
+            _ => Err(NoNumber),
+        }
+    }
+}
+
+impl From<Rule> for u8 {
+    ghost from_gives = { λ rule n. n ≡ rule_number rule };
+
+    fn from(rule: Rule) -> u8 {
+        rule as u8
+    }
+}
+
+impl TryFrom<u8> for Rule {
+    type Error = NoNumber;
+
+    ghost try_from_gives = { λ n r. MatchResult r (λ rule. n ≡ rule_number rule) (λ _. 1 < n) };
+
+    fn try_from(n: u8) -> Result<Rule, NoNumber> {
+        match n {
+            0 => Ok(Rule::Of1989),
+            1 => Ok(Rule::Of1993),
+            _ => Err(NoNumber),
+        }
+    }
 }
 
 // A reader slot's record: the position is the last page read, the pace the ticks for a page, and the last page the one at which the reader is at its end.
