@@ -7,7 +7,7 @@ use Rattle.turns.proofs.arrive.Goals as goal
 pub invariant_of-sight : goal.invariant_of-sight
 invariant_of-sight c =
     let s = sound _ _ _ _ _ _ c.requires.coming.1.sighted in
-    record { turn_fits = s.turn_fits; sizes_fit = s.sizes_fit; positions_fit = s.positions_fit; chains_fall = s.chains_fall; chains_begin = s.chains_begin }
+    record { turn_fits = s.turn_fits; sizes_fit = s.sizes_fit; positions_fit = s.positions_fit }
 
 pub put_in-requires-clause-key_bound : goal.put_in-requires-clause-key_bound
 put_in-requires-clause-key_bound c =
