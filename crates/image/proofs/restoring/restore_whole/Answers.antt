@@ -61,7 +61,8 @@ returns c =
           elim w.else-gaps_hold.branch as (λ _. refused idle NoImage ≡ restore_whole image) [
             | else-gaps_hold-via-then-gaps_hold+else-holds u ↦ restore-stop image long
                 (sym (on _ _ _ _ w.gaps_hold.ensures u.if-gaps_hold.true (u.holds.ensures ∙ ap tests (state-read image _ _ _ w.in-Ok.ensures.1
-                (rw c.q.told.0 at w.get_all.ensures ∙ cached-read image) (rw c.q.told.1 at w.get_all-then-image-eq-IMAGE_LENGTH.ensures ∙ fetching_read image))))
+                (rw c.q.told.0 at w.get_all.ensures ∙ cached-read image)
+                    (rw c.q.told.1 at w.get_all-then-image-eq-IMAGE_LENGTH.ensures ∙ fetching_read image))))
                 ∙ u.if-holds.false)
             | else-gaps_hold-via-else-gaps_hold u ↦ restore-stop image long
                 (sym (off _ (tests (state_in image)) _ _ w.gaps_hold.ensures u.if-gaps_hold.false refl) ∙ u.if-gaps_hold.false)
