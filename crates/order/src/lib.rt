@@ -58,9 +58,9 @@ fn higher(sight: &Sight, queue: &Queue, key: usize, best: Pick) -> Pick
     best
 }
 
-// The best page after a look at a file, whose cached pages are all ahead of some reader. Of its pages with no reader between, only the last can be of the highest
-// rank. So the last of all is looked at, and then again and again the last up to the nearest reader that was short of the one before. No page up to page n ranks
-// above NEVER + n × 8 + file: once the best is that high, the search ends.
+// The best page after a look at a file, whose cached pages are all ahead of some reader. Of its pages with no reader between, only the last can be of the
+// highest rank. So the last of all is looked at, and then again and again the last up to the nearest reader that was short of the one before. No page up to
+// page n ranks above NEVER + n × 8 + file: once the best is that high, the search ends.
 fn highest_of(sight: &Sight, file: usize, kept: Pick) -> Pick
     requires { file < 8 }
     ensures { (v : View) → Shows sight.now v → Looked (seen sight.now v) file 0 kept result }
@@ -95,8 +95,8 @@ fn highest(sight: &Sight, files: FileSet) -> Pick
 
 // ---- the page to give up
 
-// The page that goes first of the files of a set, with its rank, which is 0 where they have no cached page. A page ahead of no reader goes before any other, and
-// is found without ranks.
+// The page that goes first of the files of a set, with its rank, which is 0 where they have no cached page. A page ahead of no reader goes before any other,
+// and is found without ranks.
 pub fn first_among(sight: &Sight, files: FileSet) -> Pick
     ensures { (v : View) → Shows sight.now v → First (seen sight.now v) (in_set files) result }
 {

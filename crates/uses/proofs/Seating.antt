@@ -1,6 +1,31 @@
 -- The seats: slot by slot, at other positions, and a file's slots one after the other. Assumes nothing.
-use Rattle.std.proofs.Common.{◌≡◌, refl, sym, ap, ◌∙◌, Bool, true, false, not, ◌&&◌, ◌||◌, List, ℕ, ◌+◌, ◌-◌, ◌≤◌, ◌<◌, T, arith, length, set, replicate, length-set,
-  slice_index, get_or, get_or-set_same, get_or-set_other}
+use Rattle.std.proofs.Common.{
+  ◌≡◌,
+  refl,
+  sym,
+  ap,
+  ◌∙◌,
+  true,
+  false,
+  not,
+  ◌&&◌,
+  ◌||◌,
+  List,
+  ℕ,
+  ◌+◌,
+  ◌≤◌,
+  ◌<◌,
+  T,
+  arith,
+  length,
+  set,
+  replicate,
+  length-set,
+  slice_index,
+  get_or,
+  get_or-set_same,
+  get_or-set_other,
+}
 use native.Mathlib.Nat.{zero-div}
 use native.Mathlib.Decide.{ℕ_discrete, dec_lt}
 use borrow.Author.Tests.{eq-eqb, ne_eqb}
@@ -204,6 +229,3 @@ left-none readers f s set none a j l u h = failed _ (sym (a j l u) ∙ none j) h
 module _ (readers : List Reader) (seats : Seats) (a : Seated readers 16 seats) (f j : ℕ) (u : j < 16) (reads : T (reads_file f (reader_in readers j))) where
   pub reach-is : slice_index seats.lasts j ≡ (reader_in readers j).last
   reach-is = a.reach j u (and_first (attached (reader_in readers j)) _ reads)
-
-  pub pace-is : slice_index seats.paces j ≡ (reader_in readers j).pace
-  pace-is = a.pace j u (and_first (attached (reader_in readers j)) _ reads)
