@@ -1,7 +1,7 @@
 -- A page's rank by a pass over the readers that are short of it. Assumes nothing.
-use Rattle.std.proofs.Common.{◌≡◌, refl, sym, ap, ◌∙◌, not, List, ◌⊎◌, inl, inr, ℕ, min, ◌+◌, ◌-◌, ◌%◌, ◌≤◌, ◌<◌, T, arith, slice_index}
+use Rattle.std.proofs.Common.{◌≡◌, sym, ap, ◌∙◌, not, List, ◌⊎◌, inl, inr, ℕ, min, ◌+◌, ◌-◌, ◌%◌, ◌≤◌, ◌<◌, T, arith, slice_index}
 use native.Mathlib.Decide.{ℕ_discrete, dec_lt}
-use borrow.Author.Tests.{eq-eqb, lt-ltb, le-ltb}
+use borrow.Author.Tests.{eq-eqb}
 use lib.Dec.{T_not, eqb→eq}
 use Rattle.rules.specs.Pages.{file_of, page_of}
 use Rattle.rules.specs.Readers.{reader_at, reader_in, attached, reads_file}
@@ -15,14 +15,13 @@ use Rattle.rules.specs.Ranks.{rank, Before}
 use Rattle.rules.proofs.orders.Ranks.{seen-small, rank-unseen, rank-seen}
 use Rattle.rules.specs.declared.State.{State}
 use Rattle.rules.specs.declared.Reader.{Reader}
-use Rattle.uses.specs.declared.Pick.{Pick}
 use Rattle.uses.specs.Seats.{Seated}
 use Rattle.uses.specs.Sights.{lower}
 use Rattle.uses.specs.declared.Queue.{Queue}
 use Rattle.uses.specs.declared.Seats.{Seats}
 use Rattle.uses.specs.Queues.{queue_number}
 use Rattle.uses.specs.Queueing.{Has, Queued, Shortened}
-use Rattle.order.specs.Searches.{HasShort, AllShort, Over, higher_of}
+use Rattle.order.specs.Searches.{HasShort, AllShort}
 
 -- ---- who is short of a page
 
@@ -119,8 +118,8 @@ module _ (s : State) (k : ℕ) (queue : List ℕ) (end : ℕ) where
 
   module _ (from at top : ℕ) (down : from ≡ at + 1) (a : Swept s k (Asked queue from end) top) where
     -- one more, and what it leaves
-    swept-one : (next : ℕ) → rank s k ≤ next → next ≤ top → (T (sees s (reader_at s (slice_index queue at % 16)) k)
-        → next ≤ use_for s k (slice_index queue at % 16))
+    swept-one : (next : ℕ) → rank s k ≤ next → next ≤ top
+        → (T (sees s (reader_at s (slice_index queue at % 16)) k) → next ≤ use_for s k (slice_index queue at % 16))
         → Swept s k (Asked queue at end) next
     swept-one next l u h = record { bound = l; high = omega (arith, a.high); used = λ j o m g. by j o m g (ℕ_discrete o.0 at) }
       where
@@ -169,14 +168,3 @@ swept_all s k q at top u w b p a = go (side (seen s k))
         let o = before-is (reader_at s m.0) k (sees-before s (reader_at s m.0) k m.2) in
         omega (arith, a.bound, rank-seen s k h, m.3, a.used m.0 (asked m.0 m.1 o) m.1 m.2)
     go (inr h) = omega (arith, a.bound, rank-unseen s k b h, a.high)
-
--- ---- what is kept
-
-module _ (s : State) (k : ℕ) (p : Pick) (value : ℕ) (o : Over s k p.value value) where
-  -- the page ranks higher
-  pub higher-take : p.value < value → record { key = k; value = value } ≡ higher_of s k p
-  higher-take l = let e : rank s k ≡ value = sym (o.exact l) in rw (e, lt-ltb p.value value l) refl
-
-  -- it does not
-  pub higher-keep : value ≤ p.value → p ≡ higher_of s k p
-  higher-keep l = rw (le-ltb p.value (rank s k) (omega (arith, o.bound))) refl

@@ -4,7 +4,8 @@
 
 ghost use Rattle.std.specs.Prelude.{◌≡◌, List, ℕ, ◌+◌, ◌≤◌, ◌<◌};
 ghost use Rattle.rules.specs.declared.State.{State};
-ghost use Rattle.rules.specs.Views.{state_of, reply_of};
+ghost use Rattle.rules.specs.Views.{state_of};
+ghost use Rattle.rules.specs.Calls.{reply};
 ghost use Rattle.rules.specs.Valid.{Valid};
 ghost use Rattle.rules.specs.Run.{run_of};
 ghost use Rattle.rules.specs.Third.{ThirdStatement};
@@ -13,7 +14,8 @@ ghost use Rattle.turns.specs.Places.{Quiet};
 ghost use Rattle.turns.specs.Runs.{Underway};
 
 use heads::Heads;
-use rules::{Answer, Outcome, View};
+use rules::{Answer, Refusal, View};
+use state::Quay;
 use turns::Run;
 use uses::Seats;
 
@@ -95,31 +97,21 @@ fn make_turns(
     run
 }
 
-pub fn run(
-    v: View,
-    cached: &mut [u64; 128],
-    fetching: &mut [u64; 128],
-    held: &mut [u16; 8],
-    turns: u64,
-) -> Outcome
-    requires valid { Valid (state_of v cached.old fetching.old) }
-    requires held { Held cached.old held.old }
-    ensures fetching_after { reply_of result cached.new fetching.new ≡ run_of (state_of v cached.old fetching.old) turns }
-    ensures third { ThirdStatement turns (state_of v cached.old fetching.old) result.answer }
-    ensures counted { Held cached.new held.new }
+// Turns above 16,384 are refused first, then an open fetch.
+pub fn run(q: &mut Quay, turns: u64) -> Answer
+    ensures by_rule { reply q.new result ≡ run_of q.old turns }
+    ensures third { ThirdStatement turns q.old result }
 {
     if 16384 < turns {
-        return calls::refuse(v, 11);
+        return Answer::Refused(Refusal::TooManyTurns);
     }
-    if bits::count(fetching, 0, 8192) != 0 {
-        return calls::refuse(v, 10);
+    if bits::count(&q.fetching, 0, 8192) != 0 {
+        return Answer::Refused(Refusal::FetchOpen);
     }
-    let made = make_turns(v, cached, fetching, held, turns);
-    Outcome {
-        view: made.view,
-        answer: Answer::Ran {
-            fetches: made.fetches,
-            reads: made.reads,
-        },
+    let made = make_turns(q.view, &mut q.cached, &mut q.fetching, &mut q.held, turns);
+    q.view = made.view;
+    Answer::Ran {
+        fetches: made.fetches,
+        reads: made.reads,
     }
 }

@@ -14,6 +14,7 @@ use Rattle.rules.specs.Readers.{no_reader, reader_at, attached, by_condition, on
 use Rattle.rules.specs.Valid.{Valid}
 use Rattle.rules.specs.Calls.{refused, with_readers, with_fetching, with_cached, read_of, arrive_of, dropped}
 use Rattle.rules.specs.Run.{on_fetch, hit_page, next_turn, ended, read_turn, turn_of, Turn, Turns, turns_of}
+use Rattle.rules.specs.declared.Refusal.TheVariants.{SlotEmpty}
 use Rattle.rules.specs.declared.State.{State}
 use Rattle.rules.specs.declared.Reader.{Reader}
 use Rattle.rules.specs.declared.Reply.{Reply}
@@ -89,11 +90,11 @@ module _ (s : State) (v : Valid s) (closed : (k : ℕ) → T (in_fetch s k) → 
 -- ---- one turn
 
 -- Read of an empty slot is refused and changes nothing
-read-empty : (s : State) → s.turn < 16 → (reader_at s s.turn).condition ≡ Empty → read_of s s.turn ≡ refused s 6
+read-empty : (s : State) → s.turn < 16 → (reader_at s s.turn).condition ≡ Empty → read_of s s.turn ≡ refused s SlotEmpty
 unfolding read_of
 read-empty s l e =
     let h : s.turn ≤ 15 = omega arith in
-    cond_no (λ r. r ≡ refused s 6) (ltb 15 s.turn) _ _ (search outcomes) (rw e)
+    cond_no (λ r. r ≡ refused s SlotEmpty) (ltb 15 s.turn) _ _ (search outcomes) (rw e)
 
 -- so a turn may call Read of any slot
 turn-reads : (s : State) → s.turn < 16 → read_turn s ≡ turn_of s

@@ -5,7 +5,6 @@ use Rattle.std.proofs.Common.{
   sym,
   ap,
   ◌∙◌,
-  Bool,
   true,
   false,
   not,
@@ -14,7 +13,6 @@ use Rattle.std.proofs.Common.{
   List,
   ℕ,
   ◌+◌,
-  ◌-◌,
   ◌≤◌,
   ◌<◌,
   T,
@@ -231,6 +229,3 @@ left-none readers f s set none a j l u h = failed _ (sym (a j l u) ∙ none j) h
 module _ (readers : List Reader) (seats : Seats) (a : Seated readers 16 seats) (f j : ℕ) (u : j < 16) (reads : T (reads_file f (reader_in readers j))) where
   pub reach-is : slice_index seats.lasts j ≡ (reader_in readers j).last
   reach-is = a.reach j u (and_first (attached (reader_in readers j)) _ reads)
-
-  pub pace-is : slice_index seats.paces j ≡ (reader_in readers j).pace
-  pace-is = a.pace j u (and_first (attached (reader_in readers j)) _ reads)

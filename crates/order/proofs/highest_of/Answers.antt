@@ -1,5 +1,5 @@
--- Invariant: no cached page of the file past page n ranks higher than the best (`Raised`), and the readers short of page n are queued. Measure: page n and the
--- end of the queue, neither of which rises.
+-- Invariant: no cached page of the file past page n ranks higher than the best (`Raised`), and the readers short of page n are queued. Measure: page n and
+-- the end of the queue, neither of which rises.
 use Rattle.std.proofs.Common.{IsTrue, false, refl, ℕ, ◌+◌, ◌-◌, ◌*◌, ◌≡◌, ◌≤◌, ◌<◌, arith}
 use Rattle.std.proofs.lemmas.Bool.{false≢true}
 use native.Mathlib.Decide.{dec_lt}

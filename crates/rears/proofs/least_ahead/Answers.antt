@@ -1,5 +1,5 @@
--- Invariant: the least position of the first slots, those passed, that have a reader of the file with the page before it; the others are left. Measure: those
--- left.
+-- Invariant: the least position of the slots passed, the first s, that have a reader of the file with the page before it; the others are left. Measure:
+-- those left.
 use Rattle.std.proofs.Common.{◌≡◌, ℕ, ◌+◌, ◌≤◌, ◌<◌, T, arith, slice_index}
 use Rattle.rules.specs.Readers.{reader_in, reads_file}
 use Rattle.rules.specs.declared.View.{View}
