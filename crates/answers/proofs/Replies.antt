@@ -1,9 +1,9 @@
 -- A call's answer in a buffer: how long it is, and its line end. Assumes nothing.
-use Rattle.std.proofs.Common.{ℕ, ◌+◌, ◌<◌, ◌≤◌, ◌≡◌, List, [], ◌∷◌, ◌++◌, length, arith}
+use Rattle.std.proofs.Common.{ℕ, ◌+◌, ◌<◌, ◌≤◌, ◌≡◌, List, ◌++◌, length, arith}
 use Rattle.rules.specs.Lines.{numbers_of, answer_line}
 use Rattle.rules.specs.Entries.{letter}
 use Rattle.rules.specs.declared.Answer.{Answer}
-use Rattle.rules.specs.declared.Answer.TheVariants.{Refused, Done, Hit, Wait, Fetch, End, Nothing, Stolen, Arrived, Replaced, Ran}
+use Rattle.rules.specs.declared.Answer.TheVariants.{Refused, Hit, Wait, Fetch, Stolen, Replaced, Ran}
 use Rattle.text.specs.Written.{Put}
 use Rattle.text.proofs.Puts.{put-more}
 use Rattle.answers.proofs.Rows.{line-length}

@@ -1,8 +1,8 @@
 -- A line of numbers written one after the other. Assumes nothing.
-use Rattle.std.proofs.Common.{ℕ, ◌+◌, ◌*◌, ◌/◌, ◌<◌, ◌≤◌, ◌≡◌, List, [], ◌∷◌, ◌++◌, length, get_or, take, drop, refl, sym, ap, ◌∙◌, arith}
+use Rattle.std.proofs.Common.{ℕ, ◌+◌, ◌*◌, ◌<◌, ◌≤◌, ◌≡◌, List, [], ◌∷◌, ◌++◌, length, get_or, take, drop, refl, ap, ◌∙◌, arith}
 use Rattle.std.proofs.Common.{add-one, append-nil, length-append, take-append-drop, take-suc}
 use Rattle.rules.specs.Lists.{each}
-use Rattle.rules.specs.Lines.{line_of, order_line, clusters_line, field_of, pair_of}
+use Rattle.rules.specs.Lines.{line_of, field_of, pair_of}
 use Rattle.text.specs.Written.{Put}
 use Rattle.rules.proofs.laws.Lists.{written_none, each_append}
 use Rattle.text.proofs.Puts.{digits-length, put-more}

@@ -20,22 +20,25 @@ use Rattle.answers.specs.declared.Order.TheVariants.{Steal, Fetch}
 use Rattle.answers.proofs.Bounds.{order-length, clusters-length, steal-few, steal-low, fetch-few, fetch-low, clusters-few}
 use Rattle.answers.proofs.Pairs.{clusters-even}
 
+-- what a call with a lent list gives
+abbrev Filling : Type 0 → Type 0
+Filling A = Written (Result A Refusal) ℕ
+
 -- what was written into a list that is long enough
 record Filled {A : Type 0} (numbers : List ℕ) (done : A) (r : Result A Refusal) (after : List ℕ) : Type 0 where
   answer : r ≡ Ok done
   front : Front numbers after (length numbers)
 
 filled : {A : Type 0} (numbers : List ℕ) (done : A) (lent : List ℕ) (r : Result A Refusal) (after : List ℕ)
-    → ◌≡◌ {A = Written (Result A Refusal) ℕ} (record { answer = r; list = after }) (listed done numbers lent)
+    → ◌≡◌ {A = Filling A} (record { answer = r; list = after }) (listed done numbers lent)
     → length numbers ≤ length lent → Filled numbers done r after
 unfolding listed
 filled {A} numbers done lent r after e h =
-    let f : ◌≡◌ {A = Written (Result A Refusal) ℕ} (record { answer = r; list = after }) (record { answer = Ok done; list = numbers ++ drop
-        (length numbers) lent })
+    let f : ◌≡◌ {A = Filling A} (record { answer = r; list = after }) (record { answer = Ok done; list = numbers ++ drop (length numbers) lent })
     = rw (le-ltb (length lent) (length numbers) h) at e in
-    let l : after ≡ numbers ++ drop (length numbers) lent = ap (λ (w : Written (Result A Refusal) ℕ). w.list) f in
+    let l : after ≡ numbers ++ drop (length numbers) lent = ap (λ (w : Filling A). w.list) f in
     record {
-      answer = ap (λ (w : Written (Result A Refusal) ℕ). w.answer) f;
+      answer = ap (λ (w : Filling A). w.answer) f;
       front = record {
         room = omega (arith, ap length l, length-append numbers (drop (length numbers) lent));
         is = ap (take (length numbers)) l ∙ take_at numbers _ _ refl;
@@ -44,7 +47,7 @@ filled {A} numbers done lent r after e h =
 
 -- an order that was written, and its keys counted
 order-front : (pages : ℕ) (order lent list : List ℕ) (r : Result Keys Refusal)
-    → ◌≡◌ {A = Written (Result Keys Refusal) ℕ} (record { answer = r; list = list }) (order_listed pages order lent)
+    → ◌≡◌ {A = Filling Keys} (record { answer = r; list = list }) (order_listed pages order lent)
     → length order ≤ length lent → Front order list (keys_in r)
 unfolding order_listed
 order-front pages order lent list r w h =
@@ -58,23 +61,21 @@ keys-counted (Err why) n h = h
 
 module _ (s : State) (v : Valid s) (lent list : List ℕ) (long : length lent ≡ 8192) (r : Result Keys Refusal) where
   -- the steal list
-  pub steal-front : ◌≡◌ {A = Written (Result Keys Refusal) ℕ} (record { answer = r; list = list }) (steal_list_of s lent)
-      → Front (steal_order s) list (keys_in r)
+  pub steal-front : ◌≡◌ {A = Filling Keys} (record { answer = r; list = list }) (steal_list_of s lent) → Front (steal_order s) list (keys_in r)
   unfolding steal_list_of
   steal-front w = order-front (tested s) (steal_order s) lent list r w (omega (arith, steal-few s v))
 
   -- the fetch list
-  pub fetch-front : ◌≡◌ {A = Written (Result Keys Refusal) ℕ} (record { answer = r; list = list }) (fetch_list_of s lent)
-      → Front (fetch_order s) list (keys_in r)
+  pub fetch-front : ◌≡◌ {A = Filling Keys} (record { answer = r; list = list }) (fetch_list_of s lent) → Front (fetch_order s) list (keys_in r)
   unfolding fetch_list_of
   fetch-front w = order-front (tested s) (fetch_order s) lent list r w (omega (arith, fetch-few s v))
 
 module _ (s : State) (v : Valid s) (lent list : List ℕ) (r : Result ℕ Refusal) (f : ℕ)
-    (l : ◌≡◌ {A = Written (Result ℕ Refusal) ℕ} (record { answer = r; list = list }) (clusters_of s f lent)) (h : 2048 ≤ length lent) where
+    (l : ◌≡◌ {A = Filling ℕ} (record { answer = r; list = list }) (clusters_of s f lent)) (h : 2048 ≤ length lent) where
   -- no such file
   no-clusters : no_file s f ≡ true → r ≡ Err NoFile
   unfolding clusters_of
-  no-clusters t = ap (λ (x : Written (Result ℕ Refusal) ℕ). x.answer) (rw t at l)
+  no-clusters t = ap (λ (x : Filling ℕ). x.answer) (rw t at l)
 
   all-clusters : no_file s f ≡ false → Filled (clusters s f) (length (clusters s f) / 2) r list
   unfolding clusters_of

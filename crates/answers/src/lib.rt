@@ -80,11 +80,9 @@ fn put_keys(out: &mut [u8], letter: u8, keys: &[u16]) -> usize
 {
     let mut at = put_line(out, letter, &[keys.len() as u16]);
     for key in keys {
-        at = put_fields(
-            out,
-            at,
-            &[u16::from(parts::file_of(*key)), parts::page_of(*key)],
-        );
+        let file = u16::from(parts::file_of(*key));
+        let page = parts::page_of(*key);
+        at = put_fields(out, at, &[file, page]);
     }
     at
 }

@@ -325,7 +325,7 @@ module _ (image : List ℕ) (old : length image ≡ unmarked_length) where
       → Marking image (j + 1) w
   marking-more t u w j n m l h e f g k = record {
     long = longer ∙ long-u;
-    so = λ i out. go i out (dec_lt i (last_place j)) (dec_lt i ((last_place j) + 2)) (dec_lt i (mark_place j)) (dec_lt i ((mark_place j) + 2));
+    so = λ i out. go i out (dec_lt i (last_place j)) (dec_lt i (last_place j + 2)) (dec_lt i (mark_place j)) (dec_lt i (mark_place j + 2));
   }
     where
       long-u : length u ≡ image_length
@@ -335,30 +335,30 @@ module _ (image : List ℕ) (old : length image ≡ unmarked_length) where
       longer = ap length g ∙ written-long u (mark_place j) (bytes_of 2 m) (omega (arith, long-u, bytes-length 2 m))
 
       -- outside both it is as it was
-      same : (i : ℕ) → ((last_place j) ≤ i → i < (last_place j) + 2 → ⊥) → ((mark_place j) ≤ i → i < (mark_place j) + 2 → ⊥) → get_or w i 0 ≡ get_or t i 0
+      same : (i : ℕ) → (last_place j ≤ i → i < last_place j + 2 → ⊥) → (mark_place j ≤ i → i < mark_place j + 2 → ⊥) → get_or w i 0 ≡ get_or t i 0
       same i a b =
           ap (λ x. get_or x i 0) g ∙ written-else u (mark_place j) m (omega (arith, long-u)) i b
           ∙ ap (λ x. get_or x i 0) e ∙ written-else t (last_place j) n (omega (arith, h.long)) i a
 
-      last : (i : ℕ) → (last_place j) ≤ i → i < (last_place j) + 2 → get_or w i 0 ≡ get_or (upgraded image) i 0
+      last : (i : ℕ) → last_place j ≤ i → i < last_place j + 2 → get_or w i 0 ≡ get_or (upgraded image) i 0
       last i a b =
           let q : (i - readers_at) / 8 ≡ j = omega arith in
-          let r : (i - readers_at) % 8 - 6 ≡ i - (last_place j) = omega arith in
+          let r : (i - readers_at) % 8 - 6 ≡ i - last_place j = omega arith in
           marked-so i (get_or w i 0) (omega arith)
           (last_byte image old i (omega arith) (omega arith) n (get_or w i 0) (omega arith) (rw q f)
           (rw r (ap (λ x. get_or x i 0) g ∙ written-else u (mark_place j) m (omega (arith, long-u)) i (λ c d. omega arith)
           ∙ ap (λ x. get_or x i 0) e ∙ written-two t (last_place j) n (omega (arith, h.long)) i a b)))
 
-      marked-too : (i : ℕ) → (mark_place j) ≤ i → i < (mark_place j) + 2 → get_or w i 0 ≡ get_or (upgraded image) i 0
+      marked-too : (i : ℕ) → mark_place j ≤ i → i < mark_place j + 2 → get_or w i 0 ≡ get_or (upgraded image) i 0
       marked-too i a b =
           let q : (i - marks_at) / 2 ≡ j = omega arith in
-          let r : (i - marks_at) % 2 ≡ i - (mark_place j) = omega arith in
+          let r : (i - marks_at) % 2 ≡ i - mark_place j = omega arith in
           marked-so i (get_or w i 0) (omega arith)
           (mark-byte image old i m (get_or w i 0) (omega arith) (omega arith) (rw q k)
           (rw r (ap (λ x. get_or x i 0) g ∙ written-two u (mark_place j) m (omega (arith, long-u)) i a b)))
 
       -- what does not wait for the next slot, and is none of this one's, waited not for this one
-      before : (i : ℕ) → (Waits (j + 1) i → ⊥) → ((last_place j) ≤ i → i < (last_place j) + 2 → ⊥) → ((mark_place j) ≤ i → i < (mark_place j) + 2 → ⊥)
+      before : (i : ℕ) → (Waits (j + 1) i → ⊥) → (last_place j ≤ i → i < last_place j + 2 → ⊥) → (mark_place j ≤ i → i < mark_place j + 2 → ⊥)
           → Waits j i → ⊥
       before i out a b (inl x) = slots (dec_lt ((i - readers_at) / 8) (j + 1))
         where
@@ -371,11 +371,11 @@ module _ (image : List ℕ) (old : length image ≡ unmarked_length) where
           slots (yes y) = b (omega (arith, x.0, x.2)) (omega (arith, x.0, x.2))
           slots (no y) = out (inr (x.0, x.1, omega arith))
 
-      other : (i : ℕ) → (Waits (j + 1) i → ⊥) → ((last_place j) ≤ i → i < (last_place j) + 2 → ⊥) → ((mark_place j) ≤ i → i < (mark_place j) + 2 → ⊥)
+      other : (i : ℕ) → (Waits (j + 1) i → ⊥) → (last_place j ≤ i → i < last_place j + 2 → ⊥) → (mark_place j ≤ i → i < mark_place j + 2 → ⊥)
           → get_or w i 0 ≡ get_or (upgraded image) i 0
       other i out a b = same i a b ∙ h.so i (before i out a b)
 
-      go : (i : ℕ) → (Waits (j + 1) i → ⊥) → Dec (i < (last_place j)) → Dec (i < (last_place j) + 2) → Dec (i < (mark_place j)) → Dec (i < (mark_place j) + 2)
+      go : (i : ℕ) → (Waits (j + 1) i → ⊥) → Dec (i < last_place j) → Dec (i < last_place j + 2) → Dec (i < mark_place j) → Dec (i < mark_place j + 2)
           → get_or w i 0 ≡ get_or (upgraded image) i 0
       go i out (yes a) b c d = other i out (λ x y. omega arith) (λ x y. omega arith)
       go i out (no a) (yes b) c d = last i (omega arith) b

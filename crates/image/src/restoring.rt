@@ -39,13 +39,13 @@ fn reader_in(image: &[u8], slot: usize) -> Result<Reader, NoNumber>
 {
     let at = READERS_AT + 8 * slot;
     let condition = Condition::try_from(u8::get(image, at))?;
-    Ok(Reader {
+    Ok(parts::reader_of(
         condition,
-        file: u8::get(image, at + 1),
-        pace: u16::get(image, at + 2),
-        position: u16::get(image, at + 4),
-        last: u16::get(image, at + 6),
-    })
+        u8::get(image, at + 1),
+        u16::get(image, at + 2),
+        u16::get(image, at + 4),
+        u16::get(image, at + 6),
+    ))
 }
 
 fn readers_in(image: &[u8]) -> Result<[Reader; 16], NoNumber>
@@ -69,18 +69,27 @@ fn view_in(image: &[u8]) -> Result<View, NoNumber>
 {
     let readers = readers_in(image)?;
     let rule = Rule::try_from(u8::get(image, RULE_AT))?;
-    Ok(View {
-        frames: u16::get(image, 0),
-        turn: u8::get(image, 2),
-        look_ahead: u32::get(image, 4),
-        fetch_time: u32::get(image, 8),
-        sizes: numbers_in(image, SIZES_AT),
+    Ok(parts::view_of(
+        u16::get(image, 0),
+        u8::get(image, 2),
+        u32::get(image, 4),
+        u32::get(image, 8),
+        numbers_in(image, SIZES_AT),
         readers,
-        marks: numbers_in(image, MARKS_AT),
+        numbers_in(image, MARKS_AT),
         rule,
-        expected: numbers_in(image, EXPECTED_AT),
-        attaches: numbers_in(image, ATTACHES_AT),
-    })
+        numbers_in(image, EXPECTED_AT),
+        numbers_in(image, ATTACHES_AT),
+    ))
+}
+
+// Reads both maps into their places.
+fn read_maps(cached: &mut [u64; 128], fetching: &mut [u64; 128], image: &[u8])
+    requires { length image.now ≡ image_length }
+    ensures { (cached.new ≡ (state_in image.now).cached) × (fetching.new ≡ (state_in image.now).fetching) }
+{
+    get_all(cached, image, CACHED_AT);
+    get_all(fetching, image, FETCHING_AT);
 }
 
 // ---- its tests
@@ -225,8 +234,7 @@ pub fn restore_whole(q: &mut Quay, image: &[u8]) -> Answer
     ensures { reply q.new result ≡ restore_whole image.now }
 {
     if image.len() == IMAGE_LENGTH {
-        get_all(&mut q.cached, image, CACHED_AT);
-        get_all(&mut q.fetching, image, FETCHING_AT);
+        read_maps(&mut q.cached, &mut q.fetching, image);
         parts::count_held(&q.cached, &mut q.held);
         if let Ok(view) = view_in(image) {
             if gaps_hold(image) && holds(&view, &q.cached, &q.fetching, parts::taken(&q.held)) {

@@ -1,13 +1,6 @@
 -- Every line keeps the state valid. Assumes nothing.
-use Prim.Native.Nat.{ℕ}
+use Rattle.std.proofs.Common.{ℕ, ◌≡◌, true, eqb, List, length, get_or, drop, replicate, refl, arith, length-drop, eqb-true}
 use Prim.Native.Char.{code as ascii}
-use mathlib.Core.Path.{◌≡◌, refl}
-use mathlib.Core.Bool.{true}
-use mathlib.Core.List.{List}
-use native.Mathlib.Omega.{arith}
-use borrow.Author.Tests.{eqb-true}
-use lib.ListN.{length, get_or, drop, replicate, length-drop}
-use lib.Dec.{eqb}
 use Rattle.rules.specs.Valid.{Valid}
 use Rattle.rules.specs.Calls.{setup_of}
 use Rattle.rules.specs.Entries.{carried_out}

@@ -1,13 +1,9 @@
 -- What the lent buffers stand for: after `feed` they stand for the program with more of the chunk fed. Assumes nothing.
-use Prim.Native.Nat.{ℕ, ◌+◌, ◌≤◌, ◌<◌}
+use Rattle.std.proofs.Common.{ℕ, ◌+◌, ◌<◌, ◌≤◌, ◌≡◌, eqb, List, [], ◌∷◌, ◌++◌, length, get_or, take, drop}
+use Rattle.std.proofs.Common.{refl, sym, ◌∙◌, ap, subst, append_assoc, append-nil, arith, le-leb, ne_eqb, eqb-true}
+use Rattle.std.proofs.Common.{length-append, length-drop, drop_of_length-le, take_at}
 use Prim.Native.Char.{code as ascii}
-use mathlib.Core.Path.{◌≡◌, refl, sym, ◌∙◌, ap, subst}
-use mathlib.Core.List.{List, [], ◌∷◌, ◌++◌, append_assoc, append-nil}
-use native.Mathlib.Omega.{arith}
-use borrow.Author.Tests.{le-leb, ne_eqb, eqb-true, eqb-false}
-use lib.Dec.{eqb}
-use lib.ListN.{get_or, length, take, drop, length-append, length-drop, drop_of_length-le}
-use lib.Seq.{take_at}
+use borrow.Author.Tests.{eqb-false}
 use Rattle.rules.specs.Lists.{each}
 use Rattle.rules.specs.Calls.{idle}
 use Rattle.rules.specs.Entries.{carried_out}

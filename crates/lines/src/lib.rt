@@ -39,7 +39,7 @@ fn command_in(text: &[u8], piece: &[u8]) -> Option<Command>
     let mut line = [0u8; 201];
     line.copy_from_slice(text);
     text::append(&mut line, piece);
-    let end = line[0] as usize;
+    let end = usize::from(line[0]);
     if 200 < end {
         return None;
     }

@@ -7,7 +7,7 @@ use Prim.Native.Char.{code as ascii}
 use mathlib.Core.Bool.{and-false}
 use mathlib.Core.List.{map-append}
 use borrow.Author.Tests.{lt-leb}
-use Rattle.std.proofs.Math.ListN.{length-map, length-replicate}
+use Rattle.std.proofs.Math.ListN.{length-map}
 use Rattle.std.proofs.Math.Seq.{set_at}
 use Rattle.rules.specs.Lists.{every}
 use Rattle.rules.specs.Calls.{refused}
@@ -204,12 +204,6 @@ module _ (line : List ℕ) (c : Command) (e : command_of line ≡ Some c) where
   -- a command has few fields
   pub command-few : c.count ≤ 11
   command-few = rw (← asked.1) (leb-true _ _ asked-well.1)
-
-  -- in front of zeros, eleven in all
-  pub command-eleven : length c.fields ≡ 11
-  command-eleven =
-      let few = leb-true _ _ asked-well.1 in
-      rw (← asked.1) (rw (length-append, length-map, length-replicate) (omega arith))
 
   -- it is obeyed
   pub responds-some : (s : State) → respond_of s line ≡ obeyed s c.letter (take c.count c.fields)

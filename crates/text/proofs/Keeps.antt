@@ -172,13 +172,6 @@ module _ (t buffer : List ℕ) where
   pub kept-fits : get_or (kept buffer t) 0 0 ≤ 200 → length t ≤ 200
   kept-fits h = by_most (length t) 200 (λ k. k) (λ k. absurd (omega (arith, ap (λ l. get_or l 0 0) (kept-long t buffer k))))
 
-  -- a byte says it
-  pub kept_low : (l : List ℕ) → l ≡ kept buffer t → get_or l 0 0 ≤ 201
-  kept_low l e =
-      by_most (length t) 200
-      (λ k. rw (e, kept-short t buffer k) (omega arith))
-      (λ k. rw (e, kept-long t buffer k) (omega arith))
-
   -- one that fits stands behind its length
   pub kept-front : length t ≤ 200 → take (get_or (kept buffer t) 0 0) (drop 1 (kept buffer t)) ≡ t
   kept-front h = rw (kept-short t buffer h) (take_at t (drop (1 + length t) buffer) (length t) refl)

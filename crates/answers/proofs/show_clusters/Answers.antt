@@ -1,5 +1,5 @@
 -- The file is not there, or its clusters' pages are written, two for each.
-use Rattle.std.proofs.Common.{◌≡◌, ◌*◌, ◌≤◌, false, length, refl, subst, sym, arith, rules, length-take-le}
+use Rattle.std.proofs.Common.{◌≡◌, ◌*◌, false, refl, subst, sym, arith, rules, length-take-le}
 use Rattle.rules.specs.Valid.{Valid}
 use Rattle.rules.specs.Calls.{no_file}
 use Rattle.rules.specs.Pages.{clusters}

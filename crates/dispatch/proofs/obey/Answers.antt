@@ -1,5 +1,5 @@
 -- Each letter with its number of fields is obeyed by its rule; any other line is refused.
-use Rattle.std.proofs.Common.{◌≡◌, length, take, refl, arith, rules, ltb-true, ltb-false}
+use Rattle.std.proofs.Common.{◌≡◌, length, take, refl, arith, ltb-true, ltb-false}
 use Rattle.rules.specs.Lines.{obeyed}
 use Rattle.dispatch.proofs.Letters.{gives-told, gives-response, Asked, no-request}
 use Rattle.dispatch.proofs.obey.Goals as goal

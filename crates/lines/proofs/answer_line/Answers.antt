@@ -3,8 +3,8 @@ use Rattle.std.proofs.Common.{refl, sym, ◌∙◌}
 use Rattle.text.proofs.Asks.{command-few, responds-some, responds-none}
 use Rattle.lines.proofs.answer_line.Goals as goal
 
-pub obey-requires-clause-given : goal.obey-requires-clause-given
-obey-requires-clause-given c = (command-few _ _ (sym c.command_in-asked.ensures ∙ c.in-Some.is), c.requires.1)
+pub obey-requires : goal.obey-requires-clause-given
+obey-requires c = (command-few _ _ (sym c.command_in-asked.ensures ∙ c.in-Some.is), c.requires.1)
 
 pub returns-in-Some-clause-gives : goal.returns-in-Some-clause-gives
 returns-in-Some-clause-gives c = rw (responds-some _ _ (sym c.command_in-asked.ensures ∙ c.in-Some.is) c.args.q.now) c.obey.ensures

@@ -10,7 +10,7 @@ use Rattle.parts.proofs.Carried.{held_high}
 use Rattle.image.specs.Bytes.{state_in}
 use Rattle.image.specs.Tests.{tests}
 use Rattle.image.proofs.Checks.{on, off}
-use Rattle.image.proofs.States.{cached-read, fetching_read, state-read}
+use Rattle.image.proofs.States.{state-read}
 use Rattle.image.proofs.Restores.{restore-short, restore-unread, restore-stop, restore-pass}
 use Rattle.image.proofs.restoring.restore_whole.Goals.{
   After-holds,
@@ -29,11 +29,8 @@ pub holds-requires : goal.holds-requires
 holds-requires c = c.taken.ensures _ c.count_held.ensures
 
 -- what is read is the state of the image
-read-so : (c : After-holds) → state_of c.in-Ok.view c.get_all.new.numbers c.get_all-then-image-eq-IMAGE_LENGTH.new.numbers ≡ state_in c.args.image.now
-read-so c =
-    let image = c.args.image.now in
-    state-read image _ _ _ c.in-Ok.ensures.1 (rw c.q.told.0 at c.get_all.ensures ∙ cached-read image)
-    (rw c.q.told.1 at c.get_all-then-image-eq-IMAGE_LENGTH.ensures ∙ fetching_read image)
+read-so : (c : After-holds) → state_of c.in-Ok.view c.read_maps.new.cached c.read_maps.new.fetching ≡ state_in c.args.image.now
+read-so c = state-read c.args.image.now _ _ _ c.in-Ok.ensures.1 c.read_maps.ensures.0 c.read_maps.ensures.1
 
 pub returns-then-holds : goal.returns-then-holds
 returns-then-holds c =
@@ -60,10 +57,8 @@ returns c =
           let long = w.if-image-eq-IMAGE_LENGTH.true in
           elim w.else-gaps_hold.branch as (λ _. refused idle NoImage ≡ restore_whole image) [
             | else-gaps_hold-via-then-gaps_hold+else-holds u ↦ restore-stop image long
-                (sym (on _ _ _ _ w.gaps_hold.ensures u.if-gaps_hold.true (u.holds.ensures ∙ ap tests (state-read image _ _ _ w.in-Ok.ensures.1
-                (rw c.q.told.0 at w.get_all.ensures ∙ cached-read image)
-                    (rw c.q.told.1 at w.get_all-then-image-eq-IMAGE_LENGTH.ensures ∙ fetching_read image))))
-                ∙ u.if-holds.false)
+                (sym (on _ _ _ _ w.gaps_hold.ensures u.if-gaps_hold.true (u.holds.ensures
+                ∙ ap tests (state-read image _ _ _ w.in-Ok.ensures.1 w.read_maps.ensures.0 w.read_maps.ensures.1))) ∙ u.if-holds.false)
             | else-gaps_hold-via-else-gaps_hold u ↦ restore-stop image long
                 (sym (off _ (tests (state_in image)) _ _ w.gaps_hold.ensures u.if-gaps_hold.false refl) ∙ u.if-gaps_hold.false)
           ]

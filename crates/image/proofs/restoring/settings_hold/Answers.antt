@@ -25,8 +25,8 @@ returns-then-eight_hold c =
       | then-v-le2000000 w ↦ on (a && b && d) e _ _ three w.if-v-le2000000.true (w.value-is ∙ w.eight_hold.ensures)
       | else-v-le2000000 w ↦ off (a && b && d) e _ _ three w.if-v-le2000000.false w.value-is
     ] in
-    on (a && b && d && e) (every
-        (within 0 1000) v.expected) _ _ four c.if-eight_hold.true c.eight_hold-then-eight_hold.ensures ∙ settings-so v.frames v.look_ahead v.fetch_time v.sizes v.rule v.expected
+    on (a && b && d && e) (every (within 0 1000) v.expected) _ _ four c.if-eight_hold.true c.eight_hold-then-eight_hold.ensures
+    ∙ settings-so v.frames v.look_ahead v.fetch_time v.sizes v.rule v.expected
 
 pub returns-else-eight_hold : goal.returns-else-eight_hold
 returns-else-eight_hold c =
@@ -47,5 +47,5 @@ returns-else-eight_hold c =
       | then-v-le2000000 w ↦ on (a && b && d) e _ _ three w.if-v-le2000000.true (w.value-is ∙ w.eight_hold.ensures)
       | else-v-le2000000 w ↦ off (a && b && d) e _ _ three w.if-v-le2000000.false w.value-is
     ] in
-    off (a && b && d && e) (every
-        (within 0 1000) v.expected) _ _ four c.if-eight_hold.false refl ∙ settings-so v.frames v.look_ahead v.fetch_time v.sizes v.rule v.expected
+    off (a && b && d && e) (every (within 0 1000) v.expected) _ _ four c.if-eight_hold.false refl
+    ∙ settings-so v.frames v.look_ahead v.fetch_time v.sizes v.rule v.expected
