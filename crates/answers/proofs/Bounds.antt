@@ -1,18 +1,12 @@
 -- How long an answer line can be, and how long the lists that are lent. Assumes nothing.
-use Prim.Native.Nat.{ℕ, zero, suc, ◌+◌, ◌-◌, ◌*◌, ◌/◌, ◌^◌, ◌≤◌, ◌<◌}
-use mathlib.Core.Path.{◌≡◌, refl, ap, ◌∙◌}
-use mathlib.Core.Bool.{Bool, true, false, not, cond, ◌&&◌}
-use mathlib.Core.List.{List, [], ◌∷◌, ◌++◌}
-use native.Mathlib.Nat.{pow-suc, suc-mul}
-use native.Mathlib.Omega.{arith}
-use lib.ListN.{length, length-append}
-use lib.Dec.{T}
+use Rattle.std.proofs.Common.{ℕ, zero, suc, ◌+◌, ◌-◌, ◌*◌, ◌/◌, ◌^◌, ◌≤◌, ◌<◌, ◌≡◌, Bool, true, false, not, cond, ◌&&◌, T, List, [], ◌∷◌, ◌++◌, length}
+use Rattle.std.proofs.Common.{refl, ap, arith, pow-suc, suc-mul, length-append}
 use Rattle.rules.specs.Lists.{range, each, only}
 use Rattle.rules.specs.Pages.{file_of, page_of, size, cached, Page, held, ends, pages, clusters}
 use Rattle.rules.specs.Orders.{wanted, steal_order, fetch_order}
 use Rattle.rules.specs.Schedules.{num, count}
 use Rattle.rules.specs.Valid.{Valid}
-use Rattle.rules.specs.Lines.{digits_of, line_of, order_line, clusters_line, field_of, pair_of}
+use Rattle.rules.specs.Lines.{digits_of, line_of, order_line, clusters_line, field_of}
 use Rattle.rules.specs.declared.State.{State}
 use Rattle.rules.proofs.laws.Tests.{less}
 use Rattle.rules.proofs.laws.Members.{All, all_map, all-only, range-in}
@@ -22,7 +16,7 @@ use Rattle.rules.proofs.orders.Ranks.{pages-in}
 use Rattle.rules.proofs.orders.Distinct.{wanted-page}
 use Rattle.rules.proofs.orders.Victims.{steal-length, steal-cached}
 use Rattle.text.proofs.Puts.{digits-one, digits_more}
-use Rattle.rules.proofs.laws.Lists.{each_append}
+use Rattle.answers.proofs.Rows.{pair_fields, keys-fields}
 
 -- ---- lines
 
@@ -44,17 +38,11 @@ unfolding each
 each-few g b [] h = omega arith
 each-few g b (x ∷ l) h = rw (length-append, suc-mul) (omega (arith, h.0, each-few g b l h.1))
 
--- what is made of each member, and of each of that
-each-each : (h g : ℕ → List ℕ) (l : List ℕ) → each h (each g l) ≡ each (λ x. each h (g x)) l
-unfolding each
-each-each h g [] = refl
-each-each h g (x ∷ l) = each_append h (g x) (each g l) ∙ ap (λ m. each h (g x) ++ m) (each-each h g l)
-
 -- a key
 abbrev pub Key : ℕ → Type 0
 Key k = k < 8192
 
-pair-few : (k : ℕ) → Key k → length (each field_of (pair_of k)) ≤ 7
+pair-few : (k : ℕ) → Key k → length (pair_fields k) ≤ 7
 unfolding each
 pair-few k h =
     let file : file_of k < 10 ^ 1 = omega arith in
@@ -66,9 +54,9 @@ pub order-length : (first : ℕ) (keys : List ℕ) → length keys ≤ 8192 → 
 unfolding line_of each
 order-length first keys few low =
     let many : length keys < 10 ^ 4 = omega arith in
-    let all = all_map Key (λ k. length (each field_of (pair_of k)) ≤ 7) keys pair-few low in
-    rw (each-each field_of pair_of keys, length-append (digits_of 10 (length keys)))
-    (omega (arith, digits-few 3 10 (length keys) many, each-few (λ k. each field_of (pair_of k)) 7 keys all))
+    let all = all_map Key (λ k. length (pair_fields k) ≤ 7) keys pair-few low in
+    rw (keys-fields keys, length-append (digits_of 10 (length keys)))
+    (omega (arith, digits-few 3 10 (length keys) many, each-few pair_fields 7 keys all))
 
 -- a line of clusters
 pub clusters-length : (numbers : List ℕ) → length numbers ≤ 2048 → All Key numbers → length (clusters_line numbers) ≤ 57350

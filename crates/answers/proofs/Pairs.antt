@@ -1,12 +1,8 @@
 -- The low and high pages of a file's clusters come in pairs. Assumes nothing.
-use Prim.Native.Nat.{ℕ, zero, suc, ◌+◌, ◌-◌, ◌%◌}
-use mathlib.Core.Path.{◌≡◌, refl, ap, subst}
-use mathlib.Core.Bool.{Bool, true, false, not, cond, ◌&&◌, and-false}
-use mathlib.Core.List.{[], ◌∷◌, ◌++◌}
-use native.Mathlib.Omega.{arith}
+use Rattle.std.proofs.Common.{ℕ, zero, suc, ◌+◌, ◌-◌, ◌%◌, ◌≡◌, Bool, true, false, not, cond, ◌&&◌, leb, [], ◌∷◌, ◌++◌, length}
+use Rattle.std.proofs.Common.{refl, ap, subst, arith, length-append}
+use mathlib.Core.Bool.{and-false}
 use borrow.Author.Tests.{lt-leb}
-use lib.ListN.{length, length-append}
-use lib.Dec.{leb}
 use Rattle.rules.specs.Lists.{range, each}
 use Rattle.rules.specs.Pages.{size, held, ends, clusters}
 use Rattle.rules.specs.declared.State.{State}

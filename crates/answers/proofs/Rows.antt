@@ -1,16 +1,56 @@
--- A line of numbers written member by member of a list. Assumes nothing.
-use Prim.Native.Nat.{ℕ, ◌+◌, ◌*◌, ◌/◌, ◌≤◌, ◌<◌}
-use mathlib.Core.Path.{◌≡◌, refl, sym, ◌∙◌, ap}
-use mathlib.Core.List.{List, [], ◌∷◌, ◌++◌, append-nil}
-use native.Mathlib.Omega.{arith}
-use native.Mathlib.Numerals.{add-one}
-use lib.ListN.{length, get_or, take, drop, length-append, take-append-drop}
-use lib.Seq.{length-take-le, take-suc, take-take}
+-- A line of numbers written one after the other. Assumes nothing.
+use Rattle.std.proofs.Common.{ℕ, ◌+◌, ◌*◌, ◌/◌, ◌<◌, ◌≤◌, ◌≡◌, List, [], ◌∷◌, ◌++◌, length, get_or, take, drop, refl, sym, ap, ◌∙◌, arith}
+use Rattle.std.proofs.Common.{add-one, append-nil, length-append, take-append-drop, take-suc}
 use Rattle.rules.specs.Lists.{each}
 use Rattle.rules.specs.Lines.{line_of, order_line, clusters_line, field_of, pair_of}
 use Rattle.text.specs.Written.{Put}
 use Rattle.rules.proofs.laws.Lists.{written_none, each_append}
 use Rattle.text.proofs.Puts.{digits-length, put-more}
+
+-- ---- a list, member by member
+
+module _ (g : ℕ → List ℕ) (list : List ℕ) where
+  -- what is made of one member more
+  pub each-next : (i : ℕ) → i < length list → each g (take (i + 1) list) ≡ each g (take i list) ++ g (get_or list i 0)
+  unfolding each
+  each-next i h = rw (add-one, take-suc list i 0 h, each_append g (take i list) (get_or list i 0 ∷ []), append-nil)
+
+  each-short : (i : ℕ) → length (each g (take i list)) ≤ length (each g list)
+  each-short i =
+      let parts = ap (λ l. length (each g l)) (take-append-drop i list) in
+      omega (arith, parts, ap length (each_append g (take i list) (drop i list)), length-append (each g (take i list)) (each g (drop i list)))
+
+  -- none is put yet
+  pub each-none : (l : List ℕ) (at : ℕ) → Put l at (each g (take 0 list)) l at
+  unfolding each
+  each-none l at = record { buffer = written_none l at; next_is = omega arith }
+
+  module _ (l m : List ℕ) (from at i : ℕ) (inside : i < length list) (room : from + length (each g list) ≤ length l)
+      (p : Put l from (each g (take i list)) m at) where
+    fits : from + length (each g (take i list)) + length (g (get_or list i 0)) ≤ length l
+    fits =
+        omega (
+          arith,
+          ap length (each-next i inside),
+          length-append (each g (take i list)) (g (get_or list i 0)),
+          each-short (i + 1),
+        )
+
+    -- there is room for the next
+    pub each-room : length m ≡ length l → at + length (g (get_or list i 0)) ≤ length m
+    each-room e = omega (arith, fits, p.next_is)
+
+    -- it is put
+    pub each-put : (out : List ℕ) (j : ℕ) → Put m at (g (get_or list i 0)) out j → Put l from (each g (take (i + 1) list)) out j
+    each-put out j q = rw (each-next i inside) (put-more l m out from at j (each g (take i list)) (g (get_or list i 0)) p q fits)
+
+-- what is made of each member, and of each of that
+pub each-each : (h g : ℕ → List ℕ) (l : List ℕ) → each h (each g l) ≡ each (λ x. each h (g x)) l
+unfolding each
+each-each h g [] = refl
+each-each h g (x ∷ l) = each_append h (g x) (each g l) ∙ ap (λ m. each h (g x) ++ m) (each-each h g l)
+
+-- ---- lines
 
 -- at most eleven bytes a number
 pub line-length : (first : ℕ) (numbers : List ℕ) → length (line_of first numbers) ≤ 1 + length numbers * 11
@@ -18,157 +58,44 @@ unfolding line_of each
 line-length first [] = omega arith
 line-length first (n ∷ numbers) = omega (arith, length-append (field_of n) (each field_of numbers), digits-length 10 n, line-length first numbers)
 
--- more numbers on a line
-pub line-append : (first : ℕ) (a b : List ℕ) → line_of first (a ++ b) ≡ line_of first a ++ each field_of b
-unfolding line_of
-line-append first a b = ap (λ l. first ∷ l) (each_append field_of a b)
+pub ruleset line_lengths = (line-length)
 
--- a letter, then numbers
-pub put-numbers : (l m out : List ℕ) (i j first : ℕ) (numbers : List ℕ) → Put l 0 (first ∷ []) m i
-    → Put m i (each field_of numbers) out j → length (line_of first numbers) ≤ length l
-    → Put l 0 (line_of first numbers) out j
-unfolding line_of
-put-numbers l m out i j first numbers p q h = put-more l m out 0 i j (first ∷ []) (each field_of numbers) p q (omega arith)
+module _ (l m : List ℕ) (at first : ℕ) (numbers : List ℕ) (p : Put l 0 (first ∷ []) m at) (room : length (line_of first numbers) ≤ length l) where
+  -- behind the letter there is room for the numbers
+  pub line-room : length m ≡ length l → at + length (each field_of numbers) ≤ length m
+  unfolding line_of
+  line-room e = omega (arith, p.next_is)
 
--- room for them
-pub numbers-room : (l m : List ℕ) (i first : ℕ) (numbers : List ℕ) → Put l 0 (first ∷ []) m i → 1 + length numbers * 11 ≤ length l
-    → i + length (each field_of numbers) ≤ length l
-unfolding line_of
-numbers-room l m i first numbers p h = omega (arith, p.next_is, line-length first numbers)
+  -- the letter, then the numbers
+  pub line-put : (out : List ℕ) (j : ℕ) → Put m at (each field_of numbers) out j → Put l 0 (line_of first numbers) out j
+  unfolding line_of
+  line-put out j q = put-more l m out 0 at j (first ∷ []) (each field_of numbers) p q (omega arith)
 
--- a number by itself
-abbrev pub one : ℕ → List ℕ
-one p = p ∷ []
+-- a line of a count, with more numbers behind it
+module _ (l : List ℕ) (first count : ℕ) (numbers : List ℕ) (room : length (line_of first (count ∷ numbers)) ≤ length l) where
+  parts : line_of first (count ∷ numbers) ≡ line_of first (count ∷ []) ++ each field_of numbers
+  unfolding line_of
+  parts = ap (λ k. first ∷ k) (each_append field_of (count ∷ []) numbers)
 
--- its field
-pub field-one : (p : ℕ) → each field_of (one p) ≡ field_of p
-unfolding each
-field-one p = append-nil (field_of p)
+  long : length (line_of first (count ∷ [])) + length (each field_of numbers) ≤ length l
+  long = omega (arith, ap length parts, length-append (line_of first (count ∷ [])) (each field_of numbers))
 
--- a letter, then a number
-pub put_first : (l m out : List ℕ) (i j first n : ℕ) → Put l 0 (first ∷ []) m i → Put m i (field_of n) out j → 12 ≤ length l
-    → Put l 0 (line_of first (n ∷ [])) out j
-put_first l m out i j first n p q h = put-numbers l m out i j first (n ∷ []) p (rw field-one q) (omega (arith, line-length first (n ∷ [])))
+  pub count-room : length (line_of first (count ∷ [])) ≤ length l
+  count-room = omega (arith, long)
 
--- a letter, then two
-pub put-letter-two : (l m out : List ℕ) (i j first a b : ℕ) → Put l 0 (first ∷ []) m i → Put m i (each field_of (a ∷ b ∷ [])) out j → 23 ≤ length l
-    → Put l 0 (line_of first (a ∷ b ∷ [])) out j
-put-letter-two l m out i j first a b p q h = put-numbers l m out i j first (a ∷ b ∷ []) p q (omega (arith, line-length first (a ∷ b ∷ [])))
+  module _ (m : List ℕ) (at : ℕ) (p : Put l 0 (line_of first (count ∷ [])) m at) where
+    pub behind-room : at + length (each field_of numbers) ≤ length l
+    behind-room = omega (arith, long, p.next_is)
 
--- two numbers are as long as both
-pub pair-length : (a b : ℕ) → length (each field_of (a ∷ b ∷ [])) ≡ length (field_of a) + length (field_of b)
-unfolding each
-pair-length a b = rw append-nil (length-append (field_of a) (field_of b))
+    pub behind-put : (out : List ℕ) (j : ℕ) → Put m at (each field_of numbers) out j → Put l 0 (line_of first (count ∷ numbers)) out j
+    behind-put out j q = rw parts (put-more l m out 0 at j (line_of first (count ∷ [])) (each field_of numbers) p q (omega (arith, long)))
 
--- one, then the other
-pub put_both : (l m out : List ℕ) (at i j a b : ℕ) → Put l at (field_of a) m i → Put m i (field_of b) out j
-    → at + length (each field_of (a ∷ b ∷ [])) ≤ length l
-    → Put l at (each field_of (a ∷ b ∷ [])) out j
-unfolding each
-put_both l m out at i j a b p q h = rw append-nil (put-more l m out at i j (field_of a) (field_of b) p q (omega (arith, pair-length a b)))
+-- ---- keys
 
--- ---- a list, member by member
+-- a key's file and page
+abbrev pub pair_fields : ℕ → List ℕ
+pair_fields k = each field_of (pair_of k)
 
--- the fields of what g makes of the first i members
-abbrev pub row_of : (ℕ → List ℕ) → List ℕ → ℕ → List ℕ
-row_of g list i = each field_of (each g (take i list))
-
--- no member yet
-pub row-none : (g : ℕ → List ℕ) (list l : List ℕ) (at : ℕ) → Put l at (row_of g list 0) l at
-unfolding each
-row-none g list l at = record { buffer = written_none l at; next_is = omega arith }
-
-module _ (g : ℕ → List ℕ) (list : List ℕ) (n : ℕ) (all : n ≤ length list) where
-  row_more : (i : ℕ) → i < n → row_of g list (i + 1) ≡ row_of g list i ++ each field_of (g (get_or list i 0))
-  unfolding each
-  row_more i h =
-      let inside : i < length list = omega arith in
-      let k : ℕ = get_or list i 0 in
-      let members : each g (take (i + 1) list) ≡ each g (take i list) ++ g k
-      = rw (add-one, take-suc list i 0 inside, each_append g (take i list) (k ∷ []), append-nil) in
-      ap (each field_of) members ∙ each_append field_of (each g (take i list)) (g k)
-
-  row-length : (i : ℕ) → i ≤ n → length (row_of g list i) ≤ length (row_of g list n)
-  row-length i h =
-      let rest : List ℕ = drop i (take n list) in
-      let parts = sym (take-append-drop i (take n list)) ∙ ap (λ l. l ++ rest) (take-take i n list h) in
-      let whole : row_of g list n ≡ row_of g list i ++ each field_of (each g rest)
-      = ap (λ l. each field_of (each g l)) parts ∙ ap (each field_of) (each_append g (take i list) rest)
-      ∙ each_append field_of (each g (take i list)) (each g rest) in
-      omega (arith, ap length whole, length-append (row_of g list i) (each field_of (each g rest)))
-
-  module _ (l m : List ℕ) (from at i : ℕ) (h : i < n) (room : from + length (row_of g list n) ≤ length l) (p : Put l from (row_of g list i) m at) where
-    row_fits : from + length (row_of g list i) + length (each field_of (g (get_or list i 0))) ≤ length l
-    row_fits = omega (arith, ap length (row_more i h), length-append (row_of g list i) (each field_of (g (get_or list i 0))), row-length (i + 1) (omega arith))
-
-    -- there is room for the next member
-    pub row_room : length m ≡ length l → at + length (each field_of (g (get_or list i 0))) ≤ length m
-    row_room e = omega (arith, row_fits, p.next_is)
-
-    -- it is put
-    pub row_step : (out : List ℕ) (j : ℕ) → Put m at (each field_of (g (get_or list i 0))) out j → Put l from (row_of g list (i + 1)) out j
-    row_step out j q = rw (row_more i h) (put-more l m out from at j (row_of g list i) (each field_of (g (get_or list i 0))) p q row_fits)
-
--- a line of a count and a list's numbers
-pub row_line : (first count : ℕ) (g : ℕ → List ℕ) (list l m out : List ℕ) (from at n : ℕ)
-    → Put l 0 (line_of first (count ∷ [])) m from → Put m from (row_of g list n) out at
-    → length (line_of first (count ∷ each g (take n list))) ≤ length l → Put l 0 (line_of first (count ∷ each g (take n list))) out at
-row_line first count g list l m out from at n p q h =
-    let e = line-append first (count ∷ []) (each g (take n list)) in
-    let room : length (line_of first (count ∷ [])) + length (row_of g list n) ≤ length l = rw (e, length-append) at h in
-    rw e (put-more l m out 0 from at (line_of first (count ∷ [])) (row_of g list n) p q (omega arith))
-
--- room for the numbers behind the count
-pub line-room : (first count : ℕ) (numbers l m : List ℕ) (from : ℕ) → Put l 0 (line_of first (count ∷ [])) m from
-    → length (line_of first (count ∷ numbers)) ≤ length l
-    → from + length (each field_of numbers) ≤ length l
-line-room first count numbers l m from p h =
-    omega (arith, p.next_is, ap length (line-append first (count ∷ []) numbers), length-append (line_of first (count ∷ [])) (each field_of numbers))
-
--- the last member is put
-row-end : (g : ℕ → List ℕ) (list l m : List ℕ) (from at i n : ℕ) → i ≤ n → n ≤ i → Put l from (row_of g list i) m at → Put l from (row_of g list n) m at
-row-end g list l m from at i n h k p = let e : i ≡ n = omega arith in rw e at p
-
--- ---- keys, and the pages of clusters
-
--- a line of so many keys
-line-keys : (first n : ℕ) (keys : List ℕ) → n ≤ length keys → order_line first (take n keys) ≡ line_of first (n ∷ each pair_of (take n keys))
-line-keys first n keys h = rw (length-take-le n keys h)
-
-module _ (first n : ℕ) (keys l m : List ℕ) (from : ℕ) (all : n ≤ length keys) (p : Put l 0 (line_of first (n ∷ [])) m from)
-    (room : length (order_line first (take n keys)) ≤ length l) where
-  wide : length (line_of first (n ∷ each pair_of (take n keys))) ≤ length l
-  wide = rw (line-keys first n keys all) at room
-
-  -- room for the keys
-  pub keys-room : from + length (row_of pair_of keys n) ≤ length l
-  keys-room = line-room first n (each pair_of (take n keys)) l m from p wide
-
-  -- the line of the keys
-  pub keys-end : (out : List ℕ) (at i : ℕ) → i ≤ n → n ≤ i → Put m from (row_of pair_of keys i) out at → Put l 0 (order_line first (take n keys)) out at
-  keys-end out at i h k q =
-      rw (line-keys first n keys all)
-      (row_line first n pair_of keys l m out from at n p (row-end pair_of keys m out from at i n h k q) wide)
-
-each-one : (l : List ℕ) → each one l ≡ l
-unfolding each
-each-one [] = refl
-each-one (x ∷ l) = ap (λ m. x ∷ m) (each-one l)
-
--- a line of clusters, by so many pages
-line-clusters : (n : ℕ) (pages : List ℕ) → n ≤ length pages → clusters_line (take n pages) ≡ line_of 67 (n / 2 ∷ each one (take n pages))
-line-clusters n pages h = rw (length-take-le n pages h, each-one)
-
-module _ (n : ℕ) (pages l m : List ℕ) (from : ℕ) (all : n ≤ length pages) (p : Put l 0 (line_of 67 (n / 2 ∷ [])) m from)
-    (room : length (clusters_line (take n pages)) ≤ length l) where
-  long : length (line_of 67 (n / 2 ∷ each one (take n pages))) ≤ length l
-  long = rw (line-clusters n pages all) at room
-
-  -- room for the pages
-  pub clusters-room : from + length (row_of one pages n) ≤ length l
-  clusters-room = line-room 67 (n / 2) (each one (take n pages)) l m from p long
-
-  -- the line of the clusters
-  pub clusters-end : (out : List ℕ) (at i : ℕ) → i ≤ n → n ≤ i → Put m from (row_of one pages i) out at → Put l 0 (clusters_line (take n pages)) out at
-  clusters-end out at i h k q =
-      rw (line-clusters n pages all) (row_line 67 (n / 2) one pages l m out from at n p (row-end one pages m out from at i n h k q) long)
+-- the fields of all keys
+pub keys-fields : (keys : List ℕ) → each field_of (each pair_of keys) ≡ each pair_fields keys
+keys-fields keys = each-each field_of pair_of keys

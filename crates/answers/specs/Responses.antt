@@ -1,14 +1,15 @@
 -- A line's answer in a buffer. Assumes nothing: these are definitions.
-use Rattle.std.specs.Prelude.{ℕ, ◌≤◌, ◌≡◌, Bool, true, false, cond, List, [], ◌∷◌, ◌++◌, length, take}
+use Rattle.std.specs.Prelude.{ℕ, ◌≤◌, ◌≡◌, cond, List, [], ◌∷◌, ◌++◌, length, take}
 use Prim.Native.Char.{code as ascii}
-use Rattle.rules.specs.Views.{state_of}
 use Rattle.rules.specs.Pages.{clusters}
 use Rattle.rules.specs.Orders.{steal_order, fetch_order}
 use Rattle.rules.specs.Calls.{no_file, refused}
 use Rattle.rules.specs.Lines.{clusters_line, Response, told, shown}
+use Rattle.rules.specs.declared.Refusal.TheVariants.{NoFile}
 use Rattle.rules.specs.declared.State.{State}
 use Rattle.text.specs.Written.{Put}
-use Rattle.answers.specs.declared.Said.{Said}
+use Rattle.answers.specs.declared.Order.{Order}
+use Rattle.answers.specs.declared.Order.TheVariants.{Steal, Fetch}
 
 -- no answer is longer: a letter, a comma and a count of four digits, at most 8,192 pairs of file and page of at most seven bytes, and the line end. The pairs
 -- of pages of a C line have up to ten bytes, but are at most 512
@@ -23,24 +24,20 @@ Roomy buffer = answer_room ≤ length buffer
 abbrev pub line_end : List ℕ
 line_end = ascii "\n" ∷ []
 
--- a line's answer: the state after it, and how many bytes were written
-pub record Answered : Type 0 where
-  pub state : State
-  pub len : ℕ
+-- a response given: the state after it, and its line with the line end at the front of a buffer, all else of which stays
+pub record Gives (response : Response) (before after : List ℕ) (state : State) (len : ℕ) : Type 0 where
+  pub state_is : state ≡ response.state
+  pub line : Put before 0 (response.line ++ line_end) after len
 
--- as the code has it, with the maps as the line leaves them
-abbrev pub said_of : Said → List ℕ → List ℕ → Answered
-said_of a cached fetching = record { state = state_of a.view cached fetching; len = a.len }
-
--- a response given: its state, and its line with the line end at the front of a buffer, all else of which stays
-pub record Gives (response : Response) (before after : List ℕ) (a : Answered) : Type 0 where
-  pub state : a.state ≡ response.state
-  pub line : Put before 0 (response.line ++ line_end) after a.len
+-- the letter that asks for an order, and that its answer begins with
+abbrev pub letter_of : Order → ℕ
+letter_of Steal = ascii "L"
+letter_of Fetch = ascii "Q"
 
 -- the steal order or the fetch order
-abbrev pub order_of : Bool → State → List ℕ
-order_of true s = steal_order s
-order_of false s = fetch_order s
+abbrev pub order_of : Order → State → List ℕ
+order_of Steal s = steal_order s
+order_of Fetch s = fetch_order s
 
 -- the first n of a list are these numbers
 pub record Front (numbers list : List ℕ) (n : ℕ) : Type 0 where
@@ -49,4 +46,4 @@ pub record Front (numbers list : List ℕ) (n : ℕ) : Type 0 where
 
 -- what Clusters answers
 abbrev pub clusters_shown : State → ℕ → Response
-clusters_shown s file = cond (no_file s file) (told (refused s 3)) (shown s (clusters_line (clusters s file)))
+clusters_shown s file = cond (no_file s file) (told (refused s NoFile)) (shown s (clusters_line (clusters s file)))

@@ -1,2 +1,2 @@
--- What the code of the dispatch rests on: the letters, by the number of their fields.
+-- What the code of the dispatch rests on: the letters with the number of their fields.
 pub mod Letters

@@ -1,2 +1,1 @@
--- What the contracts of the dispatch speak of.
-pub mod Requests
+-- What the contracts of the dispatch speak of: nothing of its own.

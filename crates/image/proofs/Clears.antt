@@ -10,6 +10,7 @@ use lib.Bits.{bit_and, bit_or, and_shr, and_mod, and_zero_l, and_le_l, and_le_r,
 use lib.Pow.{shr_le}
 use lib.ListN.{get_or}
 use lib.Dec.{T, eqb, eqb→eq}
+use Rattle.std.proofs.lemmas.Nat.{or_lt}
 use Rattle.bits.specs.Map.{digit}
 use Rattle.bits.proofs.Words.{digit-step, digit-shr, digit-high}
 use Rattle.bits.proofs.Bits.{bit_at}
@@ -144,3 +145,7 @@ module _ (cached fetching : List ℕ) where
       let c = get_or cached i 0 in
       let f = get_or fetching i 0 in
       rw (e, bit_at cached i j l, bit_at fetching i j l, digit_or c f j) (ap not (sym (or-one (digit c j) (digit f j) (omega arith) (omega arith))))
+
+-- two words joined are a word
+pub either-fits : (a b : ℕ) → a < 2 ^ 64 → b < 2 ^ 64 → bit_or a b < 2 ^ 64
+either-fits = or_lt 64

@@ -8,7 +8,7 @@ use lib.Seq.{length-take-le, take_all, take-suc, drop-cons, set_at, append_snoc}
 use Rattle.rules.specs.Lists.{range}
 use Rattle.rules.proofs.laws.Indexed.{length-listed, get_or-listed}
 
-module _ {A : Type 0} (f : ℕ → A) (n : ℕ) (d : A) where
+module _ {A : Type 0} (f : ℕ → A) (n : ℕ) where
   -- the first k are those of f, the others as they were
   abbrev pub filled : ℕ → List A → List A
   filled k xs = take k (map f (range 0 n)) ++ drop k xs
@@ -19,11 +19,11 @@ module _ {A : Type 0} (f : ℕ → A) (n : ℕ) (d : A) where
       let all = map f (range 0 n) in
       let far : length (take k all) ≡ k = length-take-le k all (omega (arith, length-listed f n)) in
       let next : k + 1 ≡ suc k = omega arith in
-      let last : y ≡ get_or all k d = m ∙ sym (get_or-listed f n k d less) in
-      rw (e, drop-cons xs k d (omega arith), next, take-suc all k d (omega (arith, length-listed f n)))
-      (set_at (take k all) (get_or xs k d) (drop (suc k) xs) y k far
+      let last : y ≡ get_or all k y = m ∙ sym (get_or-listed f n k y less) in
+      rw (e, drop-cons xs k y (omega arith), next, take-suc all k y (omega (arith, length-listed f n)))
+      (set_at (take k all) (get_or xs k y) (drop (suc k) xs) y k far
       ∙ ap (λ z. take k all ++ z ∷ drop (suc k) xs) last
-      ∙ sym (append_snoc (take k all) (get_or all k d) (drop (suc k) xs)))
+      ∙ sym (append_snoc (take k all) (get_or all k y) (drop (suc k) xs)))
 
   -- all of them
   pub filled-all : (xs t : List A) (k : ℕ) → t ≡ filled k xs → n ≤ k → length xs ≡ n → t ≡ map f (range 0 n)

@@ -1,12 +1,13 @@
 -- Bytes put into a buffer. Assumes nothing.
 use mathlib.Core.Path.{◌≡◌, refl, sym, ap, ◌∙◌}
 use mathlib.Core.List.{List, [], ◌∷◌, ◌++◌, append_assoc, append-nil}
-use Prim.Native.Nat.{ℕ, zero, suc, ◌+◌, ◌*◌, ◌/◌, ◌%◌, ◌^◌, ◌≤◌, ◌<◌}
-use native.Mathlib.Nat.{zero-add, suc-add, pow-suc, pow-succ', mod-eq_of_lt, div-div-eq-div-mul, mul-le-mul_left, mul_comm}
+use Prim.Native.Nat.{ℕ, zero, suc, ◌+◌, ◌-◌, ◌*◌, ◌/◌, ◌%◌, ◌^◌, ◌≤◌, ◌<◌}
+use native.Mathlib.Nat.{pow-suc, mod-eq_of_lt, div-div-eq-div-mul, mul-le-mul_left, mul_comm}
 use native.Mathlib.Omega.{arith}
-use lib.Arith.{mod-mul}
+use borrow.Rule.Slice.PartMut.{put_mid}
+use Rattle.std.specs.Int.{byte_at, bytes_low_first}
 use lib.ListN.{length, get_or, take, set, length-append, take-append-drop}
-use lib.Seq.{length-take-le, take_all, take-suc}
+use lib.Seq.{drop-drop, length-take-le, take_all, take-suc}
 use Rattle.rules.specs.Lists.{each, written}
 use Rattle.rules.specs.Image.{Field, bytes_of, encoded}
 use Rattle.rules.proofs.laws.Indexed.{length-each}
@@ -43,31 +44,26 @@ fill {l} {k} {at} {n} {bs} t cs w f wide e fits =
       so = written_next l k t at n bs cs f.far f.so e (omega (arith, wide));
     }
 
-power-low : (w : ℕ) → 0 < 256 ^ w
-power-low zero = omega arith
-power-low (suc w) = omega (arith, pow-suc 256 w, power-low w)
-
--- a number's low bytes, and those above
-bytes-parts : (w v n : ℕ) → bytes_of w (n % 256 ^ w) ++ bytes_of v (n / 256 ^ w) ≡ bytes_of (w + v) n
+-- std's bytes of a number are the rules'
+low-bytes : (i w n : ℕ) → bytes_low_first i w n ≡ bytes_of w (n / 256 ^ i)
 unfolding bytes_of
-bytes-parts zero v n =
-    let e : n / 256 ^ 0 ≡ n = omega arith in
-    rw (zero-add v, e)
-bytes-parts (suc w) v n =
-    let r : ℕ = n % 256 ^ suc w in
-    let e : r ≡ (n / 256 % 256 ^ w) * 256 + n % 256 = ap (λ p. n % p) (pow-suc 256 w) ∙ mod-mul n (power-low w) (omega arith) in
-    let low : r % 256 ≡ n % 256 = omega arith in
-    let high : r / 256 ≡ n / 256 % 256 ^ w = omega arith in
-    let more : n / 256 ^ suc w ≡ n / 256 / 256 ^ w = ap (λ p. n / p) (pow-succ' 256 w) ∙ sym (div-div-eq-div-mul n 256 (256 ^ w)) in
-    rw (suc-add w v, low, high, more) (ap (λ l. n % 256 ∷ l) (bytes-parts w v (n / 256)))
+low-bytes i zero n = refl
+low-bytes i (suc w) n =
+    let more : n / 256 ^ suc i ≡ n / 256 ^ i / 256 = ap (λ p. n / p) (pow-suc 256 i) ∙ sym (div-div-eq-div-mul n (256 ^ i) 256) in
+    ap (λ b. b ∷ bytes_low_first (suc i) w n) (first i) ∙ ap (λ l. n / 256 ^ i % 256 ∷ l) (low-bytes (suc i) w n ∙ ap (bytes_of w) more)
+  where
+    first : (i : ℕ) → byte_at i n ≡ n / 256 ^ i % 256
+    first zero = omega arith
+    first (suc i) = refl
 
--- a number's low half, and its high half after it
-pub written-halves : (w : ℕ) (l b t : List ℕ) (at n : ℕ) → b ≡ written l at (bytes_of w (n % 256 ^ w)) → t ≡ written b (at + w) (bytes_of w (n / 256 ^ w))
-    → at + (w + w) ≤ length l → t ≡ written l at (bytes_of (w + w) n)
-written-halves w l b t at n e f h =
-    written_next l b t at w (bytes_of w (n % 256 ^ w)) (bytes_of w (n / 256 ^ w)) (bytes-length w (n % 256 ^ w)) e f
-    (omega (arith, bytes-length w (n / 256 ^ w)))
-    ∙ ap (written l at) (bytes-parts w w n)
+-- they are put in the place of as many
+pub written-bytes : (w : ℕ) (l : List ℕ) (at n : ℕ) (bs : List ℕ) → bs ≡ bytes_low_first 0 w n → put_mid at (at + w - at) l bs ≡ written l at (bytes_of w n)
+unfolding written
+written-bytes w l at n bs e =
+    let whole : n / 256 ^ 0 ≡ n = omega arith in
+    let k : at + w - at ≡ w = omega arith in
+    let same : bs ≡ bytes_of w n = e ∙ low-bytes 0 w n ∙ ap (bytes_of w) whole in
+    rw (k, same, bytes-length w n, drop-drop w at l) refl
 
 each-suc : {A B : Type 0} (g : A → List B) (xs : List A) (d : A) (k : ℕ) → k < length xs → each g (take k xs) ++ g (get_or xs k d) ≡ each g (take (k + 1) xs)
 unfolding each
@@ -76,7 +72,7 @@ each-suc g xs d k h =
     sym (rw (next, take-suc xs k d h) (each_append g (take k xs) (get_or xs k d ∷ []) ∙ ap (λ l. each g (take k xs) ++ l) (append-nil (g (get_or xs k d)))))
 
 -- lists of one width, those of n members, put one after the other
-module _ {A : Type 0} (g : A → List ℕ) (w : ℕ) (wide : (x : A) → length (g x) ≡ w) (n : ℕ) (d : A) where
+module _ {A : Type 0} (g : A → List ℕ) (w : ℕ) (wide : (x : A) → length (g x) ≡ w) where
   -- none yet
   pub each_none : (l : List ℕ) (at : ℕ) (xs : List A) → l ≡ written l at (each g (take 0 xs))
   unfolding written each
@@ -85,18 +81,19 @@ module _ {A : Type 0} (g : A → List ℕ) (w : ℕ) (wide : (x : A) → length 
       sym (rw here (take-append-drop at l))
 
   -- one more
-  pub each_more : (l b t : List ℕ) (at k : ℕ) (xs : List A) → b ≡ written l at (each g (take k xs)) → t ≡ written b (at + w * k) (g (get_or xs k d))
-      → length xs ≡ n → k < n → at + w * n ≤ length l → t ≡ written l at (each g (take (k + 1) xs))
-  each_more l b t at k xs e f long less fits =
-      let room : w * (k + 1) ≤ w * n = mul-le-mul_left w (omega arith) in
+  pub each_more : (l b t : List ℕ) (at k : ℕ) (xs : List A) (x : A) → b ≡ written l at (each g (take k xs)) → x ≡ get_or xs k x
+      → t ≡ written b (at + w * k) (g x) → k < length xs → at + w * length xs ≤ length l → t ≡ written l at (each g (take (k + 1) xs))
+  each_more l b t at k xs x e is f less fits =
+      let room : w * (k + 1) ≤ w * length xs = mul-le-mul_left w (omega arith) in
       let part : length (take k xs) ≡ k = length-take-le k xs (omega arith) in
       let far : length (each g (take k xs)) ≡ w * k = length-each g w wide (take k xs) ∙ rw part (mul_comm k w) in
-      written_next l b t at (w * k) (each g (take k xs)) (g (get_or xs k d)) far e f (omega (arith, wide (get_or xs k d)))
-      ∙ ap (written l at) (each-suc g xs d k (omega arith))
+      written_next l b t at (w * k) (each g (take k xs)) (g x) far e f (omega (arith, wide x))
+      ∙ ap (λ y. written l at (each g (take k xs) ++ g y)) is
+      ∙ ap (written l at) (each-suc g xs x k less)
 
   -- all of them
-  pub each_all : (l b : List ℕ) (at k : ℕ) (xs : List A) → b ≡ written l at (each g (take k xs)) → n ≤ k → length xs ≡ n → b ≡ written l at (each g xs)
-  each_all l b at k xs e h long = e ∙ ap (λ ys. written l at (each g ys)) (take_all k xs (omega arith))
+  pub each_all : (l b : List ℕ) (at k : ℕ) (xs : List A) → b ≡ written l at (each g (take k xs)) → length xs ≤ k → b ≡ written l at (each g xs)
+  each_all l b at k xs e h = e ∙ ap (λ ys. written l at (each g ys)) (take_all k xs h)
 
 -- ---- fields
 

@@ -6,7 +6,7 @@ use native.Mathlib.Omega.{arith}
 use lib.ListN.{length, length-append, drop_of_length-le}
 use Rattle.rules.specs.Lists.{each, written}
 use Rattle.rules.specs.Valid.{Valid}
-use Rattle.rules.specs.Image.{Field, field, reader_fields, layout, bytes_of, image_of, encoded, tail, image_length}
+use Rattle.rules.specs.Image.{Field, field, reader_fields, layout, bytes_of, image_of, encoded, tail, image_length, rule_number}
 use Rattle.rules.proofs.laws.Indexed.{each_map, length-each}
 use Rattle.rules.proofs.laws.Numbers.{bytes-length}
 use Rattle.rules.proofs.images.Offsets.{sizes_at, readers_at, gap_at, cached_at, fetching_at, marks_at, rule_at, filler_at, expected_start, attaches_start}
@@ -34,7 +34,7 @@ settings-long s = refl
 
 -- the bytes behind the maps
 abbrev tail_of : State → List ℕ
-tail_of s = tail_bytes s.marks s.rule s.expected s.attaches
+tail_of s = tail_bytes s.marks (rule_number s.rule) s.expected s.attaches
 
 encoded-tail : (s : State) → encoded (tail s) ≡ tail_of s
 unfolding each tail_bytes
@@ -43,8 +43,8 @@ encoded-tail s =
     let expected = map (field 2) s.expected in
     let attaches = map (field 2) s.attaches in
     let counts = each_append g expected attaches ∙ ap₂ ◌++◌ (each_map g (field 2) s.expected) (each_map g (field 2) s.attaches) in
-    each_append g (map (field 2) s.marks) (field 1 s.rule ∷ field 1 0 ∷ (expected ++ attaches))
-    ∙ ap₂ ◌++◌ (each_map g (field 2) s.marks) (ap (λ l. bytes_of 1 s.rule ++ (bytes_of 1 0 ++ l)) counts)
+    each_append g (map (field 2) s.marks) (field 1 (rule_number s.rule) ∷ field 1 0 ∷ (expected ++ attaches))
+    ∙ ap₂ ◌++◌ (each_map g (field 2) s.marks) (ap (λ l. bytes_of 1 (rule_number s.rule) ++ (bytes_of 1 0 ++ l)) counts)
 
 image-parts : (s : State)
     → settings s ++ (each (bytes_of 2) s.sizes ++ (each reader_bytes s.readers
@@ -125,6 +125,6 @@ module _ (s : State) (v : Valid s) where
       let s₄ = fill o (bytes_of 4 0) 4 s₃ (bytes-length 4 0) e₄ (omega arith) in
       let s₅ = fill p (each (bytes_of 8) s.cached) 1024 s₄ (run-wide 8 s.cached 128 v.cached_map.all) e₅ (omega arith) in
       let s₆ = fill q (each (bytes_of 8) s.fetching) 1024 s₅ (run-wide 8 s.fetching 128 v.fetching_map.all) e₆ (omega arith) in
-      let s₇ = fill t (tail_of s) 66 s₆ (tail-wide s.marks s.rule s.expected s.attaches v.marks_all v.expected_all v.attaches_all) e₇
+      let s₇ = fill t (tail_of s) 66 s₆ (tail-wide s.marks (rule_number s.rule) s.expected s.attaches v.marks_all v.expected_all v.attaches_all) e₇
       (omega arith) in
       s₇.so ∙ written_all l _ (s₇.far ∙ sym fits) ∙ simp append_assoc (image-parts s)

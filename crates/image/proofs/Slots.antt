@@ -4,10 +4,10 @@ use mathlib.Core.Bool.{Bool, true, false, not, ◌&&◌, ◌||◌}
 use mathlib.Core.List.{List, []}
 use Prim.Native.Nat.{ℕ, ◌+◌, ◌*◌, ◌≤◌, ◌<◌}
 use native.Mathlib.Omega.{arith}
-use borrow.Author.Tests.{not-true, not-false, le-leb, lt-leb}
+use borrow.Author.Tests.{not-true, le-leb, lt-leb}
 use lib.ListN.{get_or}
 use lib.Dec.{leb, ltb, eqb}
-use Rattle.rules.specs.Lists.{within}
+use Rattle.rules.specs.Lists.{every, within}
 use Rattle.rules.specs.Calls.{no_file}
 use Rattle.rules.specs.Readers.{awaits}
 use Rattle.rules.specs.Image.{reader_number, reader_from, reader_placed, reader_holds, slot_holds, image_numbers}
@@ -16,7 +16,7 @@ use Rattle.rules.proofs.laws.Tests.{less, is_true, and_first, and_second}
 use Rattle.rules.proofs.images.Offsets.{readers_at, slot_at}
 use Rattle.parts.specs.Files.{sized_with, no_range_in}
 use Rattle.image.specs.Bytes.{number_at, state_in}
-use Rattle.image.specs.Tests.{FromImage}
+
 use Rattle.rules.specs.declared.State.{State}
 use Rattle.rules.specs.declared.Reader.{Reader}
 use Rattle.rules.specs.declared.Condition.TheVariants.{Empty, Running, Waiting}
@@ -33,67 +33,36 @@ module _ (sizes fetching : List ℕ) (r : Reader) where
   unfolding reader_holds reader_placed
   holds-running t e f = rw e f
 
-  -- a waiting reader that is not in its place
-  pub holds-stop : (t : Bool) → r.condition ≡ Waiting → t ≡ reader_placed (sized_with sizes []) r → not t ≡ true
-      → false ≡ reader_holds (sized_with sizes fetching) r
+  -- a waiting reader
+  pub holds-waiting : (t : Bool) → r.condition ≡ Waiting → t ≡ (reader_placed (sized_with sizes []) r && awaits (sized_with [] fetching) r)
+      → t ≡ reader_holds (sized_with sizes fetching) r
   unfolding reader_holds reader_placed awaits
-  holds-stop t e f n = rw e (call-stop (reader_placed (sized_with sizes []) r) (awaits (sized_with sizes fetching) r) t f n)
-
-  -- one that is
-  pub holds-waiting : (t q : Bool) → r.condition ≡ Waiting → t ≡ reader_placed (sized_with sizes []) r → not t ≡ false → q ≡ awaits (sized_with [] fetching) r
-      → q ≡ reader_holds (sized_with sizes fetching) r
-  unfolding reader_holds reader_placed awaits
-  holds-waiting t q e f n g = rw e (call-pass (reader_placed (sized_with sizes []) r) (awaits (sized_with sizes fetching) r) t q f n g)
+  holds-waiting t e f = rw e f
 
   -- a reader in its place has a file below 8
-  pub placed-file : (t : Bool) → t ≡ reader_placed (sized_with sizes []) r → not t ≡ false → r.file < 8
+  pub placed-file : (t : Bool) → t ≡ reader_placed (sized_with sizes []) r → t ≡ true → r.file < 8
   unfolding reader_placed
-  placed-file t e n =
+  placed-file t e h =
       let s : State = sized_with sizes [] in
-      let all = passed (reader_placed s r) (sym e ∙ not-false t n) in
+      let all = passed (reader_placed s r) (sym e ∙ h) in
       let none = no_file s r.file in
       (file_there s r.file (not-true none (is_true (not none) (and_first (not none) _ all)))).0
 
   -- and a last page up to its size
-  pub placed-last : (t : Bool) → t ≡ reader_placed (sized_with sizes []) r → not t ≡ false → ((f : ℕ) → get_or sizes f 0 ≤ 1024) → r.last ≤ 1024
+  pub placed-last : (t : Bool) → t ≡ reader_placed (sized_with sizes []) r → t ≡ true → ((f : ℕ) → get_or sizes f 0 ≤ 1024) → r.last ≤ 1024
   unfolding reader_placed
-  placed-last t e n low =
+  placed-last t e h low =
       let s : State = sized_with sizes [] in
-      let all = passed (reader_placed s r) (sym e ∙ not-false t n) in
+      let all = passed (reader_placed s r) (sym e ∙ h) in
       let z : ℕ = get_or sizes r.file 0 in
       let reach = and_second (within 1 1000 r.pace) _ (and_second (not (no_file s r.file)) _ all) in
       let last = within-true 1 z r.last (is_true (within 1 z r.last) (and_first (within 1 z r.last) _ reach)) in
       omega (arith, last.1, low r.file)
 
--- the test of a record looks at the sizes and the fetches alone
-holds-sized : (s : State) (r : Reader) → reader_holds (sized_with s.sizes s.fetching) r ≡ reader_holds s r
+-- the test of records looks at the sizes and the fetches alone
+pub readers-sized : (s : State) (rs : List Reader) → every (reader_holds (sized_with s.sizes s.fetching)) rs ≡ every (reader_holds s) rs
 unfolding reader_holds reader_placed awaits
-holds-sized s r = refl
-
-module _ (image sizes fetching : List ℕ) (h : FromImage image sizes fetching) (j : ℕ) (low : j < 16) where
-  -- the test of the record
-  record-holds : (r : Reader) (t : Bool) → r ≡ reader_from (image_numbers image) j → t ≡ reader_holds (sized_with sizes fetching) r
-      → t ≡ reader_holds (state_in image) (reader_from (image_numbers image) j)
-  record-holds r t e f = f ∙ rw (h.sizes_read, h.fetching_read, e) (holds-sized (state_in image) (reader_from (image_numbers image) j))
-
-  -- the test of the condition's number
-  condition-holds : (n : ℕ) (t : Bool) → n ≡ number_at 1 image (readers_at + 8 * j) → t ≡ within 0 2 n
-      → t ≡ within 0 2 (reader_number (image_numbers image) j 0)
-  condition-holds n t e f =
-      let start : readers_at + 8 * j + 0 ≡ readers_at + 8 * j = omega arith in
-      f ∙ ap (within 0 2) (e ∙ ap (number_at 1 image) (sym start) ∙ sym (slot_at image j 0 low (omega arith)))
-
-  -- the condition is out of range
-  pub slot-stop : (n : ℕ) (t : Bool) → n ≡ number_at 1 image (readers_at + 8 * j) → t ≡ within 0 2 n → not t ≡ true → false ≡ slot_holds (image_numbers image) j
-  unfolding slot_holds
-  slot-stop n t e f m = call-stop (within 0 2 (reader_number (image_numbers image) j 0)) _ t (condition-holds n t e f) m
-
-  -- the record is left
-  pub slot-last : (n : ℕ) (r : Reader) (t u : Bool) → n ≡ number_at 1 image (readers_at + 8 * j) → t ≡ within 0 2 n → not t ≡ false
-      → r ≡ reader_from (image_numbers image) j → u ≡ reader_holds (sized_with sizes fetching) r → u ≡ slot_holds (image_numbers image) j
-  unfolding slot_holds
-  slot-last n r t u e f m g k =
-      call-pass (within 0 2 (reader_number (image_numbers image) j 0)) _ t _ (condition-holds n t e f) m (record-holds r u g k)
+readers-sized s rs = refl
 
 -- not refused by `no_range` is in place
 pub range-holds : (size position last : ℕ) (q : Bool) → q ≡ no_range_in size position last → not q ≡ (within 1 size last && leb position last)

@@ -1,19 +1,13 @@
 -- The state that an image's numbers are of, read number by number. Assumes nothing.
-use mathlib.Core.Path.{◌≡◌, refl, sym, ap, ap₂, ◌∙◌}
-use mathlib.Core.List.{List, map}
-use Prim.Native.Nat.{ℕ, zero, suc, ◌+◌, ◌*◌, ◌≤◌, ◌<◌}
-use native.Mathlib.Omega.{arith}
-use lib.ListN.{length, get_or, take, drop}
-use lib.Dec.{leb}
-use lib.Seq.{ext_get_or, get_or-take, get_or-drop}
-use Rattle.rules.specs.Lists.{range, each}
-use Rattle.rules.specs.Calls.{idle}
-use Rattle.rules.specs.Readers.{reader_at, mark_at}
+use Rattle.std.proofs.Common.{ℕ, ◌≡◌, ◌+◌, ◌*◌, ◌≤◌, ◌<◌, Bool, true, false, ◌&&◌, List, map, length, get_or, take, drop, leb, refl, sym, ap, ◌∙◌, arith}
+use borrow.Author.Tests.{le-leb, lt-leb}
+use lib.Seq.{ext_get_or}
+use Rattle.rules.specs.Lists.{range, each, every}
+use Rattle.rules.specs.Calls.{idle, rule_of}
 use Rattle.rules.specs.Views.{state_of, view_of}
-use Rattle.rules.specs.Image.{layout, condition_of, reader_number, reader_from, state_from, mark_holds, image_numbers}
+use Rattle.rules.specs.Image.{layout, condition_number, condition_of, rule_number, reader_number, reader_from, state_from, image_numbers}
 use Rattle.rules.proofs.laws.Indexed.{part-listed, length-listed, get_or-listed}
 use Rattle.rules.proofs.images.Tables.{numbers-length}
-use Rattle.rules.proofs.images.Layouts.{reader-from}
 use Rattle.rules.proofs.images.Offsets.{
   sizes_at,
   readers_at,
@@ -34,16 +28,37 @@ use Rattle.rules.proofs.images.Offsets.{
   attaches-at,
 }
 use Rattle.image.specs.Bytes.{number_at, number_from, numbers_at, state_in}
+use Rattle.image.specs.Tests.{known_condition, readable}
 use Rattle.rules.specs.declared.View.{View}
 use Rattle.rules.specs.declared.Reader.{Reader}
+use Rattle.rules.specs.declared.Rule.{Rule}
+use Rattle.rules.specs.declared.Rule.TheVariants.{Of1989, Of1993}
 use Rattle.rules.specs.declared.Condition.{Condition}
-use Rattle.rules.specs.declared.Condition.TheVariants.{Waiting}
+use Rattle.rules.specs.declared.Condition.TheVariants.{Empty, Running, Waiting}
 
--- a number above 1 stands for a waiting reader
-pub waiting-of : (n : ℕ) → (n ≡ 0 → ⊥) → (n ≡ 1 → ⊥) → Waiting ≡ condition_of n
-waiting-of zero z o = absurd (z refl)
-waiting-of (suc zero) z o = absurd (o refl)
-waiting-of (suc (suc n)) z o = refl
+-- the second of two tests fails
+not-and : (a b : Bool) → b ≡ false → (a && b) ≡ false
+not-and true b e = e
+not-and false b e = refl
+
+-- a condition and a rule are those of their numbers
+of-condition : (c : Condition) → condition_of (condition_number c) ≡ c
+of-condition Empty = refl
+of-condition Running = refl
+of-condition Waiting = refl
+
+of-rule : (r : Rule) → rule_of (rule_number r) ≡ r
+of-rule Of1989 = refl
+of-rule Of1993 = refl
+
+condition-high : (c : Condition) → condition_number c ≤ 2
+condition-high Empty = omega arith
+condition-high Running = omega arith
+condition-high Waiting = omega arith
+
+pub rule-high : (r : Rule) → rule_number r ≤ 1
+rule-high Of1989 = omega arith
+rule-high Of1993 = omega arith
 
 module _ (image : List ℕ) where
   numbers-long : length (image_numbers image) ≡ 384
@@ -61,33 +76,59 @@ module _ (image : List ℕ) where
       get_or-listed f n k 0 low ∙ sym (at k low) ∙ sym (get_or-listed g n k 0 low))
       ∙ sym (part-listed (image_numbers image) 0 o n (omega (arith, numbers-long)))
 
-  -- the record of a slot
-  pub reader-read : (condition : Condition) (j number file pace position last : ℕ) → j < 16
-      → condition ≡ condition_of number
-      → number ≡ number_at 1 image (readers_at + 8 * j)
-      → file ≡ number_at 1 image (readers_at + 8 * j + 1)
-      → pace ≡ number_at 2 image (readers_at + 8 * j + 2)
-      → position ≡ number_at 2 image (readers_at + 8 * j + 4)
-      → last ≡ number_at 2 image (readers_at + 8 * j + 6)
-      → ◌≡◌ {A = Reader} (record { condition = condition; file = file; pace = pace; position = position; last = last }) (reader_from (image_numbers image) j)
-  reader-read condition j number file pace position last l e e₀ e₁ e₂ e₃ e₄ =
-      let start : readers_at + 8 * j + 0 ≡ readers_at + 8 * j = omega arith in
-      let first = slot_at image j 0 l (omega arith) ∙ ap (number_at 1 image) start in
-      λ i.
-      record {
-        condition = (e ∙ ap condition_of (e₀ ∙ sym first)) i;
-        file = (e₁ ∙ sym (slot_at image j 1 l (omega arith))) i;
-        pace = (e₂ ∙ sym (slot_at image j 2 l (omega arith))) i;
-        position = (e₃ ∙ sym (slot_at image j 3 l (omega arith))) i;
-        last = (e₄ ∙ sym (slot_at image j 4 l (omega arith))) i;
-      }
+  -- the number of a slot's condition
+  module _ (j number : ℕ) (l : j < 16) (e : number ≡ number_at 1 image (readers_at + 8 * j)) where
+    first : number ≡ reader_number (image_numbers image) j 0
+    first =
+        let start : readers_at + 8 * j + 0 ≡ readers_at + 8 * j = omega arith in
+        e ∙ ap (number_at 1 image) (sym start) ∙ sym (slot_at image j 0 l (omega arith))
+
+    -- is none's
+    pub condition-unknown : 2 < number → known_condition (image_numbers image) j ≡ false
+    condition-unknown h = ap (λ n. leb n 2) (sym first) ∙ lt-leb number 2 h
+
+    -- is that of one
+    pub condition-known : (c : Condition) → number ≡ condition_number c → known_condition (image_numbers image) j ≡ true
+    condition-known c f = ap (λ n. leb n 2) (sym first ∙ f) ∙ le-leb (condition_number c) 2 (condition-high c)
+
+    -- and the record of the slot
+    pub reader-read : (c : Condition) (file pace position last : ℕ) → number ≡ condition_number c
+        → file ≡ number_at 1 image (readers_at + 8 * j + 1)
+        → pace ≡ number_at 2 image (readers_at + 8 * j + 2)
+        → position ≡ number_at 2 image (readers_at + 8 * j + 4)
+        → last ≡ number_at 2 image (readers_at + 8 * j + 6)
+        → ◌≡◌ {A = Reader} (record { condition = c; file = file; pace = pace; position = position; last = last }) (reader_from (image_numbers image) j)
+    reader-read c file pace position last e₀ e₁ e₂ e₃ e₄ = λ i.
+        record {
+          condition = (sym (of-condition c) ∙ ap condition_of (sym e₀ ∙ first)) i;
+          file = (e₁ ∙ sym (slot_at image j 1 l (omega arith))) i;
+          pace = (e₂ ∙ sym (slot_at image j 2 l (omega arith))) i;
+          position = (e₃ ∙ sym (slot_at image j 3 l (omega arith))) i;
+          last = (e₄ ∙ sym (slot_at image j 4 l (omega arith))) i;
+        }
+
+  -- the number of the rule is none's
+  pub rule-unknown : (number : ℕ) → number ≡ number_at 1 image rule_at → 1 < number → readable (image_numbers image) ≡ false
+  rule-unknown number e h =
+      not-and (every (known_condition (image_numbers image)) (range 0 16)) _
+      (ap (λ n. leb n 1) (rule-at image ∙ sym e) ∙ lt-leb number 1 h)
+
+  -- is that of one
+  pub rule-known : (r : Rule) (number : ℕ) → number ≡ number_at 1 image rule_at → number ≡ rule_number r
+      → every (known_condition (image_numbers image)) (range 0 16) ≡ true → readable (image_numbers image) ≡ true
+  rule-known r number e f h =
+      rw (h, rule-at image ∙ sym e ∙ f) (le-leb (rule_number r) 1 (rule-high r))
+
+  -- a condition's is none's
+  pub conditions-unknown : every (known_condition (image_numbers image)) (range 0 16) ≡ false → readable (image_numbers image) ≡ false
+  conditions-unknown h = rw h
 
   -- the numbers of the files, the marks and the maps
-  pub sizes_read : numbers_at 2 image sizes_at 8 ≡ (state_in image).sizes
+  sizes_read : numbers_at 2 image sizes_at 8 ≡ (state_in image).sizes
   unfolding state_from
   sizes_read = part_at 2 sizes_at 5 8 (size-at image) (omega arith)
 
-  pub expected-read : numbers_at 2 image expected_start 8 ≡ (state_in image).expected
+  expected-read : numbers_at 2 image expected_start 8 ≡ (state_in image).expected
   unfolding state_from
   expected-read = part_at 2 expected_start 368 8 (expected-at image) (omega arith)
 
@@ -95,19 +136,9 @@ module _ (image : List ℕ) where
   unfolding state_from
   attaches-read = part_at 2 attaches_start 376 8 (attaches-at image) (omega arith)
 
-  pub marks-read : numbers_at 2 image marks_at 16 ≡ (state_in image).marks
+  marks-read : numbers_at 2 image marks_at 16 ≡ (state_in image).marks
   unfolding state_from
   marks-read = part_at 2 marks_at 350 16 (mark-at image) (omega arith)
-
-  -- the test of a mark
-  pub mark-read : (j mark position : ℕ) → j < 16 → mark ≡ number_at 2 image (marks_at + 2 * j) → position ≡ number_at 2 image (readers_at + 8 * j + 4)
-      → leb mark position ≡ mark_holds (state_in image) j
-  unfolding state_from
-  mark-read j mark position l e f =
-      let numbers = image_numbers image in
-      let here : mark_at (state_in image) j ≡ get_or numbers (350 + j) 0 = get_or-take 16 (drop 350 numbers) j 0 l ∙ get_or-drop 350 numbers j 0 in
-      let there : (reader_at (state_in image) j).position ≡ reader_number numbers j 3 = ap (λ r. r.position) (reader-from numbers j l) in
-      ap₂ leb (e ∙ sym (mark-at image j l) ∙ sym here) (f ∙ sym (slot_at image j 3 l (omega arith)) ∙ sym there)
 
   pub cached-read : numbers_at 8 image cached_at 128 ≡ (state_in image).cached
   unfolding state_from
@@ -122,15 +153,16 @@ module _ (image : List ℕ) where
   cached-long = ap length (sym cached-read) ∙ length-listed (number_from 8 image cached_at) 128
 
   -- the state but its maps
-  pub view-read : (frames turn look time : ℕ) (sizes : List ℕ) (readers : List Reader) (marks : List ℕ) (rule : ℕ) (expected attaches : List ℕ)
+  pub view-read : (frames turn look time : ℕ) (sizes : List ℕ) (readers : List Reader) (marks : List ℕ) (rule : Rule) (number : ℕ) (expected attaches : List ℕ)
       → frames ≡ number_at 2 image 0
       → turn ≡ number_at 1 image 2
       → look ≡ number_at 4 image 4
       → time ≡ number_at 4 image 8
       → sizes ≡ numbers_at 2 image sizes_at 8
       → readers ≡ map (reader_from (image_numbers image)) (range 0 16)
-      → marks ≡ (state_in image).marks
-      → rule ≡ number_at 1 image rule_at
+      → marks ≡ numbers_at 2 image marks_at 16
+      → number ≡ number_at 1 image rule_at
+      → number ≡ rule_number rule
       → expected ≡ numbers_at 2 image expected_start 8
       → attaches ≡ numbers_at 2 image attaches_start 8
       → ◌≡◌ {A = View}
@@ -148,14 +180,14 @@ module _ (image : List ℕ) where
       })
       (view_of (state_in image))
   unfolding state_from
-  view-read frames turn look time sizes readers marks rule expected attaches e₀ e₁ e₃ e₄ z r m e₅ x a = λ i.
+  view-read frames turn look time sizes readers marks rule number expected attaches e₀ e₁ e₃ e₄ z r m e₅ n x a = λ i.
       record {
-        marks = m i;
+        marks = (m ∙ marks-read) i;
         expected = (x ∙ expected-read) i;
         attaches = (a ∙ attaches-read) i;
         frames = (e₀ ∙ sym (setting-at image 0 (omega arith))) i;
         turn = (e₁ ∙ sym (setting-at image 1 (omega arith))) i;
-        rule = (e₅ ∙ sym (rule-at image)) i;
+        rule = (sym (of-rule rule) ∙ ap rule_of (sym n ∙ e₅ ∙ sym (rule-at image))) i;
         look_ahead = (e₃ ∙ sym (setting-at image 3 (omega arith))) i;
         fetch_time = (e₄ ∙ sym (setting-at image 4 (omega arith))) i;
         sizes = (z ∙ sizes_read) i;

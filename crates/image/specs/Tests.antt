@@ -1,27 +1,28 @@
 -- Restore's tests as its code makes them. Assumes nothing: these are definitions.
-use Rattle.std.specs.Prelude.{◌≡◌, ℕ, ◌≤◌, ◌+◌, ◌*◌, ◌-◌, Bool, not, ◌&&◌, ◌||◌, List, length, get_or, eqb}
-use Rattle.bits.specs.Map.{bit}
+use Rattle.std.specs.Prelude.{ℕ, ◌≤◌, ◌+◌, ◌*◌, ◌-◌, Bool, not, ◌&&◌, ◌||◌, List, get_or, leb, eqb}
+use Rattle.bits.specs.Map.{bit, ones}
 use Rattle.rules.specs.Lists.{range, every}
 use Rattle.rules.specs.Calls.{settings_in}
-use Rattle.rules.specs.Image.{image_length, unruled_length}
-use Rattle.image.specs.Bytes.{number_at, numbers_at, state_in}
-
--- these sizes and these fetches are those of the image
-pub record FromImage (image sizes fetching : List ℕ) : Type 0 where
-  pub long : length image ≡ image_length
-  pub sizes_read : sizes ≡ (state_in image).sizes
-  pub fetching_read : fetching ≡ (state_in image).fetching
+use Rattle.rules.specs.Readers.{no_reader}
+use Rattle.rules.specs.Image.{rule_number, reader_number, reader_holds}
+use Rattle.rules.specs.declared.State.{State}
+use Rattle.rules.specs.declared.Reader.{Reader}
 
 -- no size is too large
 abbrev pub SizesLow : List ℕ → Type 0
 SizesLow sizes = (f : ℕ) → get_or sizes f 0 ≤ 1024
 
--- frames, L, T, the sizes, the rule and the readers expected, each in its place, are in range: the rule stands where an image without one ends, E behind the
--- filler
-abbrev pub settings_from : List ℕ → List ℕ → Bool
-settings_from image sizes =
-    settings_in (number_at 2 image 0) (number_at 4 image 4) (number_at 4 image 8) sizes (number_at 1 image unruled_length)
-    (numbers_at 2 image (unruled_length + 2) 8)
+-- the number of a slot's condition is that of one
+abbrev pub known_condition : List ℕ → ℕ → Bool
+known_condition numbers slot = leb (reader_number numbers slot 0) 2
+
+-- and so are those of all slots and that of the rule
+abbrev pub readable : List ℕ → Bool
+readable numbers = every (known_condition numbers) (range 0 16) && leb (get_or numbers 366 0) 1
+
+-- a slot's mark is at most its position
+abbrev pub mark_in : List ℕ → List Reader → ℕ → Bool
+mark_in marks readers slot = leb (get_or marks slot 0) (get_or readers slot no_reader).position
 
 -- the page of key k is not in both maps
 abbrev pub apart_at : List ℕ → List ℕ → ℕ → Bool
@@ -38,3 +39,10 @@ clear_above cached fetching f size = every (clear_at cached fetching) (range (f 
 -- no page above the size of file f is
 abbrev pub size_holds : List ℕ → List ℕ → List ℕ → ℕ → Bool
 size_holds sizes cached fetching f = clear_above cached fetching f (get_or sizes f 0)
+
+-- the ranges, the readers, the marks, the room and the maps of what is read
+unfoldable pub tests : State → Bool
+tests s =
+    settings_in s.frames s.look_ahead s.fetch_time s.sizes (rule_number s.rule) s.expected
+    && (leb s.turn 15 && every (reader_holds s) s.readers && every (mark_in s.marks s.readers) (range 0 16) && leb (ones s.cached 0 8192) s.frames
+    && every (apart_at s.cached s.fetching) (range 0 8192) && every (size_holds s.sizes s.cached s.fetching) (range 0 8))

@@ -1,65 +1,136 @@
 // Numbers as bytes, the lowest first: put into a buffer, and read from an image.
 
-ghost use Rattle.std.specs.Prelude.{◌≡◌, ◌+◌, ◌≤◌, length};
-ghost use Rattle.rules.specs.Lists.{written};
+ghost use Rattle.std.specs.Prelude.{◌≡◌, ◌+◌, ◌*◌, ◌≤◌, ℕ, length, map};
+ghost use Rattle.rules.specs.Lists.{range, each, written};
 ghost use Rattle.rules.specs.Image.{bytes_of};
-ghost use Rattle.image.specs.Bytes.{number_at};
+ghost use Rattle.image.specs.Bytes.{number_at, number_from, numbers_at};
 
-pub(crate) fn put_u8(buffer: &mut [u8], at: usize, n: u8)
-    requires { at + 1 ≤ length buffer.old }
-    ensures { buffer.new ≡ written buffer.old at (bytes_of 1 n) }
-{
-    buffer[at] = n;
+// A number that is so many bytes wide.
+pub(crate) trait Number: Copy {
+    const WIDTH: usize;
+
+    ghost WIDTH: { ℕ };
+
+    ghost value: { Self → ℕ };
+
+    ghost of: { ℕ → Self };
+
+    fn put(self, buffer: &mut [u8], at: usize)
+        requires { at + WIDTH ≤ length buffer.old }
+        ensures { buffer.new ≡ written buffer.old at (bytes_of WIDTH (value self)) };
+
+    fn get(image: &[u8], at: usize) -> Self
+        requires { at + WIDTH ≤ length image.now }
+        ensures { result ≡ of (number_at WIDTH image.now at) };
 }
 
-pub(crate) fn put_u16(buffer: &mut [u8], at: usize, n: u16)
-    requires { at + 2 ≤ length buffer.old }
-    ensures { buffer.new ≡ written buffer.old at (bytes_of 2 n) }
-{
-    put_u8(buffer, at, (n % 256) as u8);
-    put_u8(buffer, at + 1, (n / 256) as u8);
+impl Number for u8 {
+    const WIDTH: usize = 1;
+
+    ghost WIDTH = { 1 };
+
+    ghost value = { λ n. n };
+
+    ghost of = { λ n. n };
+
+    fn put(self, buffer: &mut [u8], at: usize) {
+        buffer[at] = self;
+    }
+
+    fn get(image: &[u8], at: usize) -> u8 {
+        image[at]
+    }
 }
 
-pub(crate) fn put_u32(buffer: &mut [u8], at: usize, n: u32)
-    requires { at + 4 ≤ length buffer.old }
-    ensures { buffer.new ≡ written buffer.old at (bytes_of 4 n) }
-{
-    put_u16(buffer, at, (n % 65536) as u16);
-    put_u16(buffer, at + 2, (n / 65536) as u16);
+impl Number for u16 {
+    const WIDTH: usize = 2;
+
+    ghost WIDTH = { 2 };
+
+    ghost value = { λ n. n };
+
+    ghost of = { λ n. n };
+
+    fn put(self, buffer: &mut [u8], at: usize) {
+        buffer[at..at + 2].copy_from_slice(&self.to_le_bytes());
+    }
+
+    fn get(image: &[u8], at: usize) -> u16 {
+        u16::from_le_bytes([image[at], image[at + 1]])
+    }
 }
 
-pub(crate) fn put_u64(buffer: &mut [u8], at: usize, n: u64)
-    requires { at + 8 ≤ length buffer.old }
-    ensures { buffer.new ≡ written buffer.old at (bytes_of 8 n) }
-{
-    put_u32(buffer, at, (n % 4294967296) as u32);
-    put_u32(buffer, at + 4, (n / 4294967296) as u32);
+impl Number for u32 {
+    const WIDTH: usize = 4;
+
+    ghost WIDTH = { 4 };
+
+    ghost value = { λ n. n };
+
+    ghost of = { λ n. n };
+
+    fn put(self, buffer: &mut [u8], at: usize) {
+        buffer[at..at + 4].copy_from_slice(&self.to_le_bytes());
+    }
+
+    fn get(image: &[u8], at: usize) -> u32 {
+        u32::from_le_bytes([image[at], image[at + 1], image[at + 2], image[at + 3]])
+    }
 }
 
-pub(crate) fn get_u8(image: &[u8], at: usize) -> u8
-    requires { at + 1 ≤ length image.now }
-    ensures { result ≡ number_at 1 image.now at }
-{
-    image[at]
+impl Number for u64 {
+    const WIDTH: usize = 8;
+
+    ghost WIDTH = { 8 };
+
+    ghost value = { λ n. n };
+
+    ghost of = { λ n. n };
+
+    fn put(self, buffer: &mut [u8], at: usize) {
+        buffer[at..at + 8].copy_from_slice(&self.to_le_bytes());
+    }
+
+    fn get(image: &[u8], at: usize) -> u64 {
+        u64::from_le_bytes([
+            image[at],
+            image[at + 1],
+            image[at + 2],
+            image[at + 3],
+            image[at + 4],
+            image[at + 5],
+            image[at + 6],
+            image[at + 7],
+        ])
+    }
 }
 
-pub(crate) fn get_u16(image: &[u8], at: usize) -> u16
-    requires { at + 2 ≤ length image.now }
-    ensures { result ≡ number_at 2 image.now at }
+// Puts numbers one after the other: those of the files, the marks, the words of a map.
+pub(crate) fn put_all<N: Number>(buffer: &mut [u8], at: usize, numbers: &[N])
+    requires { at + N.WIDTH * length numbers.now ≤ length buffer.old }
+    ensures { buffer.new ≡ written buffer.old at (each (λ n. bytes_of N.WIDTH (N.value n)) numbers.now) }
 {
-    get_u8(image, at) as u16 + 256 * (get_u8(image, at + 1) as u16)
+    for (k, n) in numbers.iter().enumerate() {
+        n.put(buffer, at + N::WIDTH * k);
+    }
 }
 
-pub(crate) fn get_u32(image: &[u8], at: usize) -> u32
-    requires { at + 4 ≤ length image.now }
-    ensures { result ≡ number_at 4 image.now at }
+// Reads them, each into its place.
+pub(crate) fn get_all<N: Number>(numbers: &mut [N], image: &[u8], at: usize)
+    requires { at + N.WIDTH * length numbers.old ≤ length image.now }
+    ensures { numbers.new ≡ map (λ k. N.of (number_from N.WIDTH image.now at k)) (range 0 (length numbers.old)) }
 {
-    get_u16(image, at) as u32 + 65536 * (get_u16(image, at + 2) as u32)
+    for (k, n) in numbers.iter_mut().enumerate() {
+        *n = N::get(image, at + N::WIDTH * k);
+    }
 }
 
-pub(crate) fn get_u64(image: &[u8], at: usize) -> u64
-    requires { at + 8 ≤ length image.now }
-    ensures { result ≡ number_at 8 image.now at }
+// The same into a new array: a number for each file, or the marks.
+pub(crate) fn numbers_in<const LEN: usize>(image: &[u8], at: usize) -> [u16; LEN]
+    requires { at + 2 * LEN ≤ length image.now }
+    ensures { result ≡ numbers_at 2 image.now at LEN }
 {
-    get_u32(image, at) as u64 + 4294967296 * (get_u32(image, at + 4) as u64)
+    let mut numbers = [0u16; LEN];
+    get_all(&mut numbers, image, at);
+    numbers
 }

@@ -8,7 +8,7 @@ mod restoring;
 mod saving;
 mod upgrading;
 
-pub use restoring::{read_maps, restore_read, restore_whole};
+pub use restoring::restore_whole;
 pub use saving::{save, save_whole};
 pub use upgrading::restore;
 

@@ -1,38 +1,28 @@
 -- A chunk taken line by line: what each turn of the loop leaves to be taken. Assumes nothing.
-use Prim.Native.Nat.{ℕ, ◌+◌, ◌-◌, ◌≤◌, ◌<◌}
-use Prim.Native.Char.{code as ascii}
-use mathlib.Core.Path.{◌≡◌, refl, sym, ◌∙◌, ap}
-use mathlib.Core.Bool.{true, false, ◌&&◌, true≢false}
-use mathlib.Core.Logic.{⊎_elim}
-use mathlib.Core.List.{List, [], ◌∷◌, ◌++◌, append_assoc, append-nil}
-use native.Mathlib.Omega.{arith}
+use Rattle.std.proofs.Common.{ℕ, ◌+◌, ◌-◌, ◌<◌, ◌≤◌, ◌≡◌, true, false, ◌&&◌, eqb, leb, List, [], ◌∷◌, ◌++◌, length, get_or, take, drop, set, None}
+use Rattle.std.proofs.Common.{refl, sym, ◌∙◌, ap, true≢false, ⊎_elim, append_assoc, append-nil, arith, le-leb, eq-eqb, ne_eqb, leb-true, eqb-true}
+use Rattle.std.proofs.Common.{length-append, length-take, length-drop, length-set, drop_of_length-le, take-append-drop}
+use Rattle.std.proofs.Common.{length-take-le, take_all, take_at, drop_at, drop-drop, drop-set-lt, get_or-set_same}
 use borrow.Rule.Slice.PartMut.{put_mid}
-use borrow.Author.Tests.{le-leb, lt-leb, eq-eqb, ne_eqb, leb-true, eqb-true}
-use lib.ListN.{length, get_or, take, drop, set, length-append, length-take, length-drop, length-set, drop_of_length-le, take-append-drop}
-use lib.Seq.{length-take-le, take_all, take_at, drop_at, drop-drop, drop-set-lt, get_or-set_same}
-use lib.Dec.{eqb}
-use Rattle.rules.specs.Views.{state_of}
+use borrow.Author.Tests.{lt-leb}
+use Prim.Native.Char.{code as ascii}
 use Rattle.rules.specs.Valid.{Valid}
 use Rattle.rules.specs.Entries.{carried_out}
 use Rattle.rules.specs.Image.{image_of, restore_whole}
 use Rattle.rules.specs.Lines.{split, Response, respond_of}
 use Rattle.rules.specs.declared.State.{State}
-use Rattle.rules.specs.declared.View.{View}
-use Rattle.rules.specs.declared.Reply.{Reply}
-use Rattle.rules.specs.declared.Answer.TheVariants.{Refused, Done}
+use Rattle.rules.specs.declared.Answer.TheVariants.{Done}
 use Rattle.rules.proofs.images.Images.{done-or-not, whole-refused}
 use Rattle.rules.proofs.laws.Cases.{and-true, cond-all}
 use Rattle.rules.specs.Lists.{written}
-use Rattle.parts.specs.Held.{Held}
 use Rattle.text.specs.Written.{Put}
 use Rattle.text.specs.Commands.{first_piece, command_of}
 use Rattle.text.specs.Cuts.{end_of, text_in, kept}
 use Rattle.text.specs.Streams.{Fed, behind, answered}
 use Rattle.text.proofs.Pieces.{split-some}
-use Rattle.text.proofs.Keeps.{by_most, end_line, end-last, text-none, kept-over, kept-fits, kept-front, kept-length, kept_same, kept-none, copied-whole}
+use Rattle.text.proofs.Keeps.{by_most, end_line, end-last, text-none, kept-over, kept-fits, kept-front, kept_same, kept-none}
 use Rattle.text.proofs.Asks.{parsed-long}
-use Rattle.answers.specs.Responses.{answer_room, Roomy, line_end, Answered, Gives}
-use Rattle.answers.proofs.Replies.{carried-not}
+use Rattle.answers.specs.Responses.{answer_room, Roomy, line_end, Gives}
 use Rattle.lines.specs.Sessions.{taken, start_of, Gone, gone_of, Left, Taken, left_in, fed_in, ready, saved, feed_of, finish_of}
 use Rattle.lines.proofs.Kept.{respond-kept}
 
@@ -47,9 +37,9 @@ module _ (text chunk : List ℕ) (from : ℕ) (out : List ℕ) where
   unfolding ready
   ready-other h n = rw (le-leb _ _ h, ne_eqb _ _ n)
 
-  pub ready-past : answer_room ≤ length out → length text ≡ 201 → length chunk < from → false ≡ ready text chunk from out
+  pub ready-last : answer_room ≤ length out → length text ≡ 201 → leb from (length chunk) ≡ ready text chunk from out
   unfolding ready
-  ready-past h e p = rw (le-leb _ _ h, eq-eqb _ _ e, lt-leb _ _ p)
+  ready-last h e = rw (le-leb _ _ h, eq-eqb _ _ e)
 
   pub ready-all : answer_room ≤ length out → length text ≡ 201 → from ≤ length chunk → true ≡ ready text chunk from out
   unfolding ready
@@ -64,25 +54,18 @@ module _ (text chunk : List ℕ) (from : ℕ) (out : List ℕ) where
 
 -- ---- a line that a piece completes
 
-module _ (zeros copy line text piece : List ℕ) (sized : length zeros ≡ length text)
-    (copied : copy ≡ written zeros 0 text) (joined : line ≡ kept copy (text_in copy ++ piece)) where
-  line-is : line ≡ kept text (text_in text ++ piece)
-  line-is = joined ∙ ap (λ t. kept t (text_in t ++ piece)) (copied ∙ copied-whole zeros text sized)
-
-  -- it is too long, and the whole buffer is too
-  pub command-long : length text ≡ 201 → 200 < get_or line 0 0 → command_of line ≡ command_of (text_in text ++ piece)
-  command-long all h =
-      let over : 200 < get_or (kept text (text_in text ++ piece)) 0 0 = rw line-is at h in
-      let whole : length line ≡ 201 = ap length line-is ∙ kept-length (text_in text ++ piece) text all in
-      parsed-long line (omega arith) ∙ sym (parsed-long (text_in text ++ piece) (kept-over (text_in text ++ piece) text over))
+module _ (line text piece : List ℕ) (joined : line ≡ kept text (text_in text ++ piece)) where
+  -- it is too long
+  pub command-long : 200 < get_or line 0 0 → None ≡ command_of (text_in text ++ piece)
+  command-long h = sym (parsed-long (text_in text ++ piece) (kept-over (text_in text ++ piece) text (rw joined at h)))
 
   -- it stands behind its length
   pub command-short : get_or line 0 0 ≤ 200 → command_of (take (1 + get_or line 0 0 - 1) (drop 1 line)) ≡ command_of (text_in text ++ piece)
   command-short h =
       let held = get_or (kept text (text_in text ++ piece)) 0 0 in
-      let fits : held ≤ 200 = rw line-is at h in
+      let fits : held ≤ 200 = rw joined at h in
       let width : 1 + held - 1 ≡ held = omega arith in
-      rw (line-is, width, kept-front (text_in text ++ piece) text (kept-fits (text_in text ++ piece) text fits))
+      rw (joined, width, kept-front (text_in text ++ piece) text (kept-fits (text_in text ++ piece) text fits))
 
 -- ---- the pieces from a place on
 
@@ -189,27 +172,8 @@ pub record Going (start : State) (text₀ chunk : List ℕ) (from : ℕ) (out₀
   pub sized : length text ≡ 201
   pub bytes : drop 1 text ≡ drop 1 text₀
   pub emptied : 0 < len → get_or text 0 0 ≡ 0
-  pub valid : Valid s
   pub ends : end ≡ end_of chunk next
   pub inside : next ≤ length chunk
-
--- no line yet
-pub going-none : (s : State) (text chunk : List ℕ) (from : ℕ) (out : List ℕ) (end : ℕ) → Valid s → length text ≡ 201
-    → from ≤ length chunk → end ≡ end_of chunk from
-    → Going s text chunk from out s text out from 0 end
-going-none s text chunk from out end v sized inside ends =
-    record {
-      same = refl;
-      fits = omega arith;
-      past = refl;
-      long = refl;
-      sized = sized;
-      bytes = refl;
-      emptied = λ h. absurd (omega arith);
-      valid = v;
-      ends = ends;
-      inside = inside;
-    }
 
 module _ (start : State) (text₀ chunk : List ℕ) (from : ℕ) (out₀ : List ℕ) (s : State) (text out : List ℕ) (next len end : ℕ)
     (k : Going start text₀ chunk from out₀ s text out next len end) where
@@ -220,34 +184,35 @@ module _ (start : State) (text₀ chunk : List ℕ) (from : ℕ) (out₀ : List 
   out-is = rw (← k.past) (take-append-drop len out)
 
   -- an answer more, whatever it is, fits
-  pub going-fits : (r : Response) (part : List ℕ) (a : Answered) → Gives r (take (length out - len) (drop len out)) part a
-      → length (put_mid len (length out - len) out part) ≡ length out → len + a.len ≤ length out₀
-  going-fits r part a g same =
+  pub going-fits : (r : Response) (part : List ℕ) (t : State) (more : ℕ)
+      → Gives r (take (length out - len) (drop len out)) part t more
+      → length (put_mid len (length out - len) out part) ≡ length out → len + more ≤ length out₀
+  going-fits r part t more g same =
       let bytes = r.line ++ line_end in
-      let p = put-behind out part len a.len bytes k.fits g.line in
+      let p = put-behind out part len more bytes k.fits g.line in
       let after = put_mid len (length out - len) out part in
-      let whole_is = ap length (whole out after bytes len (len + a.len) k.fits p) in
+      let whole_is = ap length (whole out after bytes len (len + more) k.fits p) in
       omega (
         arith,
         k.long,
         same,
         whole_is,
-        length-append (take len out ++ bytes) (drop (len + a.len) out),
-        front out after bytes len (len + a.len) k.fits p,
+        length-append (take len out ++ bytes) (drop (len + more) out),
+        front out after bytes len (len + more) k.fits p,
       )
 
   -- one line more, which leaves the text empty
-  pub going_more : end < length chunk → answer_room ≤ length out - len → (part : List ℕ) (a : Answered)
-      → Gives (respond_of s (text_in text ++ take (end - next) (drop next chunk))) (take (length out - len) (drop len out)) part a
+  pub going_more : end < length chunk → answer_room ≤ length out - len → (part : List ℕ) (t : State) (more : ℕ)
+      → Gives (respond_of s (text_in text ++ take (end - next) (drop next chunk))) (take (length out - len) (drop len out)) part t more
       → length (put_mid len (length out - len) out part) ≡ length out → (none : List ℕ) → none ≡ set text 0 0 → (to : ℕ) → to ≡ end_of chunk (end + 1)
-      → Going start text₀ chunk from out₀ a.state none (put_mid len (length out - len) out part) (end + 1) (len + a.len) to
-  going_more h room part a g same none emptied to ends =
+      → Going start text₀ chunk from out₀ t none (put_mid len (length out - len) out part) (end + 1) (len + more) to
+  going_more h room part t more g same none emptied to ends =
       let line = text_in text ++ take (end - next) (drop next chunk) in
       let f : Fed = record { state = s; text = text_in text; output = take len out } in
       let bytes = (respond_of s line).line ++ line_end in
-      let p = put-behind out part len a.len bytes k.fits g.line in
+      let p = put-behind out part len more bytes k.fits g.line in
       let after = put_mid len (length out - len) out part in
-      let front-is = put_front out after bytes len (len + a.len) k.fits p in
+      let front-is = put_front out after bytes len (len + more) k.fits p in
       let first : 0 < length text = omega (arith, k.sized) in
       let zero : get_or none 0 0 ≡ 0 = rw emptied (get_or-set_same text 0 0 0 first) in
       let here : end_of chunk next < length chunk = rw (← k.ends) h in
@@ -255,27 +220,22 @@ module _ (start : State) (text₀ chunk : List ℕ) (from : ℕ) (out₀ : List 
       let step : taken (length out₀) f next (split (ascii "\n") (drop next chunk))
       ≡ taken (length out₀) (answered f line) (end + 1) (split (ascii "\n") (drop (end + 1) chunk))
       = rw k.ends (taken-line (length out₀) f chunk next here fits) in
-      let fed : answered f line ≡ record { state = a.state; text = text_in none; output = take (len + a.len) after } =
-      rw (g.state, text-none none zero, front-is) in
+      let fed : answered f line ≡ record { state = t; text = text_in none; output = take (len + more) after } =
+      rw (g.state_is, text-none none zero, front-is) in
       record {
         same = k.same ∙ step ∙ ap (λ g. taken (length out₀) g (end + 1) (split (ascii "\n") (drop (end + 1) chunk))) fed;
-        fits = rw (same, k.long) (going-fits (respond_of s line) part a g same);
-        past = put-past out after bytes len (len + a.len) k.fits p ∙ further;
+        fits = rw (same, k.long) (going-fits (respond_of s line) part t more g same);
+        past = put-past out after bytes len (len + more) k.fits p ∙ further;
         long = same ∙ k.long;
         sized = rw emptied (length-set text 0 0 ∙ k.sized);
         bytes = rw emptied (drop-set-lt 1 text 0 0 (omega arith) ∙ k.bytes);
         emptied = λ _. zero;
-        valid = rw g.state (respond-kept s line k.valid);
         ends = ends;
         inside = omega arith;
       }
     where
-      further : drop (len + a.len) out ≡ drop (len + a.len) out₀
-      further = sym (drop-drop a.len len out) ∙ ap (drop a.len) k.past ∙ drop-drop a.len len out₀
-
-  -- the next line is further on
-  pub going-far : next ≤ end
-  going-far = omega (arith, k.ends)
+      further : drop (len + more) out ≡ drop (len + more) out₀
+      further = sym (drop-drop more len out) ∙ ap (drop more) k.past ∙ drop-drop more len out₀
 
   -- no line ends: the bytes left go behind the text
   pub going-rest : length chunk ≤ end → (to : ℕ) (after : List ℕ) → (to ≡ length chunk) × (after ≡ kept text (text_in text ++ drop next chunk))
@@ -301,13 +261,6 @@ module _ (start : State) (text₀ chunk : List ℕ) (from : ℕ) (out₀ : List 
       let text_is : kept text₀ (text_in text) ≡ text = ap (kept text₀) (text-none text zero) ∙ kept-none text₀ text k.sized zero k.bytes in
       rw (t, output-is, text_is, out-is, e.0, e.1)
 
--- the loop's variables by what the branch that was taken left in them
-pub going-joined : (start : State) (text₀ chunk : List ℕ) (from : ℕ) (out₀ text : List ℕ) (next end : ℕ)
-    (v w : View) (c d f g h i out after : List ℕ) (len most : ℕ) → d ≡ c → g ≡ f → i ≡ h → after ≡ out → w ≡ v → most ≡ len
-    → Going start text₀ chunk from out₀ (state_of v c f) text out next len end → Held c h
-    → Going start text₀ chunk from out₀ (state_of w d g) text after next most end × Held d i
-going-joined start text₀ chunk from out₀ text next end v w c d f g h i out after len most a b e j m n k held = rw (a, b, e, j, m, n) (k, held)
-
 -- ---- on lent buffers
 
 module _ (image text chunk : List ℕ) (from : ℕ) (out : List ℕ) where
@@ -328,32 +281,20 @@ module _ (image text chunk : List ℕ) (from : ℕ) (out : List ℕ) where
   unfolding feed_of
   feed-taken t e = rw (t, e)
 
-module _ (image : List ℕ) (r : Reply) (restored : r ≡ restore_whole image) where
-  -- what Restore's answer says
-  pub answer-refused : (n : ℕ) → r.answer ≡ Refused n → carried_out (restore_whole image).answer ≡ false
-  answer-refused n e = rw (← restored, e)
-
-  pub answer-taken : ((n : ℕ) → r.answer ≡ Refused n → ⊥) → carried_out (restore_whole image).answer ≡ true
-  answer-taken k = rw (← restored) (carried-not r.answer k)
-
 -- an image that is not refused is done
 pub taken-done : (image : List ℕ) → carried_out (restore_whole image).answer ≡ true → (restore_whole image).answer ≡ Done
 taken-done image e =
     ⊎_elim (λ d. d) (λ n. absurd (true≢false (sym e ∙ ap (λ q. carried_out q.answer) (whole-refused image n)))) (done-or-not image)
 
--- lines were taken: the state is valid, and its image is saved
-module _ (s : State) (text chunk : List ℕ) (from : ℕ) (out : List ℕ) (g : Gone) (went : g ≡ gone_of s text chunk from out) where
-  pub gone-valid : Valid s → Valid g.state
-  unfolding gone_of
-  gone-valid v = rw went (taken-valid (length out) (split (ascii "\n") (drop from chunk)) (start_of s text) from v)
-
-  pub feed-went : (image : List ℕ) → ready text chunk from out ≡ true → carried_out (restore_whole image).answer ≡ true → s ≡ (restore_whole image).state
-      → (after : List ℕ) → after ≡ image_of g.state
-      → fed_in (record { next = g.next; len = g.len }) after g.text g.out ≡ feed_of image text chunk from out
-  feed-went image t e same after is =
-      ap (λ i. fed_in (record { next = g.next; len = g.len }) i g.text g.out) is
-      ∙ ap saved (went ∙ ap (λ r. gone_of r text chunk from out) same)
-      ∙ feed-taken image text chunk from out t e
+-- lines were taken, and the image of the state after them is saved
+pub feed-went : (image text chunk : List ℕ) (from : ℕ) (out : List ℕ) (s : State) (g : Gone) (after : List ℕ)
+    → ready text chunk from out ≡ true → carried_out (restore_whole image).answer ≡ true → s ≡ (restore_whole image).state
+    → g ≡ gone_of s text chunk from out → after ≡ image_of g.state
+    → fed_in (record { next = g.next; len = g.len }) after g.text g.out ≡ feed_of image text chunk from out
+feed-went image text chunk from out s g after t e same went is =
+    ap (λ i. fed_in (record { next = g.next; len = g.len }) i g.text g.out) is
+    ∙ ap saved (went ∙ ap (λ r. gone_of r text chunk from out) same)
+    ∙ feed-taken image text chunk from out t e
 
 -- the answers are in their buffer, whatever the buffers
 pub feed-fits : (image text chunk : List ℕ) (from : ℕ) (out : List ℕ) (t : Taken) → t ≡ feed_of image text chunk from out → t.left.len ≤ length t.left.out

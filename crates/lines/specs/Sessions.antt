@@ -2,7 +2,6 @@
 -- definitions.
 use Rattle.std.specs.Prelude.{ℕ, ◌+◌, ◌≡◌, Bool, cond, ◌&&◌, List, [], ◌∷◌, ◌++◌, get_or, length, drop, replicate, leb, eqb}
 use Prim.Native.Char.{code as ascii}
-use Rattle.rules.specs.Views.{state_of}
 use Rattle.rules.specs.Valid.{Valid}
 use Rattle.rules.specs.Entries.{carried_out}
 use Rattle.rules.specs.Image.{image_of, restore_whole}
@@ -11,7 +10,6 @@ use Rattle.rules.specs.declared.State.{State}
 use Rattle.text.specs.Cuts.{text_room, clipped, text_in, kept}
 use Rattle.text.specs.Streams.{OnePiece, Fed, behind, answered}
 use Rattle.answers.specs.Responses.{answer_room, line_end}
-use Rattle.lines.specs.declared.Went.{Went}
 use Rattle.lines.specs.declared.Progress.{Progress}
 
 -- ---- a chunk line by line
@@ -57,9 +55,8 @@ unfoldable pub gone_of : State → List ℕ → List ℕ → ℕ → List ℕ �
 gone_of s text chunk from out = gone text out (taken (length out) (start_of s text) from (split (ascii "\n") (drop from chunk)))
 
 -- as the code has it
-abbrev pub gone_in : Went → List ℕ → List ℕ → List ℕ → List ℕ → Gone
-gone_in r cached fetching text out =
-    record { state = state_of r.view cached fetching; text = text; out = out; next = r.next; len = r.len }
+abbrev pub gone_in : State → Progress → List ℕ → List ℕ → Gone
+gone_in s r text out = record { state = s; text = text; out = out; next = r.next; len = r.len }
 
 -- ---- the lent buffers
 

@@ -1,9 +1,5 @@
 -- A chunk fed piece by piece. Assumes nothing.
-use Prim.Native.Nat.{ℕ, ◌≤◌, ◌<◌}
-use mathlib.Core.Path.{◌≡◌, refl, sym, subst, ◌∙◌, ap}
-use mathlib.Core.List.{List}
-use native.Mathlib.Omega.{arith}
-use lib.ListN.{length, drop, drop_of_length-le}
+use Rattle.std.proofs.Common.{ℕ, ◌<◌, ◌≤◌, ◌≡◌, List, length, drop, refl, sym, subst, ◌∙◌, ap, arith, drop_of_length-le}
 use Rattle.rules.specs.Calls.{idle}
 use Rattle.rules.specs.Image.{image_of}
 use Rattle.text.specs.Streams.{Fed, feed, unfed}
@@ -11,17 +7,11 @@ use Rattle.text.proofs.Feeds.{feed-none}
 use Rattle.answers.specs.Responses.{Roomy}
 use Rattle.lines.specs.Sessions.{no_text, feed_of, StandsIn}
 use Rattle.lines.proofs.Stands.{stands_on, stands-first}
-use Rattle.quay.specs.Program.{Stands, Within, Handed, handed_in, handed_of}
-use Rattle.quay.specs.declared.Input.{Input}
-use Rattle.quay.specs.declared.Input.TheVariants.{Bytes}
+use Rattle.quay.specs.Program.{Stands, Handed, handed_in, handed_of}
 
 -- the program starts idle, with no text
 pub starts : (image text : List ℕ) → image ≡ image_of idle → text ≡ no_text → Stands image text
 starts image text e t = (unfed, subst (λ i. StandsIn i text unfed) (sym e) (subst (λ u. StandsIn (image_of idle) u unfed) (sym t) stands-first))
-
--- no more bytes were read than the chunk has
-pub bytes-within : (r : Input) (n : ℕ) (chunk : List ℕ) → r ≡ Bytes n → Within r chunk → n ≤ length chunk
-bytes-within r n chunk e w = subst (λ q. Within q chunk) e w
 
 -- a chunk is fed so far: what is left of it is still to be fed
 pub record FedTo (image text chunk now held : List ℕ) (next : ℕ) : Type 0 where

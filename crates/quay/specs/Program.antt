@@ -1,19 +1,11 @@
 -- The program between two chunks of its input, and what it hands to the writer. Assumes nothing: these are definitions.
-use Rattle.std.specs.Prelude.{List, ℕ, ◌≤◌, length, take}
+use Rattle.std.specs.Prelude.{List, ℕ, take}
 use Rattle.text.specs.Streams.{Fed}
 use Rattle.lines.specs.Sessions.{Left, Taken, StandsIn}
-use Rattle.quay.specs.declared.Input.{Input}
-use Rattle.quay.specs.declared.Input.TheVariants.{Bytes, End, Failed}
 
 -- an image and a text that stand for the program after some input
 abbrev pub Stands : List ℕ → List ℕ → Type 0
 Stands image text = (f : Fed) × StandsIn image text f
-
--- no more bytes were read than the chunk has
-abbrev pub Within : Input → List ℕ → Type 0
-Within (Bytes n) chunk = n ≤ length chunk
-Within End chunk = Unit {0}
-Within Failed chunk = Unit {0}
 
 -- the answers stand at the front of their buffer
 abbrev pub answers_in : Left → List ℕ

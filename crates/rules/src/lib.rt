@@ -3,10 +3,10 @@
 
 #![tactic(auto)]
 
-ghost use Rattle.std.specs.Prelude.{◌≡◌, ◌+◌, ◌*◌};
+ghost use Rattle.std.specs.Prelude.{◌≡◌, ◌+◌, ◌*◌, ◌<◌, MatchResult};
 ghost use Rattle.rules.specs.Pages.{key_of};
 ghost use Rattle.rules.specs.Calls.{rule_of};
-ghost use Rattle.rules.specs.Image.{rule_number};
+ghost use Rattle.rules.specs.Image.{condition_number, rule_number};
 ghost use Rattle.rules.specs.Refusals.{refusal_number};
 ghost use Rattle.rules.specs.Entries.{code, carried_out};
 ghost use Rattle.rules.specs.declared.Answer.TheVariants.{Refused};
@@ -27,13 +27,6 @@ pub enum Rule {
 }
 
 impl Rule {
-    // Its number in an image.
-    pub fn number(self) -> u8
-        ensures { result ≡ rule_number self }
-    {
-        self as u8
-    }
-
     // The rule of a number. One above 1 has none, and is refused before this is asked.
     pub fn from_number(number: u64) -> Rule
         ensures { result ≡ rule_of number }
@@ -42,6 +35,55 @@ impl Rule {
             return Rule::Of1989;
         }
         Rule::Of1993
+    }
+}
+
+// No condition, or no steal rule, has this number.
+#[derive(Clone, Copy)]
+pub struct NoNumber;
+
+impl From<Condition> for u8 {
+    ghost from_gives = { λ c n. n ≡ condition_number c };
+
+    fn from(condition: Condition) -> u8 {
+        condition as u8
+    }
+}
+
+impl TryFrom<u8> for Condition {
+    type Error = NoNumber;
+
+    ghost try_from_gives = { λ n r. MatchResult r (λ c. n ≡ condition_number c) (λ _. 2 < n) };
+
+    fn try_from(n: u8) -> Result<Condition, NoNumber> {
+        match n {
+            0 => Ok(Condition::Empty),
+            1 => Ok(Condition::Running),
+            2 => Ok(Condition::Waiting),
+            _ => Err(NoNumber),
+        }
+    }
+}
+
+impl From<Rule> for u8 {
+    ghost from_gives = { λ rule n. n ≡ rule_number rule };
+
+    fn from(rule: Rule) -> u8 {
+        rule as u8
+    }
+}
+
+impl TryFrom<u8> for Rule {
+    type Error = NoNumber;
+
+    ghost try_from_gives = { λ n r. MatchResult r (λ rule. n ≡ rule_number rule) (λ _. 1 < n) };
+
+    fn try_from(n: u8) -> Result<Rule, NoNumber> {
+        match n {
+            0 => Ok(Rule::Of1989),
+            1 => Ok(Rule::Of1993),
+            _ => Err(NoNumber),
+        }
     }
 }
 

@@ -12,6 +12,7 @@ use lib.Dec.{eqb}
 use Rattle.rules.specs.Lists.{each}
 use Rattle.rules.specs.Calls.{refused}
 use Rattle.rules.specs.Lines.{split, well_formed, told, respond_of, lines_of, answers, program_of}
+use Rattle.rules.specs.declared.Refusal.TheVariants.{NoRequest}
 use Rattle.rules.specs.declared.State.{State}
 use Rattle.text.specs.Commands.{first_piece}
 use Rattle.text.specs.Streams.{OnePiece, complete, rest, state_after, Fed, obeying, behind, answered, feed, feed_all, unfed, output_of}
@@ -230,6 +231,6 @@ feed-part f chunk e one = rw (one-join (ascii "\n") f.text chunk e, one, append-
 -- ---- long lines
 
 -- a line of more than 200 bytes is refused, whatever its bytes
-pub long-refused : (s : State) (line : List ℕ) → 200 < length line → respond_of s line ≡ told (refused s 14)
+pub long-refused : (s : State) (line : List ℕ) → 200 < length line → respond_of s line ≡ told (refused s NoRequest)
 unfolding respond_of well_formed
 long-refused s line h = rw (lt-leb _ _ h)

@@ -1,13 +1,9 @@
 -- Where a line of a chunk ends, and the text in its buffer. Assumes nothing.
-use Prim.Native.Nat.{ℕ, suc, ◌+◌, ◌-◌, ◌≤◌, ◌<◌}
+use Rattle.std.proofs.Common.{ℕ, suc, ◌+◌, ◌-◌, ◌≤◌, ◌<◌, ◌≡◌, ◌∙◌, List, [], ◌∷◌, ◌++◌, length, get_or, take, drop, set, leb, eqb}
+use Rattle.std.proofs.Common.{refl, sym, ap, append_assoc, arith, le-leb}
+use Rattle.std.proofs.Common.{leb-true, leb-false, length-append, length-drop, length-take-le, take_at, drop-drop}
 use Prim.Native.Char.{code as ascii}
-use mathlib.Core.Path.{◌≡◌, refl, sym, ◌∙◌, ap}
-use mathlib.Core.List.{List, [], ◌∷◌, ◌++◌, append_assoc, append-nil}
-use native.Mathlib.Omega.{arith}
-use borrow.Author.Tests.{le-leb, lt-leb, leb-true, leb-false}
-use lib.ListN.{length, get_or, take, drop, set, length-append, length-drop, drop_of_length-le}
-use lib.Seq.{length-take-le, take-length, take_at, drop-drop, paste}
-use lib.Dec.{leb, eqb}
+use borrow.Author.Tests.{lt-leb}
 use Rattle.rules.specs.Lines.{split}
 use Rattle.text.specs.Commands.{first_piece}
 use Rattle.rules.specs.Lists.{written}
@@ -66,13 +62,6 @@ module _ (chunk : List ℕ) (from : ℕ) where
       (by_most (length (split (ascii "\n") (drop from chunk))) 1 (λ few. few)
       (λ two. absurd (omega (arith, (split-ended (ascii "\n") (drop from chunk) two).inside, length-drop from chunk))))
 
--- ---- bytes copied
-
--- a copy of all the bytes
-pub copied : (l : List ℕ) (at : ℕ) (bytes : List ℕ) (n : ℕ) → n ≡ length bytes → paste l at bytes n ≡ written l at bytes
-unfolding written
-copied l at bytes n e = rw (e, take-length, append_assoc)
-
 -- ---- the text in its buffer
 
 kept-short : (t buffer : List ℕ) → length t ≤ 200 → kept buffer t ≡ length t ∷ (t ++ drop (1 + length t) buffer)
@@ -100,13 +89,6 @@ module _ (t : List ℕ) where
   unfolding clipped
   clipped-short h = rw (le-leb _ _ h)
 
-  -- a text and the same as far as it matters are kept alike
-  pub kept-clipped : (buffer : List ℕ) → kept buffer (clipped t) ≡ kept buffer t
-  kept-clipped buffer =
-      by_most (length t) 200
-      (λ h. rw (clipped-short h))
-      (λ h. rw (clipped-long t h) (kept-long too_long buffer (omega arith) ∙ sym (kept-long t buffer h)))
-
   -- more bytes behind it
   pub clipped-more : (bytes : List ℕ) → clipped (clipped t ++ bytes) ≡ clipped (t ++ bytes)
   clipped-more bytes =
@@ -130,34 +112,36 @@ module _ (t : List ℕ) where
       (λ h. rw (kept-short t buffer h) (omega (arith, length-append t (drop (1 + length t) buffer), length-drop (1 + length t) buffer)))
       (λ h. rw (kept-long t buffer h) (omega (arith, length-drop 1 buffer)))
 
--- bytes put behind it: it was too long, gets too long, or has room for them
+-- bytes put behind it
 module _ (bytes : List ℕ) where
   joined : (x : ℕ) (rest : List ℕ) → length (x ∷ rest) ≡ 201 → x ≤ 200 → length (take x rest ++ bytes) ≡ x + length bytes
   joined x rest full h = omega (arith, length-append (take x rest) bytes, length-take-le x rest (omega arith))
 
-  pub append-long : (buffer : List ℕ) → length buffer ≡ 201 → 200 < get_or buffer 0 0 → set buffer 0 201 ≡ kept buffer (text_in buffer ++ bytes)
-  append-long [] full h = absurd (omega arith)
-  append-long (x ∷ rest) full h =
-      let over : 200 < length (too_long ++ bytes) = rw (length-append too_long bytes) (omega arith) in
-      rw (text-long x rest h, kept-long (too_long ++ bytes) (x ∷ rest) over)
-
-  pub append-over : (buffer : List ℕ) → length buffer ≡ 201 → get_or buffer 0 0 ≤ 200 → 200 - get_or buffer 0 0 < length bytes
+  -- the text gets too long, or was
+  pub append-over : (buffer : List ℕ) → length buffer ≡ 201 → 200 < get_or buffer 0 0 + length bytes
       → set buffer 0 201 ≡ kept buffer (text_in buffer ++ bytes)
-  append-over [] full h k = absurd (omega arith)
-  append-over (x ∷ rest) full h k =
-      let over : 200 < length (take x rest ++ bytes) = omega (arith, joined x rest full h) in
-      rw (text-short x rest h, kept-long (take x rest ++ bytes) (x ∷ rest) over)
+  append-over [] full h = absurd (omega arith)
+  append-over (x ∷ rest) full h =
+      by_most x 200
+      (λ k.
+      let over : 200 < length (take x rest ++ bytes) = omega (arith, joined x rest full k) in
+      rw (text-short x rest k, kept-long (take x rest ++ bytes) (x ∷ rest) over))
+      (λ k.
+      let over : 200 < length (too_long ++ bytes) = rw (length-append too_long bytes) (omega arith) in
+      rw (text-long x rest k, kept-long (too_long ++ bytes) (x ∷ rest) over))
 
-  pub append-fits : (buffer : List ℕ) → length buffer ≡ 201 → get_or buffer 0 0 ≤ 200 → length bytes ≤ 200 - get_or buffer 0 0
+  -- it has room for the bytes
+  pub append-fits : (buffer : List ℕ) → length buffer ≡ 201 → get_or buffer 0 0 + length bytes ≤ 200
       → set (written buffer (1 + get_or buffer 0 0) bytes) 0 (get_or buffer 0 0 + length bytes) ≡ kept buffer (text_in buffer ++ bytes)
   unfolding written
-  append-fits [] full h k = absurd (omega arith)
-  append-fits (x ∷ rest) full h k =
-      let long = joined x rest full h in
+  append-fits [] full h = absurd (omega arith)
+  append-fits (x ∷ rest) full h =
+      let low : x ≤ 200 = omega arith in
+      let long = joined x rest full low in
       let fits : length (take x rest ++ bytes) ≤ 200 = omega (arith, long) in
       let sum : 1 + x ≡ suc x = omega arith in
       let far : 1 + x + length bytes ≡ 1 + (x + length bytes) = omega arith in
-      rw (text-short x rest h, kept-short (take x rest ++ bytes) (x ∷ rest) fits, long, append_assoc, far, sum)
+      rw (text-short x rest low, kept-short (take x rest ++ bytes) (x ∷ rest) fits, long, append_assoc, far, sum)
 
 -- ---- a text read back
 
@@ -209,8 +193,3 @@ pub kept-none : (a b : List ℕ) → length b ≡ 201 → get_or b 0 0 ≡ 0 →
 unfolding kept
 kept-none a [] full e h = absurd (omega arith)
 kept-none a (x ∷ rest) full e h = rw (e, h)
-
--- a buffer copied whole
-pub copied-whole : (l t : List ℕ) → length l ≡ length t → written l 0 t ≡ t
-unfolding written
-copied-whole l t e = let past : length l ≤ 0 + length t = omega arith in rw (drop_of_length-le l past, append-nil)

@@ -1,14 +1,8 @@
 -- The pieces between separators, and a walk over the bytes that finds them. Assumes nothing.
-use Prim.Native.Nat.{ℕ, suc, ◌+◌, ◌≤◌, ◌<◌}
-use mathlib.Core.Path.{◌≡◌, refl, sym, ◌∙◌, ap}
-use mathlib.Core.Bool.{Bool, true, false}
-use mathlib.Core.List.{List, [], ◌∷◌, ◌++◌, append_assoc, append-nil}
-use native.Mathlib.Omega.{arith}
-use native.Mathlib.Numerals.{add-one}
-use borrow.Author.Tests.{eq-eqb, ne_eqb, eqb-true}
-use lib.ListN.{length, get_or, take, drop, length-append, drop_of_length-le}
-use lib.Seq.{slice, slice_empty, take-suc, drop-cons, drop-append-le, length-take-le}
-use lib.Dec.{eqb}
+use Rattle.std.proofs.Common.{ℕ, suc, ◌+◌, ◌≤◌, ◌<◌, ◌≡◌, ◌∙◌, Some, None, Bool, true, false, cond, List, [], ◌∷◌, ◌++◌, length, get_or, take, drop, eqb}
+use Rattle.std.proofs.Common.{refl, sym, ap, append_assoc, append-nil, arith, add-one}
+use Rattle.std.proofs.Common.{eq-eqb, ne_eqb, eqb-true, length-append, drop_of_length-le, take-suc, drop-cons, length-take-le}
+use Rattle.std.proofs.Math.Seq.{slice, slice_empty, drop-append-le}
 use Rattle.rules.specs.Lines.{grow, split}
 use Rattle.text.specs.Commands.{first_piece}
 
@@ -21,6 +15,11 @@ onto bytes (piece ∷ pieces) = (bytes ++ piece) ∷ pieces
 pub by-test : {A : Type 0} (t : Bool) → (t ≡ true → A) → (t ≡ false → A) → A
 by-test true f g = f refl
 by-test false f g = g refl
+
+-- what is there if a test passes is not there: it fails
+pub none-if : {A : Type 0} (t : Bool) (x : A) → cond t (Some x) None ≡ None → t ≡ false
+none-if true x e = cc
+none-if false x e = refl
 
 grow-some : (t : Bool) (b : ℕ) (pieces : List (List ℕ)) → grow t b pieces ≡ get_or (grow t b pieces) 0 [] ∷ drop 1 (grow t b pieces)
 grow-some true b pieces = refl

@@ -1,17 +1,15 @@
--- Bytes written into a buffer, from the front or from the back, and the digits of a number. Assumes nothing.
-use Prim.Native.Nat.{ℕ, zero, suc, ◌+◌, ◌-◌, ◌/◌, ◌%◌, ◌^◌, ◌≤◌, ◌<◌}
+-- Bytes written into a buffer, and the digits of a number. Assumes nothing.
+use Rattle.std.proofs.Common.{ℕ, zero, suc, ◌+◌, ◌/◌, ◌%◌, ◌^◌, ◌≤◌, ◌<◌, ◌≡◌, ◌∙◌, Bool}
+use Rattle.std.proofs.Common.{true, false, cond, List, [], ◌∷◌, ◌++◌, reverse, take, drop, length, set, ltb}
+use Rattle.std.proofs.Common.{refl, sym, ap, append_assoc, append-nil, pow-suc, arith}
+use Rattle.std.proofs.Common.{lt-ltb, le-ltb, length-take-le, take_at, drop_at, length-append, length-set}
 use Prim.Native.Char.{code as ascii}
-use mathlib.Core.Path.{◌≡◌, refl, sym, ◌∙◌, ap}
-use mathlib.Core.Bool.{Bool, true, false, cond}
-use mathlib.Core.List.{List, [], ◌∷◌, ◌++◌, append_assoc, append-nil}
-use native.Mathlib.Nat.{pow-suc}
-use native.Mathlib.Omega.{arith}
-use borrow.Author.Tests.{lt-ltb, le-ltb}
-use lib.ListN.{length, set, length-append, length-set}
-use lib.Dec.{ltb}
+use Rattle.std.proofs.lemmas.List.{reverse-reverse, length-reverse}
+use Rattle.std.proofs.lemmas.Grind.{reverse_onto}
+use borrow.Rule.Slice.PartMut.{put_mid}
 use Rattle.rules.specs.Lines.{digits_of}
 use Rattle.rules.specs.Lists.{written}
-use Rattle.rules.proofs.laws.Lists.{written_none, written-front, written-more}
+use Rattle.rules.proofs.laws.Lists.{written_none, written_one, written-more}
 use Rattle.text.specs.Written.{Put}
 
 -- ---- a buffer
@@ -83,46 +81,63 @@ less n left tail (suc more) b d h =
 pub left_less : (n left : ℕ) (tail : List ℕ) → Left n left tail → 10 ≤ left → Left n (left / 10) ((ascii "0" + left % 10) ∷ tail)
 left_less n left tail l = less n left tail l.more l.below l.digits
 
--- ---- digits written from the last one back
+-- ---- digits written the last one first, and then turned round
 
--- the tail stands behind i, up to the end
-pub record Back (l : List ℕ) (n end left i : ℕ) (out : List ℕ) : Type 0 where
+-- those behind the number that is left stand from `at` up to i
+pub record Turned (l : List ℕ) (n at left i : ℕ) (out : List ℕ) : Type 0 where
   pub tail : List ℕ
   pub digits : Left n left tail
-  pub buffer : out ≡ written l (i + 1) tail
-  pub next_is : i + 1 + length tail ≡ end
+  pub buffer : out ≡ written l at (reverse tail)
+  pub next_is : i ≡ at + length tail
   pub same : length out ≡ length l
 
 -- nothing is written
-pub back_start : (l : List ℕ) (n end i : ℕ) → n < 10000000000 → i + 1 ≡ end → Back l n end n i l
-back_start l n end i h e =
-    let place : i + 1 + 0 ≡ end = omega arith in
-    record { tail = []; digits = left-all n h; buffer = written_none l (i + 1); next_is = place; same = refl }
+pub turned_start : (l : List ℕ) (n at : ℕ) → n < 10000000000 → Turned l n at n at l
+turned_start l n at h = record { tail = []; digits = left-all n h; buffer = written_none l at; next_is = omega arith; same = refl }
 
-module _ (l : List ℕ) (n end left i : ℕ) (out : List ℕ) (b : Back l n end left i out) where
-  write : (x : ℕ) → end ≤ length l → set out i x ≡ written l i (x ∷ b.tail)
-  write x h = rw b.buffer (written-front l i x b.tail (omega (arith, b.next_is)))
+-- a part of what is written turned round
+turn : (l ds : List ℕ) (at k : ℕ) → at + length ds ≤ length l → k ≡ length ds
+    → put_mid at k (written l at ds) (reverse (take k (drop at (written l at ds)))) ≡ written l at (reverse ds)
+unfolding written
+turn l ds at k h e =
+    let n : length (take at l) ≡ at = length-take-le at l (omega arith) in
+    let r : List ℕ = drop (at + length ds) l in
+    rw (e, drop_at (take at l) (ds ++ r) at n, take_at (take at l) (ds ++ r) at n, take_at ds r (length ds) refl, drop_at ds r (length ds) refl, length-reverse)
 
-  -- there is a place before
-  pub back-room : 10 ≤ left → length (digits_of 10 n) ≤ end → 1 ≤ i
-  back-room h k = omega (arith, left-some n (left / 10) _ (left_less n left b.tail b.digits h), b.next_is)
+module _ (l : List ℕ) (n at left i : ℕ) (out : List ℕ) (t : Turned l n at left i out) (room : at + length (digits_of 10 n) ≤ length l) where
+  -- there is a place for one more
+  pub turned-room : i < length out
+  turned-room = omega (arith, left-some n left t.tail t.digits, t.next_is, t.same)
+
+  write : (x : ℕ) → set out i x ≡ written l at (reverse (x ∷ t.tail))
+  write x =
+      let far : at + length (reverse t.tail) + 1 ≤ length l = rw length-reverse (omega (arith, turned-room, t.next_is, t.same)) in
+      let more : reverse (x ∷ t.tail) ≡ reverse t.tail ++ x ∷ [] = reverse_onto t.tail x [] in
+      let place : i ≡ at + length (reverse t.tail) = rw length-reverse t.next_is in
+      written_one out i x turned-room ∙ rw (t.buffer, place, more) (written-more l at (reverse t.tail) (x ∷ []) far)
 
   -- one digit more
-  pub back_step : 10 ≤ left → end ≤ length l → 1 ≤ i → Back l n end (left / 10) (i - 1) (set out i (ascii "0" + left % 10))
-  back_step h k r =
-      let j : i - 1 + 1 ≡ i = omega arith in
-      let place : i - 1 + 1 + suc (length b.tail) ≡ end = omega (arith, b.next_is) in
+  pub turned_step : 10 ≤ left → Turned l n at (left / 10) (i + 1) (set out i (ascii "0" + left % 10))
+  turned_step h =
+      let place : i + 1 ≡ at + suc (length t.tail) = omega (arith, t.next_is) in
       record {
-        tail = (ascii "0" + left % 10) ∷ b.tail;
-        digits = left_less n left b.tail b.digits h;
-        buffer = rw j (write (ascii "0" + left % 10) k);
+        tail = (ascii "0" + left % 10) ∷ t.tail;
+        digits = left_less n left t.tail t.digits h;
+        buffer = write (ascii "0" + left % 10);
         next_is = place;
-        same = length-set out i (ascii "0" + left % 10) ∙ b.same;
+        same = length-set out i (ascii "0" + left % 10) ∙ t.same;
       }
 
-  -- the last digit
-  pub back_end : (at : ℕ) → left < 10 → end ≤ length l → end ≡ at + length (digits_of 10 n) → Put l at (digits_of 10 n) (set out i (ascii "0" + left)) end
-  back_end at h k e =
-      let d = left-last n left b.tail b.digits h in
-      let j : i ≡ at = omega (arith, b.next_is, ap length d) in
-      record { buffer = write (ascii "0" + left) k ∙ rw (d, j); next_is = e }
+  -- the last digit, and all are turned
+  pub turned_end : left < 10 → (k : ℕ) → at + k ≡ i + 1
+      → Put l at (digits_of 10 n) (put_mid at k (set out i (ascii "0" + left)) (reverse (take k (drop at (set out i (ascii "0" + left)))))) (i + 1)
+  turned_end h k e =
+      let d = left-last n left t.tail t.digits h in
+      let long : length (digits_of 10 n) ≡ suc (length t.tail) = ap length d in
+      let ds : List ℕ = reverse ((ascii "0" + left) ∷ t.tail) in
+      let many : length ds ≡ suc (length t.tail) = length-reverse ((ascii "0" + left) ∷ t.tail) in
+      let place : i + 1 ≡ at + length (digits_of 10 n) = omega (arith, t.next_is) in
+      record {
+        buffer = rw (write (ascii "0" + left)) (turn l ds at k (omega arith) (omega (arith, t.next_is)) ∙ rw (reverse-reverse, d));
+        next_is = place;
+      }

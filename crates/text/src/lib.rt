@@ -5,18 +5,16 @@
 ghost use Rattle.std.specs.Prelude.{◌≡◌, [], ◌∷◌, ◌++◌, ◌+◌, ◌<◌, ◌≤◌, length};
 ghost use Rattle.std.proofs.Math.Seq.{slice};
 ghost use Rattle.rules.specs.Lines.{digits_of, field_of};
-ghost use Rattle.text.specs.Commands.{grown_by, Digits, field_from, field_at, starts_well, no_command, command_of};
+ghost use Rattle.text.specs.Commands.{grown_by, Digits, field_from, field_at, starts_well, command_of};
 ghost use Rattle.rules.specs.Lists.{written};
 ghost use Rattle.text.specs.Written.{Put};
 ghost use Rattle.text.specs.Cuts.{end_of, text_in, kept};
 
 // ---- a line taken apart
 
-// What a line asks: its letter, and the values of its `count` fields in front of zeros. Where it is not well formed, or has
-// more fields than any letter takes, `ok` is false and the rest 0.
+// What a line asks: its letter, and the values of its `count` fields in front of zeros.
 #[derive(Drop)]
 pub struct Command {
-    pub ok: bool,
     pub letter: u8,
     pub count: usize,
     pub fields: [u64; 11],
@@ -24,135 +22,90 @@ pub struct Command {
 
 // A field of a line: its value, and the place after it.
 #[derive(Clone, Copy)]
-enum Field {
-    Number { value: u64, next: usize },
-    Bad,
+struct Field {
+    value: u64,
+    next: usize,
 }
 
-// A field's value with one more byte: more digits, or no value of a field.
-#[derive(Clone, Copy)]
-enum Value {
-    Within(u64),
-    Over,
-}
-
-// The value with b behind it. A value is at most 4,294,967,295 before and after, so nothing overflows.
-fn grown(value: u64, b: u8) -> Value
+// The value with b behind it, where b is a digit and the value still a field's. It is at most 4,294,967,295 before and after, so nothing overflows.
+fn grown(value: u64, b: u8) -> Option<u64>
     requires { value ≤ 4294967295 }
     ensures { result ≡ grown_by value b }
 {
-    if b < b'0' {
-        return Value::Over;
+    if !b.is_ascii_digit() {
+        return None;
     }
-    if b'9' < b {
-        return Value::Over;
-    }
-    let more = value * 10 + (b - b'0') as u64;
-    if 4294967295 < more {
-        return Value::Over;
-    }
-    Value::Within(more)
+    let more = value * 10 + u64::from(b - b'0');
+    if 4294967295 < more { None } else { Some(more) }
 }
 
 // The digits line[from..to] as a field: there is one, and no zero leads others.
-fn field_of(line: &[u8], from: usize, to: usize, value: u64) -> Field
+fn field_of(line: &[u8], from: usize, to: usize, value: u64) -> Option<Field>
     requires { Digits line.now from to value }
     ensures { result ≡ field_from (slice from to line.now) to }
 {
-    if to <= from {
-        return Field::Bad;
+    match &line[from..to] {
+        [] => None,
+        [b'0', _, ..] => None,
+        _ => Some(Field { value, next: to }),
     }
-    if to == from + 1 {
-        return Field::Number { value, next: to };
-    }
-    if line[from] == b'0' {
-        return Field::Bad;
-    }
-    Field::Number { value, next: to }
 }
 
 // The field that starts at `from` and ends at the next comma or with the line.
-fn field_at(line: &[u8], from: usize) -> Field
+fn field_at(line: &[u8], from: usize) -> Option<Field>
     requires { from ≤ length line.now }
     ensures { result ≡ field_at line.now from }
 {
-    let mut value: u64 = 0;
-    let mut i = from;
-    while i < line.len() {
+    let mut value = 0;
+    for i in from..line.len() {
         let b = line[i];
         if b == b',' {
             return field_of(line, from, i, value);
         }
-        let Value::Within(more) = grown(value, b) else {
-            return Field::Bad;
-        };
-        value = more;
-        i += 1;
+        value = grown(value, b)?;
     }
-    field_of(line, from, i, value)
+    field_of(line, from, line.len(), value)
 }
 
 // A line starts with one byte, the letter, before the first comma.
 fn starts_well(line: &[u8]) -> bool
     ensures { result ≡ starts_well line.now }
 {
-    if line.len() == 0 {
-        return false;
-    }
-    if line[0] == b',' {
-        return false;
-    }
-    if line.len() == 1 {
-        return true;
-    }
-    if line[1] == b',' {
-        return true;
-    }
-    false
-}
-
-fn no_command() -> Command
-    ensures { result ≡ no_command }
-{
-    Command {
-        ok: false,
-        letter: 0,
-        count: 0,
-        fields: [0; 11],
+    match line {
+        [] => false,
+        [letter] => *letter != b',',
+        [letter, next, ..] => *letter != b',' && *next == b',',
     }
 }
 
-// Takes a line apart, whatever its bytes and its length.
-pub fn parse(line: &[u8]) -> Command
+// Takes a line apart, whatever its bytes and its length. One that is not well formed, or has more fields than any letter takes, is none.
+pub fn parse(line: &[u8]) -> Option<Command>
     ensures { result ≡ command_of line.now }
 {
     if 200 < line.len() {
-        return no_command();
+        return None;
     }
     if !starts_well(line) {
-        return no_command();
+        return None;
     }
-    let mut fields = [0u64; 11];
+    let mut fields = [0; 11];
     let mut count = 0;
     let mut at = 1;
     while at < line.len() {
         if count == 11 {
-            return no_command();
+            return None;
         }
-        let Field::Number { value, next } = field_at(line, at + 1) else {
-            return no_command();
-        };
+        let Field { value, next } = field_at(line, at + 1)?;
         fields[count] = value;
         count += 1;
         at = next;
     }
     let letter = line[0];
-    Command {
-        ok: true,
+    Some(Command {
         letter,
         count,
         fields,
-    }
+    })
 }
 
 // ---- an answer's bytes
@@ -166,35 +119,21 @@ pub fn put_byte(out: &mut [u8], at: usize, b: u8) -> usize
     at + 1
 }
 
-// How many digits n has.
-fn width(n: u64) -> usize
-    requires { n < 10000000000 }
-    ensures { result ≡ length (digits_of 10 n) }
-{
-    let mut left = n;
-    let mut digits = 1;
-    while 10 <= left {
-        left = left / 10;
-        digits += 1;
-    }
-    digits
-}
-
-// Writes the digits of n from `at` on, the last one first.
+// Writes the digits of n from `at` on: the last one first, and then the other way round.
 fn put_digits(out: &mut [u8], at: usize, n: u64) -> usize
     requires { (n < 10000000000) × (at + length (digits_of 10 n) ≤ length out.old) }
     ensures { Put out.old at (digits_of 10 n) out.new result }
 {
-    let end = at + width(n);
     let mut left = n;
-    let mut i = end - 1;
+    let mut i = at;
     while 10 <= left {
         out[i] = b'0' + (left % 10) as u8;
-        left = left / 10;
-        i -= 1;
+        left /= 10;
+        i += 1;
     }
     out[i] = b'0' + left as u8;
-    end
+    out[at..=i].reverse();
+    i + 1
 }
 
 // Writes a comma and the digits of n from `at` on; the place after them is returned.
@@ -212,14 +151,12 @@ pub fn put_field(out: &mut [u8], at: usize, n: u64) -> usize
 pub fn line_end(chunk: &[u8], from: usize) -> usize
     ensures { result ≡ end_of chunk.now from }
 {
-    let mut i = from;
-    while i < chunk.len() {
+    for i in from..chunk.len() {
         if chunk[i] == b'\n' {
             return i;
         }
-        i += 1;
     }
-    i
+    chunk.len().max(from)
 }
 
 // Writes the bytes from `at` on.
@@ -227,11 +164,7 @@ pub fn put_bytes(out: &mut [u8], at: usize, bytes: &[u8])
     requires { at + length bytes.now ≤ length out.old }
     ensures { out.new ≡ written out.old at bytes.now }
 {
-    let mut i: usize = 0;
-    while i < bytes.len() {
-        out[at + i] = bytes[i];
-        i += 1;
-    }
+    out[at..at + bytes.len()].copy_from_slice(bytes);
 }
 
 // The text since the last line end is lent as 201 bytes: how many it has, then these. 201 says that it is too long for a line.
@@ -242,14 +175,11 @@ pub fn append(text: &mut [u8], bytes: &[u8])
     ensures { text.new ≡ kept text.old (text_in text.old ++ bytes.now) }
 {
     let held = text[0] as usize;
-    if 200 < held {
-        text[0] = 201;
-        return;
-    }
-    if 200 - held < bytes.len() {
+    let all = held.saturating_add(bytes.len());
+    if 200 < all {
         text[0] = 201;
         return;
     }
     put_bytes(text, 1 + held, bytes);
-    text[0] = (held + bytes.len()) as u8;
+    text[0] = all as u8;
 }

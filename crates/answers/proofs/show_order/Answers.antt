@@ -1,35 +1,27 @@
 -- The order is listed, then written as pairs, then its line end.
-use mathlib.Core.Path.{refl}
-use native.Mathlib.Omega.{arith}
-use borrow.Author.Rules.{rules}
-use Rattle.rules.specs.Views.{state_of}
-use Rattle.answers.proofs.Shown.{order-line}
+use Rattle.std.proofs.Common.{refl, subst, arith}
+use Rattle.rules.specs.Valid.{Valid}
+use Rattle.answers.specs.Responses.{letter_of}
+use Rattle.answers.proofs.Shown.{order-few, order-line}
 use Rattle.answers.proofs.Replies.{line-ended}
 use Rattle.answers.proofs.show_order.Goals as goal
 
 pub put_keys-at-requires : goal.put_keys-at-requires
 put_keys-at-requires c =
-    let f = c.list_order-n.ensures in record {
-      n_in_bounds = f.room;
-      in_bounds = (
-        search rules,
-        omega (
-          arith,
-          order-line (state_of c.args.v c.args.cached.now c.args.fetching.now) c.requires.valid _ _ c.args.letter c.args.stealing f,
-        ),
-      );
-    }
+    let s = c.args.q.now in
+    let v = subst Valid c.q.view_is c.q.invariant.0 in
+    rw c.list_order-n.ensures.is (order-few s v c.args.order, omega (arith, order-line s v c.letter.result c.args.order))
+
+pub put_byte-requires : goal.put_byte-requires
+put_byte-requires c =
+    let s = c.args.q.now in
+    let v = subst Valid c.q.view_is c.q.invariant.0 in
+    let put = rw c.list_order-n.ensures.is at c.put_keys-at.ensures in
+    omega (arith, put.next_is, order-line s v c.letter.result c.args.order)
 
 pub returns : goal.returns
 returns c =
-    let f = c.list_order-n.ensures in
-    let short = rw f.is at (order-line (state_of c.args.v c.args.cached.now c.args.fetching.now) c.requires.valid _ _ c.args.letter c.args.stealing f) in
-    record { state = refl; line = line-ended _ _ _ _ _ _ (rw f.is at c.put_keys-at.ensures) c.put_byte-len.ensures (omega arith) }
-
-pub put_byte-len-requires : goal.put_byte-len-requires
-put_byte-len-requires c =
-    omega (
-      arith,
-      c.put_keys-at.ensures.next_is,
-      order-line (state_of c.args.v c.args.cached.now c.args.fetching.now) c.requires.valid _ _ c.args.letter c.args.stealing c.list_order-n.ensures,
-    )
+    let s = c.args.q.now in
+    let v = subst Valid c.q.view_is c.q.invariant.0 in
+    let put = rw (c.list_order-n.ensures.is, c.letter.ensures) at c.put_keys-at.ensures in
+    record { state_is = refl; line = line-ended _ _ _ _ _ _ put c.put_byte.ensures (omega (arith, order-line s v (letter_of c.args.order) c.args.order)) }

@@ -1,8 +1,10 @@
 -- The buffers or the place cannot be, Restore refuses the image, or lines are taken and the image of the state after them is saved. Assumes nothing.
-use mathlib.Core.Path.{sym, ◌∙◌, ap}
-use borrow.Author.Rules.{rules}
-use Rattle.rules.proofs.images.Images.{done-length, lent-valid}
-use Rattle.lines.proofs.Taking.{ready-room, feed-unready, feed-refused, feed-went, answer-refused, answer-taken, taken-done, gone-valid}
+use Rattle.std.proofs.Common.{◌≡◌, sym, ◌∙◌, ap}
+use Rattle.rules.specs.Entries.{carried_out}
+use Rattle.rules.specs.Image.{restore_whole}
+use Rattle.rules.proofs.images.Images.{done-length}
+use Rattle.lines.proofs.Taking.{ready-room, feed-unready, feed-refused, feed-went, taken-done}
+use Rattle.lines.proofs.feed.Goals.{After-carried_out}
 use Rattle.lines.proofs.feed.Goals as goal
 
 pub returns-then-not-ready : goal.returns-then-not-ready
@@ -11,24 +13,24 @@ returns-then-not-ready c = feed-unready _ _ _ _ _ (sym c.if-not-ready.true ∙ c
 pub go_through-r-requires : goal.go_through-r-requires
 go_through-r-requires c =
     let room = ready-room _ _ _ _ (sym c.ready.ensures ∙ c.if-not-ready.false) in
-    let restored = c.restore_whole-restored.ensures in
-    ((lent-valid c.args.image.now (λ i. search rules) _ restored.fetching_after, restored.counted), room.1, room.2, room.0)
+    (room.1, room.2, room.0)
 
-pub save_whole-requires : goal.save_whole-requires
-save_whole-requires c =
-    let restored = c.restore_whole-restored.ensures.fetching_after in (
-      gone-valid _ _ _ _ _ _ c.go_through-r.ensures (lent-valid c.args.image.now (λ i. search rules) _ restored),
-      done-length c.args.image.now (taken-done _ (answer-taken _ _ restored c.in_default.not-Refused)),
-    )
+-- what Restore answered, by its rule
+restored : (c : After-carried_out) → c.carried_out.result ≡ carried_out (restore_whole c.args.image.now).answer
+restored c = c.carried_out.ensures ∙ ap (λ r. carried_out r.answer) c.restore_whole.ensures
 
-pub returns-in-Refused : goal.returns-in-Refused
-returns-in-Refused c =
-    let unanswered = answer-refused _ _ c.restore_whole-restored.ensures.fetching_after _ c.in-Refused.is in
-    feed-refused _ _ _ _ _ (sym c.ready.ensures ∙ c.if-not-ready.false) unanswered
+pub returns-then-not-carried_out : goal.returns-then-not-carried_out
+returns-then-not-carried_out c =
+    let k = (goal.at.returns-then-not-carried_out c).After-carried_out in
+    feed-refused _ _ _ _ _ (sym c.ready.ensures ∙ c.if-not-ready.false) (sym (restored k) ∙ c.if-not-carried_out.true)
 
-pub returns-in_default : goal.returns-in_default
-returns-in_default c =
-    let restored = c.restore_whole-restored.ensures.fetching_after in
-    feed-went _ _ _ _ _ _ c.go_through-r.ensures
-    _ (sym c.ready.ensures ∙ c.if-not-ready.false) (answer-taken _ _ restored c.in_default.not-Refused)
-    (ap (λ q. q.state) restored) _ c.save_whole.ensures
+pub save_whole-requires-clause-given : goal.save_whole-requires-clause-given
+save_whole-requires-clause-given c =
+    let k = (goal.at.save_whole-requires-clause-given c).After-carried_out in
+    done-length c.args.image.now (taken-done _ (sym (restored k) ∙ c.if-not-carried_out.false))
+
+pub returns : goal.returns
+returns c =
+    let k = (goal.at.returns c).After-carried_out in
+    feed-went _ _ _ _ _ _ _ _ (sym c.ready.ensures ∙ c.if-not-ready.false) (sym (restored k) ∙ c.if-not-carried_out.false)
+    (ap (λ r. r.state) c.restore_whole.ensures) c.go_through-r.ensures c.save_whole.ensures

@@ -1,14 +1,7 @@
 -- What is handed back is what the call left at the front of the buffer. Assumes nothing.
-use mathlib.Core.Path.{sym, ap}
-use lib.Seq.{length-take-le}
-use Rattle.quay.specs.Program.{handed_of}
+use Rattle.std.proofs.Common.{sym, length-take-le}
 use Rattle.lines.proofs.Taking.{feed-fits}
 use Rattle.quay.proofs.answers.Goals as goal
 
 pub slice_bounds-result-end : goal.slice_bounds-result-end
-slice_bounds-result-end c =
-    sym (length-take-le _ _ (feed-fits _ _ _ _ _ _ c.feed-r.ensures))
-
-pub returns : goal.returns
-returns c =
-    ap handed_of c.feed-r.ensures
+slice_bounds-result-end c = sym (length-take-le _ _ (feed-fits _ _ _ _ _ _ c.feed-r.ensures))

@@ -1,6 +1,5 @@
 -- Assumes nothing. At each turn the fields before `at` are read, and a comma or the line's end is there.
-use Prim.Native.Nat.{◌-◌}
-use lib.ListN.{length}
+use Rattle.std.proofs.Common.{◌-◌, length}
 use Rattle.text.proofs.Asks.{Parsed}
 use Rattle.text.proofs.parse.Given as goal
 

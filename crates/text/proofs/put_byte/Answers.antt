@@ -1,5 +1,5 @@
 -- Assumes nothing.
-use mathlib.Core.Path.{refl}
+use Rattle.std.proofs.Common.{refl}
 use Rattle.rules.proofs.laws.Lists.{written_one}
 use Rattle.text.proofs.put_byte.Goals as goal
 

@@ -1,24 +1,19 @@
--- Assumes nothing. At each turn the digits behind i are written, and those of the number left are still to come.
-use native.Mathlib.Omega.{arith}
-use borrow.Author.Rules.{rules}
-use Rattle.text.proofs.Puts.{digits-some, back_start, back-room, back_step, back_end}
+-- Assumes nothing. At each turn the digits from `at` up to i stand the other way round, and those of the number left are still to come.
+use Rattle.std.proofs.Common.{◌≡◌, ◌+◌, ◌-◌, arith}
+use Rattle.text.proofs.Puts.{turned_start, turned-room, turned_step, turned_end}
 use Rattle.text.proofs.put_digits.Goals as goal
-
-pub overflow_sub-i : goal.overflow_sub-i
-overflow_sub-i c =
-    omega (arith, c.width.ensures, digits-some 9 c.args.n)
 
 pub loop-left-init : goal.loop-left-init
 loop-left-init c =
-    back_start _ _ _ _ c.requires.0 (omega (arith, c.width.ensures, digits-some 9 c.args.n))
-
-pub overflow_sub-i-in-loop-left : goal.overflow_sub-i-in-loop-left
-overflow_sub-i-in-loop-left c = back-room _ _ _ _ _ _ c.loop-left.invariant c.loop-left-test.true (search rules)
+    let t = turned_start _ _ _ c.requires.0 in
+    (t, omega arith, turned-room _ _ _ _ _ _ t c.requires.1)
 
 pub loop-left-preserved : goal.loop-left-preserved
 loop-left-preserved c =
-    back_step _ _ _ _ _ _ c.loop-left.invariant c.loop-left-test.true (search rules)
-    (back-room _ _ _ _ _ _ c.loop-left.invariant c.loop-left-test.true (search rules))
+    let t = turned_step _ _ _ _ _ _ c.loop-left.invariant.0 c.requires.1 c.loop-left-test.true in
+    (t, omega arith, turned-room _ _ _ _ _ _ t c.requires.1)
 
 pub returns : goal.returns
-returns c = back_end _ _ _ _ _ _ c.loop-left.invariant _ c.loop-left-test.false (search rules) (search rules)
+returns c =
+    let part : c.args.at + (c.loop-left.i + 1 - c.args.at) ≡ c.loop-left.i + 1 = omega arith in
+    rw c.reverse.ensures.after (turned_end _ _ _ _ _ _ c.loop-left.invariant.0 c.requires.1 c.loop-left-test.false _ part)

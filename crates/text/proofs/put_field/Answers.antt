@@ -1,5 +1,5 @@
 -- Assumes nothing. The digits stand behind the comma.
-use native.Mathlib.Omega.{arith}
+use Rattle.std.proofs.Common.{arith}
 use Rattle.text.proofs.Puts.{put-more}
 use Rattle.text.proofs.put_field.Goals as goal
 

@@ -1,20 +1,12 @@
--- Invariant: no bit stands above the sizes of the first f files. Measure: the files that are left.
-use borrow.Author.Rules.{rules}
-use Rattle.image.proofs.Checks.{every-none, every_more, every-stop, every-end}
+-- The files are tested one after the other.
+use Rattle.std.proofs.Common.{rules, refl, ◌∙◌}
+use Rattle.std.proofs.lemmas.Iterator.{YieldsList-from_range}
+use Rattle.std.proofs.lemmas.Iterator.Search.{all_from_yields_List}
+use Rattle.image.specs.Tests.{size_holds}
+use Rattle.image.proofs.Checks.{every-range}
 use Rattle.image.proofs.restoring.files_hold.Goals as goal
 
-pub loop-f-init : goal.loop-f-init
-loop-f-init c = search (every-none, rules)
-
-pub file_holds-ok-requires : goal.file_holds-ok-requires
-file_holds-ok-requires c =
-    (search rules, c.requires _)
-
-pub returns-then-not-ok : goal.returns-then-not-ok
-returns-then-not-ok c = search (every-stop, rules)
-
-pub loop-f-preserved : goal.loop-f-preserved
-loop-f-preserved c = search (every_more, rules)
-
 pub returns : goal.returns
-returns c = search (every-end, rules)
+returns c =
+    let P = size_holds c.args.sizes.now c.args.cached.now c.args.fetching.now in
+    all_from_yields_List P _ _ _ c.all.ensures.ran (YieldsList-from_range 0 8 8 refl refl) (λ x b q k. search rules) ∙ every-range P 0 8

@@ -1,6 +1,5 @@
--- Invariant: the joined words are 0 where no key of the first i words is in both maps. Measure: the words that are left.
-use borrow.Author.Rules.{rules}
-use Rattle.image.specs.Tests.{apart_at}
+-- Invariant: the joined words are 0 where no key of the first i words is in both maps.
+use Rattle.std.proofs.Common.{rules}
 use Rattle.image.proofs.Checks.{every-none}
 use Rattle.image.proofs.Clears.{more-told, all_told, both-tells}
 use Rattle.image.proofs.restoring.is_apart.Goals as goal
@@ -12,6 +11,4 @@ pub loop-i-preserved : goal.loop-i-preserved
 loop-i-preserved c = search (more-told, both-tells, rules)
 
 pub returns : goal.returns
-returns c =
-    let a = c.args in
-    search (all_told (apart_at a.cached.now a.fetching.now) 0 128, rules)
+returns c = search (all_told, rules)

@@ -1,16 +1,12 @@
--- Invariant: the first j marks hold. Measure: the marks that are left.
-use borrow.Author.Rules.{rules}
-use Rattle.image.proofs.Checks.{every-none, every_more, every-stop, every-end}
+-- The marks are tested one after the other.
+use Rattle.std.proofs.Common.{rules, refl, ◌∙◌}
+use Rattle.std.proofs.lemmas.Iterator.{YieldsList-from_range}
+use Rattle.std.proofs.lemmas.Iterator.Search.{all_from_yields_List}
+use Rattle.image.specs.Tests.{mark_in}
+use Rattle.image.proofs.Checks.{every-range}
 use Rattle.image.proofs.restoring.marks_hold.Goals as goal
 
-pub loop-j-init : goal.loop-j-init
-loop-j-init c = search (every-none, rules)
-
-pub returns-then-not-ok : goal.returns-then-not-ok
-returns-then-not-ok c = search (every-stop, rules)
-
-pub loop-j-preserved : goal.loop-j-preserved
-loop-j-preserved c = search (every_more, rules)
-
 pub returns : goal.returns
-returns c = search (every-end, rules)
+returns c =
+    let P = mark_in c.args.v.now.marks c.args.v.now.readers in
+    all_from_yields_List P _ _ _ c.all.ensures.ran (YieldsList-from_range 0 16 16 refl refl) (λ x b q k. search rules) ∙ every-range P 0 16

@@ -1,12 +1,10 @@
--- File, pace, last page and position are tested one after the other, up to the first that fails.
-use mathlib.Core.Path.{sym, ap, ◌∙◌}
-use mathlib.Core.Bool.{not}
-use native.Mathlib.Omega.{arith}
-use lib.ListN.{get_or}
+-- File, pace, last page and position are tested one after the other.
+use Rattle.std.proofs.Common.{get_or, refl, sym, ◌∙◌, arith}
 use Rattle.rules.specs.Views.{no_pages}
 use Rattle.rules.specs.Image.{reader_placed}
-use Rattle.rules.proofs.laws.Cases.{call-stop, file_there}
+use Rattle.rules.proofs.laws.Cases.{file_there}
 use Rattle.parts.specs.Files.{sized_with}
+use Rattle.image.proofs.Checks.{on, off}
 use Rattle.image.proofs.Slots.{range-holds}
 use Rattle.image.proofs.restoring.reader_placed.Goals as goal
 
@@ -14,20 +12,17 @@ pub returns-then-no_file : goal.returns-then-no_file
 unfolding reader_placed
 returns-then-no_file c = rw (sym c.no_file.ensures ∙ c.if-no_file.true)
 
-pub bounds-all-file : goal.bounds-all-file
-bounds-all-file c =
-    let a = c.args in
-    let there = file_there (sized_with a.sizes.now no_pages) a.r.file (sym c.no_file.ensures ∙ c.if-no_file.false) in
-    omega (arith, there.0)
+pub bounds-sizes-r : goal.bounds-sizes-r
+bounds-sizes-r c = (file_there (sized_with c.args.sizes.now no_pages) c.args.r.now.file (sym c.no_file.ensures ∙ c.if-no_file.false)).0
 
-pub returns-then-not-within : goal.returns-then-not-within
+pub returns-then-within : goal.returns-then-within
 unfolding reader_placed
-returns-then-not-within c =
-    rw (sym c.no_file.ensures ∙ c.if-no_file.false) (call-stop _ _ _ c.within.ensures (ap not c.if-not-within.true))
+returns-then-within c =
+    let r = c.args.r.now in
+    rw (sym c.no_file.ensures ∙ c.if-no_file.false)
+    (on _ _ _ _ c.within.ensures c.if-within.true
+    (range-holds (get_or c.args.sizes.now r.file 0) r.position r.last c.no_range.result c.no_range.ensures.value))
 
-pub returns : goal.returns
+pub returns-else-within : goal.returns-else-within
 unfolding reader_placed
-returns c =
-    let r = c.args.r in
-    rw (sym c.no_file.ensures ∙ c.if-no_file.false, sym c.within.ensures ∙ c.if-not-within.false)
-    (range-holds (get_or c.args.sizes.now r.file 0) r.position r.last c.no_range.result c.no_range.ensures.value)
+returns-else-within c = rw (sym c.no_file.ensures ∙ c.if-no_file.false) (off _ _ _ _ c.within.ensures c.if-within.false refl)

@@ -1,16 +1,32 @@
--- Invariant: the first j records are those of the image, the others as they were. Measure: the slots that are left.
-use borrow.Author.Rules.{rules}
+-- Invariant: the first records are those of the image, the others as they were, and their conditions are known.
+use Rattle.std.proofs.Common.{◌≡◌, refl, arith}
+use Rattle.std.proofs.lemmas.Result.{err_from_is_err_and}
 use Rattle.rules.specs.Image.{reader_from, image_numbers}
-use Rattle.rules.specs.Readers.{no_reader}
+use Rattle.image.specs.Tests.{known_condition}
 use Rattle.image.proofs.Fills.{filled_more, filled-all}
+use Rattle.image.proofs.Checks.{every-none, every_more, every-stop}
 use Rattle.image.proofs.restoring.readers_in.Goals as goal
 
-pub loop-j-preserved : goal.loop-j-preserved
-loop-j-preserved c =
-    let a = c.args in
-    search (filled_more (reader_from (image_numbers a.image.now)) 16 no_reader, rules)
+pub loop-slot-init : goal.loop-slot-init
+loop-slot-init c = record { read-so = refl; known = every-none _ }
+
+pub loop-slot-preserved : goal.loop-slot-preserved
+loop-slot-preserved c =
+    let numbers = image_numbers c.args.image.now in
+    let h = c.in_ok-r.ensures in
+    record {
+      read-so = filled_more (reader_from numbers) 16 _ _ _ _ c.loop-slot.invariant.read-so h.1 c.loop-slot-test.true refl;
+      known = every_more (known_condition numbers) _ c.loop-slot.invariant.known h.0;
+    }
+
+pub returns-in_err-r : goal.returns-in_err-r
+returns-in_err-r c =
+    rw (err_from_is_err_and c.from_residual.result c.from_residual.ensures.1).1
+    (every-stop (known_condition (image_numbers c.args.image.now)) _ 16 c.loop-slot-test.true c.in_err-r.ensures)
 
 pub returns : goal.returns
 returns c =
-    let a = c.args in
-    search (filled-all (reader_from (image_numbers a.image.now)) 16 no_reader, rules)
+    let numbers = image_numbers c.args.image.now in
+    let all : c.loop-slot.slot ≡ 16 = omega arith in
+    (rw all at c.loop-slot.invariant.known,
+    filled-all (reader_from numbers) 16 _ _ _ c.loop-slot.invariant.read-so c.loop-slot-test.false refl)

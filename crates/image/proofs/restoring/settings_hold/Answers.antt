@@ -1,43 +1,49 @@
--- The settings are tested one after the other, up to the first that is out of range.
-use mathlib.Core.Path.{ap, ◌∙◌}
-use mathlib.Core.Bool.{not}
+-- The settings are tested one after the other.
+use Rattle.std.proofs.Common.{◌≡◌, ◌&&◌, leb, refl, ◌∙◌}
 use Rattle.rules.specs.Lists.{every, within}
-use Rattle.rules.specs.Calls.{settings_in}
-use Rattle.rules.proofs.laws.Cases.{call-stop, call-pass}
-use Rattle.image.proofs.Checks.{and-later}
+use Rattle.image.proofs.Checks.{on, off}
+use Rattle.image.proofs.Restores.{settings-so}
+use Rattle.image.proofs.restoring.settings_hold.Goals.{then-within, else-within, then-within-2, else-within-2, then-v-le2000000, else-v-le2000000}
 use Rattle.image.proofs.restoring.settings_hold.Goals as goal
 
-pub returns-then-not-within : goal.returns-then-not-within
-unfolding settings_in
-returns-then-not-within c =
-    search (call-stop, c.within.ensures ∙ ap (within 1 1024) c.get_u16.ensures)
+pub returns-then-eight_hold : goal.returns-then-eight_hold
+returns-then-eight_hold c =
+    let v = c.args.v.now in
+    let a = within 1 1024 v.frames in
+    let b = within 1 2000000 v.look_ahead in
+    let d = leb v.fetch_time 2000000 in
+    let e = every (within 0 1024) v.sizes in
+    let two : c.if-within.value ≡ (a && b) = elim c.if-within.branch [
+      then-within w ↦ on a b _ _ c.within.ensures w.if-within.true (w.value-is ∙ w.within-then-within.ensures)
+    | else-within w ↦ off a b _ _ c.within.ensures w.if-within.false w.value-is
+    ] in
+    let three : c.if-within-2.value ≡ (a && b && d) = elim c.if-within-2.branch [
+      then-within-2 w ↦ on (a && b) d _ _ two w.if-within-2.true w.value-is
+    | else-within-2 w ↦ off (a && b) d _ _ two w.if-within-2.false w.value-is
+    ] in
+    let four : c.if-v-le2000000.value ≡ (a && b && d && e) = elim c.if-v-le2000000.branch [
+      then-v-le2000000 w ↦ on (a && b && d) e _ _ three w.if-v-le2000000.true (w.value-is ∙ w.eight_hold.ensures)
+    | else-v-le2000000 w ↦ off (a && b && d) e _ _ three w.if-v-le2000000.false w.value-is
+    ] in
+    on (a && b && d && e) (every (within 0 1000) v.expected) _ _ four c.if-eight_hold.true c.eight_hold-then-eight_hold.ensures ∙ settings-so v.frames v.look_ahead v.fetch_time v.sizes v.rule v.expected
 
-pub returns-then-not-within-2 : goal.returns-then-not-within-2
-unfolding settings_in
-returns-then-not-within-2 c =
-    search (and-later, call-stop, c.within-2.ensures ∙ ap (within 1 2000000) c.get_u32.ensures)
-
-pub returns-then-not-within-3 : goal.returns-then-not-within-3
-unfolding settings_in
-returns-then-not-within-3 c =
-    search (and-later, call-stop, c.within-3.ensures ∙ ap (within 0 2000000) c.get_u32-2.ensures)
-
-pub returns-then-not-eight_hold : goal.returns-then-not-eight_hold
-unfolding settings_in
-returns-then-not-eight_hold c =
-    search (and-later, call-stop, c.eight_hold.ensures)
-
-pub returns-then-not-within-4 : goal.returns-then-not-within-4
-unfolding settings_in
-returns-then-not-within-4 c =
-    search (and-later, call-stop, c.within-4.ensures ∙ ap (within 0 1) c.get_u8.ensures) depth 9
-
-pub returns : goal.returns
-unfolding settings_in
-returns c =
-    call-pass _ _ _ _ (c.within.ensures ∙ ap (within 1 1024) c.get_u16.ensures) (ap not c.if-not-within.false)
-    (call-pass _ _ _ _ (c.within-2.ensures ∙ ap (within 1 2000000) c.get_u32.ensures) (ap not c.if-not-within-2.false)
-    (call-pass _ _ _ _ (c.within-3.ensures ∙ ap (within 0 2000000) c.get_u32-2.ensures) (ap not c.if-not-within-3.false)
-    (call-pass _ _ _ _ c.eight_hold.ensures (ap not c.if-not-eight_hold.false)
-    (call-pass _ _ _ _ (c.within-4.ensures ∙ ap (within 0 1) c.get_u8.ensures) (ap not c.if-not-within-4.false)
-    (c.eight_hold-2.ensures ∙ ap (every (within 0 1000)) c.eight_in-expected.ensures)))))
+pub returns-else-eight_hold : goal.returns-else-eight_hold
+returns-else-eight_hold c =
+    let v = c.args.v.now in
+    let a = within 1 1024 v.frames in
+    let b = within 1 2000000 v.look_ahead in
+    let d = leb v.fetch_time 2000000 in
+    let e = every (within 0 1024) v.sizes in
+    let two : c.if-within.value ≡ (a && b) = elim c.if-within.branch [
+      then-within w ↦ on a b _ _ c.within.ensures w.if-within.true (w.value-is ∙ w.within-then-within.ensures)
+    | else-within w ↦ off a b _ _ c.within.ensures w.if-within.false w.value-is
+    ] in
+    let three : c.if-within-2.value ≡ (a && b && d) = elim c.if-within-2.branch [
+      then-within-2 w ↦ on (a && b) d _ _ two w.if-within-2.true w.value-is
+    | else-within-2 w ↦ off (a && b) d _ _ two w.if-within-2.false w.value-is
+    ] in
+    let four : c.if-v-le2000000.value ≡ (a && b && d && e) = elim c.if-v-le2000000.branch [
+      then-v-le2000000 w ↦ on (a && b && d) e _ _ three w.if-v-le2000000.true (w.value-is ∙ w.eight_hold.ensures)
+    | else-v-le2000000 w ↦ off (a && b && d) e _ _ three w.if-v-le2000000.false w.value-is
+    ] in
+    off (a && b && d && e) (every (within 0 1000) v.expected) _ _ four c.if-eight_hold.false refl ∙ settings-so v.frames v.look_ahead v.fetch_time v.sizes v.rule v.expected

@@ -1,0 +1,7 @@
+-- std's bytes of a number are those of the rules.
+use Rattle.std.proofs.Common.{◌∙◌}
+use Rattle.image.proofs.Puts.{written-bytes}
+use Rattle.image.proofs.bytes.U64Number.put.Goals as goal
+
+pub returns : goal.returns
+returns c = written-bytes 8 _ _ _ _ (c.copy_from_slice.ensures.after ∙ c.to_le_bytes.ensures)

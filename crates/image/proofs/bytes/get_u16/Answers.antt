@@ -1,7 +1,0 @@
--- The number of 2 bytes is that of its two halves.
-use borrow.Author.Rules.{rules}
-use Rattle.image.proofs.Gets.{number-halves}
-use Rattle.image.proofs.bytes.get_u16.Goals as goal
-
-pub returns : goal.returns
-returns c = search (number-halves 1, rules)
