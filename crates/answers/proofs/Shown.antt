@@ -30,7 +30,8 @@ filled : {A : Type 0} (numbers : List ℕ) (done : A) (lent : List ℕ) (r : Res
     → length numbers ≤ length lent → Filled numbers done r after
 unfolding listed
 filled {A} numbers done lent r after e h =
-    let f : ◌≡◌ {A = Written (Result A Refusal) ℕ} (record { answer = r; list = after }) (record { answer = Ok done; list = numbers ++ drop (length numbers) lent })
+    let f : ◌≡◌ {A = Written (Result A Refusal) ℕ} (record { answer = r; list = after }) (record { answer = Ok done; list = numbers ++ drop
+        (length numbers) lent })
     = rw (le-ltb (length lent) (length numbers) h) at e in
     let l : after ≡ numbers ++ drop (length numbers) lent = ap (λ (w : Written (Result A Refusal) ℕ). w.list) f in
     record {
@@ -57,12 +58,14 @@ keys-counted (Err why) n h = h
 
 module _ (s : State) (v : Valid s) (lent list : List ℕ) (long : length lent ≡ 8192) (r : Result Keys Refusal) where
   -- the steal list
-  pub steal-front : ◌≡◌ {A = Written (Result Keys Refusal) ℕ} (record { answer = r; list = list }) (steal_list_of s lent) → Front (steal_order s) list (keys_in r)
+  pub steal-front : ◌≡◌ {A = Written (Result Keys Refusal) ℕ} (record { answer = r; list = list }) (steal_list_of s lent)
+      → Front (steal_order s) list (keys_in r)
   unfolding steal_list_of
   steal-front w = order-front (tested s) (steal_order s) lent list r w (omega (arith, steal-few s v))
 
   -- the fetch list
-  pub fetch-front : ◌≡◌ {A = Written (Result Keys Refusal) ℕ} (record { answer = r; list = list }) (fetch_list_of s lent) → Front (fetch_order s) list (keys_in r)
+  pub fetch-front : ◌≡◌ {A = Written (Result Keys Refusal) ℕ} (record { answer = r; list = list }) (fetch_list_of s lent)
+      → Front (fetch_order s) list (keys_in r)
   unfolding fetch_list_of
   fetch-front w = order-front (tested s) (fetch_order s) lent list r w (omega (arith, fetch-few s v))
 

@@ -24,10 +24,13 @@ pub number-two : (l : List ℕ) (at : ℕ) → at + 2 ≤ length l → number_at
 number-two l at h = omega (arith, number-next 1 l at (at + 1) (omega arith) (omega arith), number-one l (at + 1) (omega arith))
 
 -- four bytes
-pub number-four : (l : List ℕ) (at : ℕ) → at + 4 ≤ length l → number_at 4 l at ≡ get_or l at 0 + 256 * (get_or l (at + 1) 0 + 256 * (get_or l (at + 2) 0 + 256 * get_or l (at + 3) 0))
-number-four l at h = omega (arith, number-next 3 l at (at + 1) (omega arith) (omega arith), number-next 2 l (at + 1) (at + 2) (omega arith) (omega arith), number-next 1 l (at + 2) (at + 3) (omega arith) (omega arith), number-one l (at + 3) (omega arith))
+pub number-four : (l : List ℕ) (at : ℕ) → at + 4 ≤ length l
+    → number_at 4 l at ≡ get_or l at 0 + 256 * (get_or l (at + 1) 0 + 256 * (get_or l (at + 2) 0 + 256 * get_or l (at + 3) 0))
+number-four l at h = omega (arith, number-next 3 l at (at + 1) (omega arith) (omega arith), number-next 2 l (at + 1) (at + 2) (omega arith)
+    (omega arith), number-next 1 l (at + 2) (at + 3) (omega arith) (omega arith), number-one l (at + 3) (omega arith))
 
 -- eight bytes
-pub number-eight : (l : List ℕ) (at : ℕ) → at + 8 ≤ length l → number_at 8 l at ≡ get_or l at 0 + 256 * (get_or l (at + 1) 0 + 256 * (get_or l (at + 2) 0 + 256 * (get_or l (at + 3) 0 + 256 * (get_or l (at + 4) 0 + 256 * (get_or l (at + 5) 0 + 256 * (get_or l (at + 6) 0 + 256 * get_or l (at + 7) 0))))))
-number-eight l at h = omega (arith, number-next 7 l at (at + 1) (omega arith) (omega arith), number-next 6 l (at + 1) (at + 2) (omega arith) (omega arith), number-next 5 l (at + 2) (at + 3) (omega arith) (omega arith), number-next 4 l (at + 3) (at + 4) (omega arith) (omega arith), number-next 3 l (at + 4) (at + 5) (omega arith) (omega arith), number-next 2 l (at + 5) (at + 6) (omega arith) (omega arith), number-next 1 l (at + 6) (at + 7) (omega arith) (omega arith), number-one l (at + 7) (omega arith))
-
+pub number-eight : (l : List ℕ) (at : ℕ) → at + 8 ≤ length l
+    → number_at 8 l at ≡ get_or l at 0 + 256 * (get_or l (at + 1) 0 + 256 * (get_or l (at + 2) 0 + 256 * (get_or l (at + 3) 0 + 256 * (get_or l (at + 4) 0 + 256 * (get_or l (at + 5) 0 + 256 * (get_or l (at + 6) 0 + 256 * get_or l (at + 7) 0))))))
+number-eight l at h = omega (arith, number-next 7 l at (at + 1) (omega arith) (omega arith), number-next 6 l (at + 1) (at + 2) (omega arith)
+    (omega arith), number-next 5 l (at + 2) (at + 3) (omega arith) (omega arith), number-next 4 l (at + 3) (at + 4) (omega arith) (omega arith), number-next 3 l (at + 4) (at + 5) (omega arith) (omega arith), number-next 2 l (at + 5) (at + 6) (omega arith) (omega arith), number-next 1 l (at + 6) (at + 7) (omega arith) (omega arith), number-one l (at + 7) (omega arith))

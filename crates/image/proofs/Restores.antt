@@ -1,5 +1,5 @@
 -- Restore's verdict from the tests that its code makes. Assumes nothing.
-use Rattle.std.proofs.Common.{ℕ, zero, suc, ◌≡◌, ◌+◌, ◌*◌, ◌≤◌, ◌<◌, Bool, true, false, ◌&&◌, List, map, length, leb, eqb, refl, sym, ap, ◌∙◌, subst, arith}
+use Rattle.std.proofs.Common.{ℕ, zero, suc, ◌≡◌, ◌+◌, ◌≤◌, ◌<◌, Bool, true, false, ◌&&◌, List, length, leb, eqb, refl, sym, ◌∙◌, subst, arith}
 use mathlib.Core.Bool.{and_assoc}
 use native.Mathlib.Decide.{dec_lt}
 use borrow.Author.Tests.{ne_eqb}
@@ -12,7 +12,7 @@ use Rattle.rules.specs.Lists.{range, every, within}
 use Rattle.rules.specs.Pages.{size, cached, Page, cached_pages}
 use Rattle.rules.specs.Readers.{reader_at}
 use Rattle.rules.specs.Schedules.{num, count}
-use Rattle.rules.specs.Calls.{reply, refused, settings_in, rule_of, idle}
+use Rattle.rules.specs.Calls.{reply, refused, settings_in, idle}
 use Rattle.rules.specs.Image.{
   rule_number,
   reader_number,
@@ -31,8 +31,7 @@ use Rattle.rules.proofs.laws.Tests.{or_left, and_both, and_first, and_second}
 use Rattle.rules.proofs.laws.Members.{range_at}
 use Rattle.rules.proofs.laws.Indexed.{every-all}
 use Rattle.rules.proofs.laws.Counts.{pages-count}
-use Rattle.rules.proofs.images.Accepts.{Settings, settings-in, in-settings, reader-in, in-reader, key_in, in-key, unset, Accepted, accepted, in-accepted}
-use Rattle.image.specs.Bytes.{state_in}
+use Rattle.rules.proofs.images.Accepts.{settings-in, in-settings, reader-in, in-reader, key_in, in-key, unset, accepted, in-accepted}
 use Rattle.image.specs.Tests.{SizesLow, known_condition, readable, mark_in, apart_at, size_holds, tests}
 use Rattle.image.proofs.States.{rule-high, cached-long}
 use Rattle.image.proofs.Checks.{same_test, every_in, every-at, high-within, every_map}

@@ -2,7 +2,7 @@
 use mathlib.Core.Path.{◌≡◌, refl, sym, ap, ◌∙◌}
 use mathlib.Core.Bool.{Bool, true, false, not, ◌&&◌, ◌||◌}
 use mathlib.Core.List.{List, []}
-use Prim.Native.Nat.{ℕ, ◌+◌, ◌*◌, ◌≤◌, ◌<◌}
+use Prim.Native.Nat.{ℕ, ◌≤◌, ◌<◌}
 use native.Mathlib.Omega.{arith}
 use borrow.Author.Tests.{not-true, le-leb, lt-leb}
 use lib.ListN.{get_or}
@@ -10,13 +10,10 @@ use lib.Dec.{leb, ltb, eqb}
 use Rattle.rules.specs.Lists.{every, within}
 use Rattle.rules.specs.Calls.{no_file}
 use Rattle.rules.specs.Readers.{awaits}
-use Rattle.rules.specs.Image.{reader_number, reader_from, reader_placed, reader_holds, slot_holds, image_numbers}
-use Rattle.rules.proofs.laws.Cases.{passed, within-true, file_there, call-stop, call-pass}
+use Rattle.rules.specs.Image.{reader_placed, reader_holds}
+use Rattle.rules.proofs.laws.Cases.{passed, within-true, file_there}
 use Rattle.rules.proofs.laws.Tests.{less, is_true, and_first, and_second}
-use Rattle.rules.proofs.images.Offsets.{readers_at, slot_at}
 use Rattle.parts.specs.Files.{sized_with, no_range_in}
-use Rattle.image.specs.Bytes.{number_at, state_in}
-
 use Rattle.rules.specs.declared.State.{State}
 use Rattle.rules.specs.declared.Reader.{Reader}
 use Rattle.rules.specs.declared.Condition.TheVariants.{Empty, Running, Waiting}

@@ -358,7 +358,8 @@ module _ (image : List ℕ) (old : length image ≡ unmarked_length) where
           (rw r (ap (λ x. get_or x i 0) g ∙ written-two u (mark_place j) m (omega (arith, long-u)) i a b)))
 
       -- what does not wait for the next slot, and is none of this one's, waited not for this one
-      before : (i : ℕ) → (Waits (j + 1) i → ⊥) → ((last_place j) ≤ i → i < (last_place j) + 2 → ⊥) → ((mark_place j) ≤ i → i < (mark_place j) + 2 → ⊥) → Waits j i → ⊥
+      before : (i : ℕ) → (Waits (j + 1) i → ⊥) → ((last_place j) ≤ i → i < (last_place j) + 2 → ⊥) → ((mark_place j) ≤ i → i < (mark_place j) + 2 → ⊥)
+          → Waits j i → ⊥
       before i out a b (inl x) = slots (dec_lt ((i - readers_at) / 8) (j + 1))
         where
           slots : Dec ((i - readers_at) / 8 < j + 1) → ⊥

@@ -39,8 +39,8 @@ before-reads r k q = and_both (attached r) _ q.here (passed _ (eq-eqb r.file (fi
 
 module _ (readers : List Reader) (f : ℕ) where
   -- all of the file are queued
-  pub has-all : (n : ℕ) (q : Queue) → Queued readers f 0 q → HasShort readers f n q
-  has-all n q a = record { sits = a.sits; all = λ j u h p. a.all j (omega arith) u h }
+  pub has-all : (n : ℕ) (q : Queue) → Queued readers f 16 q → HasShort readers f n q
+  has-all n q a = record { sits = a.sits; all = λ j u h p. a.all j u u h }
 
   -- of those short of a page all that are short of an earlier one
   pub has-fewer : (n page : ℕ) (q : Queue) → page ≤ n → HasShort readers f n q → HasShort readers f page q

@@ -29,7 +29,6 @@ use Rattle.std.proofs.Common.{
 use native.Mathlib.Decide.{ℕ_discrete, dec_lt, dec_le}
 use borrow.Author.Tests.{eq-eqb}
 use lib.Dec.{T_not, eqb→eq}
-use Rattle.std.specs.declared.option.Option.{Option}
 use Rattle.bits.specs.Map.{bit, on, last_bit}
 use Rattle.bits.proofs.Finds.{last-is}
 use Rattle.rules.specs.Pages.{size, file_of, page_of, key_of, cached, Page}
@@ -46,62 +45,69 @@ use Rattle.rules.proofs.orders.Ranks.{rank-behind, rank-ahead}
 use Rattle.rules.specs.declared.State.{State}
 use Rattle.rules.specs.declared.Reader.{Reader}
 use Rattle.uses.specs.declared.Pick.{Pick}
-use Rattle.uses.specs.Seats.{last_seat, up_to}
 use Rattle.files.specs.Sets.{NoFile}
 use Rattle.uses.specs.Sights.{Ranked}
 use Rattle.rears.specs.Rears.{Ahead, Least, Back, Free, Rear}
 use Rattle.files.proofs.Sets.{below}
-use Rattle.uses.proofs.Seating.{seat_is}
 
 -- ---- the least position
 
 module _ (readers : List Reader) (f page : ℕ) where
-  -- no slot from the last reader's on
-  pub least-none : (at : Option ℕ) → at ≡ last_seat readers f 16 → Least readers f page (up_to at) page
-  least-none at e = record {
-    low = omega arith;
-    all = λ j l u h. absurd ((seat_is readers f 16).after j (omega (arith, ap up_to e, l)) u h);
-    met = λ h. absurd (omega arith);
-  }
+  -- no slot
+  pub least-none : Least readers f page 0 page
+  least-none = record { low = omega arith; all = λ j l u h. absurd (omega arith); met = λ h. absurd (omega arith) }
 
   -- one slot more, and those before it without a reader of the file
-  module _ (n : ℕ) (next : Option ℕ) (r : ℕ) (l : n < 16) (here : T (reads_file f (reader_in readers n))) (s : next ≡ last_seat readers f n)
-      (a : Least readers f page (n + 1) r) where
-    low : up_to next ≤ n
-    low = omega (arith, ap up_to s, (seat_is readers f n).high)
-
+  module _ (s n r : ℕ) (ahead : s ≤ n) (l : n < 16) (here : T (reads_file f (reader_in readers n)))
+      (between : (j : ℕ) → s ≤ j → j < n → T (reads_file f (reader_in readers j)) → ⊥) (a : Least readers f page s r) where
     -- what is no higher than r, nor than the position of a reader that has the page, does
     from : (x : ℕ) → x ≤ r → (page ≤ (reader_in readers n).last → x ≤ (reader_in readers n).position)
-        → (j : ℕ) → up_to next ≤ j → j < 16 → T (reads_file f (reader_in readers j)) → page ≤ (reader_in readers j).last → x ≤ (reader_in readers j).position
-    from x less here-too j m u h p = by (dec_lt n j) (ℕ_discrete j n)
+        → (j : ℕ) → j < n + 1 → j < 16 → T (reads_file f (reader_in readers j)) → page ≤ (reader_in readers j).last → x ≤ (reader_in readers j).position
+    from x less here-too j m u h p = by (dec_lt j s) (ℕ_discrete j n)
       where
-        by : Dec (n < j) → Dec (j ≡ n) → x ≤ (reader_in readers j).position
-        by (yes g) _ = omega (arith, less, a.all j (omega arith) u h p)
-        by (no g) (yes g2) = rw g2 (here-too (rw g2 at p))
-        by (no g) (no g2) = absurd ((seat_is readers f n).after j (omega (arith, ap up_to s, m)) (omega arith) h)
+        by : Dec (j < s) → Dec (j ≡ n) → x ≤ (reader_in readers j).position
+        by (yes g) _ = omega (arith, less, a.all j g u h p)
+        by (no g) (yes e) = rw e (here-too (rw e at p))
+        by (no g) (no e) = absurd (between j (omega arith) (omega arith) h)
 
     -- the slot met before
     still : r < page
-        → (j : ℕ) × (up_to next ≤ j) × (j < 16) × T (reads_file f (reader_in readers j)) × ((reader_in readers j).position ≡ r)
+        → (j : ℕ) × (j < n + 1) × (j < 16) × T (reads_file f (reader_in readers j)) × ((reader_in readers j).position ≡ r)
         × (page ≤ (reader_in readers j).last)
-    still h = let m = a.met h in (m.0, omega (arith, m.1, low), m.2, m.3, m.4, m.5)
+    still h = let m = a.met h in (m.0, omega (arith, m.1), m.2, m.3, m.4, m.5)
 
     -- it does not have the page before it
-    pub least-past : (reader_in readers n).last < page → Least readers f page (up_to next) r
+    pub least-past : (reader_in readers n).last < page → Least readers f page (n + 1) r
     least-past h = record { low = a.low; all = from r (omega arith) (λ p. absurd (omega arith)); met = still }
 
     -- it has, if it is not past it
-    pub least-nearer : page ≤ (reader_in readers n).last → Least readers f page (up_to next) (min r (reader_in readers n).position)
+    pub least-nearer : page ≤ (reader_in readers n).last → Least readers f page (n + 1) (min r (reader_in readers n).position)
     least-nearer p = by (dec_lt (reader_in readers n).position r)
       where
-        by : Dec ((reader_in readers n).position < r) → Least readers f page (up_to next) (min r (reader_in readers n).position)
+        by : Dec ((reader_in readers n).position < r) → Least readers f page (n + 1) (min r (reader_in readers n).position)
         by (yes g) =
             let e : min r (reader_in readers n).position ≡ (reader_in readers n).position = omega arith in
-            rw e (record { low = omega (arith, a.low); all = from (reader_in readers n).position (omega arith) (λ _. omega arith); met = λ _.
-                (n, low, l, here, refl, p) })
+            rw e record {
+              low = omega (arith, a.low);
+              all = from (reader_in readers n).position (omega arith) (λ _. omega arith);
+              met = λ _. (n, omega arith, l, here, refl, p);
+            }
         by (no g) =
             let e : min r (reader_in readers n).position ≡ r = omega arith in
-            rw e (record { low = a.low; all = from r (omega arith) (λ _. omega arith); met = still })
+            rw e record { low = a.low; all = from r (omega arith) (λ _. omega arith); met = still }
+
+  -- the others have no reader of the file
+  pub least-all : (s r : ℕ) → s ≤ 16 → ((j : ℕ) → s ≤ j → j < 16 → T (reads_file f (reader_in readers j)) → ⊥) → Least readers f page s r
+      → Least readers f page 16 r
+  least-all s r few none a = record {
+    low = a.low;
+    all = λ j l u h. by j u h (dec_lt j s);
+    met = λ h. let m = a.met h in (m.0, m.2, m.2, m.3, m.4, m.5);
+  }
+    where
+      by : (j : ℕ) → j < 16 → T (reads_file f (reader_in readers j)) → Dec (j < s) → page ≤ (reader_in readers j).last → r ≤ (reader_in readers j).position
+      by j u h (yes l) p = a.all j l u h p
+      by j u h (no l) p = absurd (none j (omega arith) u h)
 
 -- ---- the pages passed over
 
@@ -119,7 +125,7 @@ has-before readers f k j l h e p q = (
   },
 )
 
-module _ (readers : List Reader) (map : List ℕ) (f page r : ℕ) (few : page ≤ 1024) (a : Least readers f page 0 r) where
+module _ (readers : List Reader) (map : List ℕ) (f page r : ℕ) (few : page ≤ 1024) (a : Least readers f page 16 r) where
   abbrev last : ℕ
   last = last_bit map (f * 1024) r
 
@@ -147,7 +153,7 @@ module _ (readers : List Reader) (map : List ℕ) (f page r : ℕ) (few : page �
       let q = before-is (reader_in readers x.0) (key_of f last) x.2 in
       let t = last-is map (f * 1024) r in
       let own : (reader_in readers x.0).file ≡ f = q.in_its_file ∙ omega (arith, e, few) in
-      let least = a.all x.0 (omega arith) x.1 (and_both (attached (reader_in readers x.0)) _ q.here (passed _ (eq-eqb _ f own)))
+      let least = a.all x.0 x.1 x.1 (and_both (attached (reader_in readers x.0)) _ q.here (passed _ (eq-eqb _ f own)))
       (omega (arith, q.in_reach, e)) in
       omega (arith, q.past, least, e, t.high, a.low)
 

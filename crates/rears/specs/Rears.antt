@@ -15,12 +15,12 @@ use Rattle.uses.specs.Sights.{Ranked}
 abbrev pub Ahead : List Reader → ℕ → Type 0
 Ahead readers k = (j : ℕ) × (j < 16) × T (before (reader_in readers j) k)
 
--- of the slots from n on, r is the least position of the readers of file f that have the page before them; the page itself where none has
+-- of the first n slots, r is the least position of the readers of file f that have the page before them; the page itself where none has
 pub record Least (readers : List Reader) (f page n r : ℕ) : Type 0 where
   pub low : r ≤ page
-  pub all : (j : ℕ) → n ≤ j → j < 16 → T (reads_file f (reader_in readers j)) → page ≤ (reader_in readers j).last → r ≤ (reader_in readers j).position
+  pub all : (j : ℕ) → j < n → j < 16 → T (reads_file f (reader_in readers j)) → page ≤ (reader_in readers j).last → r ≤ (reader_in readers j).position
   pub met : r < page
-      → (j : ℕ) × (n ≤ j) × (j < 16) × T (reads_file f (reader_in readers j)) × ((reader_in readers j).position ≡ r) × (page ≤ (reader_in readers j).last)
+      → (j : ℕ) × (j < n) × (j < 16) × T (reads_file f (reader_in readers j)) × ((reader_in readers j).position ≡ r) × (page ≤ (reader_in readers j).last)
 
 -- page r of file f is cached, if it is one, and every cached page after it, up to `page`, is ahead of a reader
 pub record Back (readers : List Reader) (cached : List ℕ) (f page r : ℕ) : Type 0 where

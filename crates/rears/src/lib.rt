@@ -15,18 +15,16 @@ use uses::{Pick, Sight};
 // The least position of the file's readers that still have the page before them; the page itself where none has.
 fn least_ahead(sight: &Sight, file: usize, page: usize) -> usize
     requires { file < 8 }
-    ensures least { (v : View) → Shows sight.now v → Least v.readers file page 0 result }
+    ensures least { (v : View) → Shows sight.now v → Least v.readers file page 16 result }
     ensures low { result ≤ page }
 {
     let seats = sight.seats;
     let mut least = page;
-    let mut at = seats.last_slots[file];
-    while let Some(slot) = at {
-        let slot = slot as usize;
+    let mut left = seats.slots[file];
+    while let Some(slot) = left.pop() {
         if page <= seats.lasts[slot] as usize {
             least = least.min(seats.positions[slot] as usize);
         }
-        at = seats.before[slot];
     }
     least
 }

@@ -1,3 +1,3 @@
--- What Run rests on: its reply, and legs one after the other.
+-- What Run rests on: its reply, and turns passed at once.
 pub mod Replies
-pub mod Legs
+pub mod Passings

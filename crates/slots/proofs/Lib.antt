@@ -1,3 +1,2 @@
--- What the calls of a slot rest on: ranges, and the records.
-pub mod Ranges
-pub mod Records
+-- What the calls of a slot rest on.
+pub mod Stays

@@ -2,92 +2,113 @@
 
 #![tactic(auto)]
 
-ghost use Rattle.std.specs.Prelude.{◌≡◌, List, ℕ, min, ◌+◌, ◌≤◌};
-ghost use Rattle.rules.specs.Views.{state_of, reply_of};
-ghost use Rattle.rules.specs.Valid.{Valid};
-ghost use Rattle.rules.specs.Calls.{attach_of, read_of, detach_of, no_interval, measured_pace, measure_of};
+ghost use Rattle.std.specs.Prelude.{◌≡◌, ◌≤◌};
+ghost use Rattle.rules.specs.Calls.{reply, attach_of, read_of, detach_of, no_interval, measured_pace, measure_of};
+ghost use Rattle.slots.specs.Berths.{berth_of, reader_slot};
 ghost use Rattle.slots.specs.Others.{OthersStay};
 
-use rules::{Answer, Condition, Outcome, Reader, View};
+use rules::{Answer, Condition, Reader, Refusal};
+use state::Quay;
 
-// One more, up to 65,535.
-fn one_more(n: u16) -> u16
-    ensures { result ≡ min 65535 (n + 1) }
-{
-    if n < 65535 {
-        return n + 1;
-    }
-    n
+// ---- Attach
+
+// What an Attach asks for, its numbers tested: a slot, a file, and the record that the slot gets.
+#[derive(Clone, Copy)]
+struct Berth {
+    slot: usize,
+    file: usize,
+    reader: Reader,
 }
 
-// The slot's record is looked at last: 5 is the last of the refusals. Only an Attach that is carried out counts (A.6).
-pub fn attach(mut v: View, slot: u64, file: u64, pace: u64, start: u64, last: u64) -> Outcome
-    ensures by_index { (c f : List ℕ) → reply_of result c f ≡ attach_of (state_of v c f) slot file pace start last }
-    ensures one_record { OthersStay v slot result.view }
+// The berth of such numbers. Whether the slot is empty is asked last: 5 is the last of the refusals.
+fn berth_of(
+    sizes: [u16; 8],
+    slot: u64,
+    file: u64,
+    pace: u64,
+    start: u64,
+    last: u64,
+) -> Result<Berth, Refusal>
+    ensures { result ≡ berth_of sizes slot file pace start last }
 {
-    if 15 < slot {
-        return calls::refuse(v, 2);
-    }
-    let sizes = v.sizes;
-    if parts::no_file(sizes, file) {
-        return calls::refuse(v, 3);
-    }
+    let slot = parts::slot_in(slot)?;
+    let file = parts::file_in(sizes, file)?;
     if !parts::within(1, 1000, pace) {
-        return calls::refuse(v, 4);
+        return Err(Refusal::NoPace);
     }
-    let f = file as usize;
-    let size = sizes[f];
-    if parts::no_range(size, start, last) {
-        return calls::refuse(v, 15);
+    if parts::no_range(sizes[file], start, last) {
+        return Err(Refusal::NoRange);
     }
-    let i = slot as usize;
-    let old = v.readers[i];
-    let condition = old.condition;
-    match condition {
-        Condition::Empty => {
-            v.readers[i] = parts::docked(file as u8, pace as u16, start as u16, last as u16);
-            v.marks[i] = start as u16;
-            v.attaches[f] = one_more(v.attaches[f]);
-            calls::outcome(v, Answer::Done)
-        }
-        Condition::Running | Condition::Waiting => calls::refuse(v, 5),
+    Ok(Berth {
+        slot,
+        file,
+        reader: parts::docked(file as u8, pace as u16, start as u16, last as u16),
+    })
+}
+
+// Only an Attach that is carried out counts (A.6).
+#[tactic(auto, unfolding(rules::specs::Calls::attach_of))]
+pub fn attach(q: &mut Quay, slot: u64, file: u64, pace: u64, start: u64, last: u64) -> Answer
+    ensures by_rule { reply q.new result ≡ attach_of q.old slot file pace start last }
+    ensures one_record { OthersStay q.old slot q.new }
+{
+    match berth_of(q.view.sizes, slot, file, pace, start, last) {
+        Ok(Berth { slot, file, reader }) => match q.view.readers[slot].condition {
+            Condition::Empty => {
+                q.view.readers[slot] = reader;
+                q.view.marks[slot] = reader.position;
+                q.view.attaches[file] = q.view.attaches[file].saturating_add(1);
+                Answer::Done
+            }
+            Condition::Running | Condition::Waiting => Answer::Refused(Refusal::SlotTaken),
+        },
+        Err(why) => Answer::Refused(why),
     }
 }
 
-pub fn read(mut v: View, cached: &[u64; 128], fetching: &mut [u64; 128], slot: u64) -> Outcome
-    requires { Valid (state_of v cached.now fetching.old) }
-    ensures fetching_after { reply_of result cached.now fetching.new ≡ read_of (state_of v cached.now fetching.old) slot }
-    ensures one_record { OthersStay v slot result.view }
+// ---- Read
+
+#[tactic(auto, unfolding(rules::specs::Calls::read_of))]
+pub fn read(q: &mut Quay, slot: u64) -> Answer
+    ensures by_rule { reply q.new result ≡ read_of q.old slot }
+    ensures one_record { OthersStay q.old slot q.new }
 {
-    if 15 < slot {
-        return calls::refuse(v, 2);
+    match parts::slot_in(slot) {
+        Ok(i) => {
+            let step = calls::read_slot(&q.cached, &mut q.fetching, q.view.readers[i]);
+            q.view.readers[i] = step.reader;
+            step.answer
+        }
+        Err(why) => Answer::Refused(why),
     }
-    let i = slot as usize;
-    let r = calls::read_slot(cached, fetching, v.readers[i]);
-    let answer = r.answer;
-    let reader = r.reader;
-    v.readers[i] = reader;
-    calls::outcome(v, answer)
 }
 
-// No map is lent: a fetch that the reader waited for stays open.
-pub fn detach(mut v: View, slot: u64) -> Outcome
-    ensures by_index { (c f : List ℕ) → reply_of result c f ≡ detach_of (state_of v c f) slot }
-    ensures one_record { OthersStay v slot result.view }
+// ---- Detach and Measure
+
+// The slot of a reader. One that waits counts as one that runs.
+fn reader_slot(readers: &[Reader; 16], slot: u64) -> Result<usize, Refusal>
+    ensures { result ≡ reader_slot readers.now slot }
 {
-    if 15 < slot {
-        return calls::refuse(v, 2);
+    let i = parts::slot_in(slot)?;
+    if !parts::is_attached(readers[i]) {
+        return Err(Refusal::SlotEmpty);
     }
-    let i = slot as usize;
-    let old = v.readers[i];
-    let condition = old.condition;
-    match condition {
-        Condition::Empty => calls::refuse(v, 6),
-        Condition::Running | Condition::Waiting => {
-            v.readers[i] = parts::no_reader();
-            v.marks[i] = 0;
-            calls::outcome(v, Answer::Done)
+    Ok(i)
+}
+
+// A fetch that the reader waited for stays open.
+#[tactic(auto, unfolding(rules::specs::Calls::detach_of))]
+pub fn detach(q: &mut Quay, slot: u64) -> Answer
+    ensures by_rule { reply q.new result ≡ detach_of q.old slot }
+    ensures one_record { OthersStay q.old slot q.new }
+{
+    match reader_slot(&q.view.readers, slot) {
+        Ok(i) => {
+            q.view.readers[i] = parts::no_reader();
+            q.view.marks[i] = 0;
+            Answer::Done
         }
+        Err(why) => Answer::Refused(why),
     }
 }
 
@@ -99,42 +120,33 @@ fn no_interval(interval: u64, blocked: u64) -> bool
 }
 
 // The pace by what a reader has read since its mark. One that has read no page keeps its pace.
+#[tactic(auto, unfolding(rules::specs::Calls::measured_pace))]
 fn measured_pace(old: Reader, mark: u16, interval: u64, blocked: u64) -> u16
     requires { blocked ≤ interval }
     ensures { result ≡ measured_pace interval blocked old mark }
 {
-    if old.position <= mark {
+    let n = old.position.saturating_sub(mark);
+    if n == 0 {
         return old.pace;
     }
-    let n = (old.position - mark) as u64;
-    let pace = (interval - blocked) / n;
-    if pace < 1 {
-        return 1;
-    }
-    if 1000 < pace {
-        return 1000;
-    }
-    pace as u16
+    ((interval - blocked) / n as u64).clamp(1, 1000) as u16
 }
 
-// A reader that waits is measured as one that runs: the ticks for which it waited are blocked ones.
-pub fn measure(mut v: View, slot: u64, interval: u64, blocked: u64) -> Outcome
-    ensures by_index { (c f : List ℕ) → reply_of result c f ≡ measure_of (state_of v c f) slot interval blocked }
-    ensures one_record { OthersStay v slot result.view }
+// The ticks for which a reader waited are blocked ones.
+#[tactic(auto, unfolding(rules::specs::Calls::measure_of))]
+pub fn measure(q: &mut Quay, slot: u64, interval: u64, blocked: u64) -> Answer
+    ensures by_rule { reply q.new result ≡ measure_of q.old slot interval blocked }
+    ensures one_record { OthersStay q.old slot q.new }
 {
-    if 15 < slot {
-        return calls::refuse(v, 2);
+    match reader_slot(&q.view.readers, slot) {
+        Ok(_) if no_interval(interval, blocked) => Answer::Refused(Refusal::NoInterval),
+        Ok(i) => {
+            let old = q.view.readers[i];
+            let pace = measured_pace(old, q.view.marks[i], interval, blocked);
+            q.view.readers[i] = parts::paced(old, pace);
+            q.view.marks[i] = old.position;
+            Answer::Done
+        }
+        Err(why) => Answer::Refused(why),
     }
-    let i = slot as usize;
-    let old = v.readers[i];
-    if !parts::is_attached(old) {
-        return calls::refuse(v, 6);
-    }
-    if no_interval(interval, blocked) {
-        return calls::refuse(v, 16);
-    }
-    let pace = measured_pace(old, v.marks[i], interval, blocked);
-    v.readers[i] = parts::paced(old, pace);
-    v.marks[i] = old.position;
-    calls::outcome(v, Answer::Done)
 }

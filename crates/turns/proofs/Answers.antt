@@ -1,6 +1,6 @@
--- An answer that is F, or that is no F, as code knows it, and how many H one is. Assumes nothing.
+-- An answer that is no F, as code knows it, and how many H one is. Assumes nothing.
 use Prim.Native.Nat.{ℕ, ◌≤◌}
-use mathlib.Core.Path.{◌≡◌, refl, ap}
+use mathlib.Core.Path.{◌≡◌, refl}
 use native.Mathlib.Omega.{arith}
 use lib.ListN.{length}
 use Rattle.rules.specs.Run.{on_fetch, hit_page}
@@ -24,14 +24,6 @@ not-fetch (Stolen file page) f y k = refl
 not-fetch Arrived f y k = refl
 not-fetch (Replaced file page) f y k = refl
 not-fetch (Ran fetches reads) f y k = refl
-
--- F
-abbrev pub IsFetch : Answer → Type 0
-IsFetch a = (file : ℕ) × (page : ℕ) × (a ≡ Fetch file page)
-
--- what is made of an F: 1, where of any other answer 0 is made
-pub only-fetch : (a : Answer) → IsFetch a → on_fetch {A = ℕ} a (λ _ _. 1) 0 ≡ 1
-only-fetch a k = ap (λ a. on_fetch {A = ℕ} a (λ _ _. 1) 0) k.2
 
 -- an answer is at most one H
 pub one_hit : (a : Answer) → length (hit_page a) ≤ 1

@@ -1,7 +1,11 @@
--- What the turns rest on: the answer of a turn, the readers and their array, turns one after the other, a turn as its code reads it, and a leg of turns.
+-- What the turns rest on: the answer of a turn, the readers and their seats, an arrival, turns one after the other, a turn as its code reads it, and a Run
+-- under way.
 pub mod Answers
 pub mod Seatings
+pub mod Untouched
+pub mod Arrivals
 pub mod Rounds
 pub mod Turnings
 pub mod Keepings
-pub mod Legs
+pub mod Endings
+pub mod Goings

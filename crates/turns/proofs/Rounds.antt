@@ -1,9 +1,8 @@
--- One turn on the array and the maps, and one more at the end of those made. Assumes nothing.
+-- One turn by its Reads and the maps, and one more at the end of those made. Assumes nothing.
 use Prim.Native.Nat.{ℕ, zero, suc, ◌+◌, ◌≤◌, ◌<◌}
 use mathlib.Core.Path.{◌≡◌, refl, sym, ap, ap₂, subst, ◌∙◌}
 use mathlib.Core.Bool.{Bool, true, false, not, cond}
 use mathlib.Core.List.{List, []}
-use Rattle.std.specs.declared.option.Option.{Option}
 use native.Mathlib.Omega.{arith}
 use native.Mathlib.Nat.{zero-add, suc-add, add_assoc, add-zero}
 use lib.ListN.{get_or, set, length}
@@ -13,24 +12,24 @@ use Rattle.bits.specs.Map.{put_bit, on}
 use Rattle.rules.specs.Pages.{cached, in_fetch}
 use Rattle.rules.specs.Readers.{no_reader, reader_at, attached, by_condition, onward}
 use Rattle.rules.specs.Valid.{Valid}
-use Rattle.rules.specs.Calls.{reply, refused, with_readers, with_reader, with_fetching, with_cached, without, read_of, arrive_of, dropped}
+use Rattle.rules.specs.Calls.{refused, with_readers, with_fetching, with_cached, read_of, arrive_of, dropped}
 use Rattle.rules.specs.Run.{on_fetch, hit_page, next_turn, ended, read_turn, turn_of, Turn, Turns, turns_of}
 use Rattle.rules.specs.declared.State.{State}
 use Rattle.rules.specs.declared.Reader.{Reader}
 use Rattle.rules.specs.declared.Reply.{Reply}
 use Rattle.rules.specs.declared.Answer.{Answer}
-use Rattle.rules.specs.declared.Answer.TheVariants.{Hit}
+use Rattle.rules.specs.declared.Answer.TheVariants.{Hit, Fetch}
 use Rattle.rules.specs.declared.Condition.{Condition}
 use Rattle.rules.specs.declared.Condition.TheVariants.{Empty, Running, Waiting}
 use Rattle.rules.proofs.laws.Cases.{cond_no, cond-all, fetch-all, outcomes}
 use Rattle.rules.proofs.calls.Kept.{turn-kept}
 use Rattle.rules.proofs.third.Moves.{now_at, goes_now, key_now}
-use Rattle.rules.proofs.third.Turns.{awaiting, read_by, read-stored, stored, emptied, emptied-same, fetch-turn}
-use Rattle.calls.specs.Inner.{stepped, eased}
+use Rattle.rules.proofs.third.Turns.{awaiting, read_by, asked, read-stored, stored, stored_there, emptied, emptied-same, hit-turn, fetch-turn}
+use Rattle.calls.specs.Inner.{stepped}
 use Rattle.calls.specs.declared.Step.{Step}
 use Rattle.parts.specs.Positions.{moved_to}
 use Rattle.turns.specs.Tallies.{Tally, tally, so_far}
-use Rattle.turns.proofs.Answers.{NoFetch, not-fetch, IsFetch, only-fetch, one_hit}
+use Rattle.turns.proofs.Answers.{NoFetch, not-fetch, one_hit}
 
 -- ---- what Read says of the turn's record
 
@@ -74,12 +73,15 @@ module _ (s : State) (v : Valid s) (closed : (k : ℕ) → T (in_fetch s k) → 
       gone-on = rw (get_or-set_same s.readers s.turn (onward (now_at s)) no_reader (omega (arith, v.sixteen, v.turn_high))) refl
 
   -- with F the reader has a page to read that is not cached, and that page is in fetch
-  pub read-begins : IsFetch q.answer
+  pub read-begins : (file page : ℕ) → q.answer ≡ Fetch file page
       → T (goes_now s) × T (not (cached s (key_now s))) × (still ≡ put_bit s.fetching (key_now s) 1)
-  read-begins k =
-      let yes : fetches (read_of s s.turn).answer ≡ 1 = ap fetches (sym answer-is) ∙ only-fetch q.answer k in
+      × (file ≡ (now_at s).file) × (page ≡ (now_at s).position + 1)
+  read-begins file page k =
+      let yes : fetches (read_of s s.turn).answer ≡ 1 = ap fetches (sym answer-is ∙ k) in
       let all = read_by s v closed Left (λ z. absurd (omega arith)) (λ z. absurd (omega arith)) (λ _ _ z. absurd (omega arith)) (λ g o _. (g, o, refl)) yes in
-      (all.0, all.1, read-map s v s.turn v.turn_high q still _ e ∙ all.2)
+      let told : Fetch (now_at s).file ((now_at s).position + 1) ≡ Fetch file page = sym (ap (λ r. r.answer)
+          (asked s v closed all.0 all.1)) ∙ sym answer-is ∙ k in
+      (all.0, all.1, read-map s v s.turn v.turn_high q still _ e ∙ all.2, cc, cc)
     where
       Left : Reply → Type 0
       Left r = fetches r.answer ≡ 1 → T (goes_now s) × T (not (cached s (key_now s))) × (r.state.fetching ≡ put_bit s.fetching (key_now s) 1)
@@ -120,63 +122,33 @@ module _ (s : State) (v : Valid s) (closed : (k : ℕ) → T (in_fetch s k) → 
       let moved : moved_to q.reader.position r ≡ q.reader = rw er (sym (read-moves s v closed q still e k).0) in
       rw moved (ap tally (t ∙ turn-reads s v.turn_high))
 
-  -- one that meets F: the page is put in, and the second Read moves the reader on
-  module _ (g : T (goes_now s)) (o : T (not (cached s (key_now s)))) (gone : Option ℕ) (eg : gone ≡ dropped (awaiting s s.turn)) (q : Step) (still : List ℕ)
-      (e : stepped (with_fetching (with_cached s (stored s v closed g gone)) (emptied s v closed g)) s.turn q still
-      ≡ read_of (with_fetching (with_cached s (stored s v closed g gone)) (emptied s v closed g)) s.turn) where
-    again : stepped (with_fetching (with_cached s (stored s v closed g gone)) (emptied s v closed g)) s.turn q still
-        ≡ reply (with_reader (with_fetching (with_cached s (stored s v closed g gone)) (emptied s v closed g)) s.turn (onward (now_at s)))
-        (Hit (now_at s).file ((now_at s).position + 1))
-    again = e ∙ read-stored s v closed g o gone
+-- ---- the page has arrived, and is read again
 
-    fetch-still : still ≡ emptied s v closed g
-    fetch-still = ap (λ r. r.state.fetching) again
+module _ (s : State) (v : Valid s) (closed : (k : ℕ) → T (in_fetch s k) → ⊥) (g : T (goes_now s)) (o : T (not (cached s (key_now s)))) (map still : List ℕ)
+    (em : map ≡ stored s v closed g (dropped (awaiting s s.turn))) (es : still ≡ emptied s v closed g) where
+  -- the state then: the readers are as before the turn
+  abbrev pub arrived : State
+  arrived = with_fetching (with_cached s map) still
 
-    goes_on : q.reader ≡ onward (now_at s)
-    goes_on =
-        sym (get_or-set_same s.readers s.turn q.reader no_reader (omega (arith, v.sixteen, v.turn_high)))
-        ∙ ap (λ r. reader_at r.state s.turn) again
-        ∙ get_or-set_same s.readers s.turn (onward (now_at s)) no_reader (omega (arith, v.sixteen, v.turn_high))
+  -- in fetch is what was before the turn: nothing
+  pub arrived-quiet : (k : ℕ) → T (on still k) → ⊥
+  arrived-quiet k h = closed k (subst (λ (f : ℕ → Bool). T (f k)) (emptied-same s v closed g o) (rw es at h))
 
-    turn-fetches : record {
-      after =
-          with_fetching (with_cached (with_readers (next_turn s) (set s.readers s.turn (moved_to q.reader.position r))) (stored s v closed g gone))
-          still;
-      fetched = 1;
-      read = length (hit_page q.answer);
-    } ≡ tally (turn_of s)
-    turn-fetches =
-        let moved : moved_to q.reader.position r ≡ onward (now_at s) = rw (er, goes_on) refl in
-        rw (moved, fetch-still, ap (λ r. r.answer) again, eg) (ap tally (sym (fetch-turn s v closed g o)))
+  there : T (cached arrived (key_now s))
+  there = rw em (stored_there s v closed g o (dropped (awaiting s s.turn)))
 
-  -- the same by what the code is told: the page's key, the page that gave up its frame, and the maps on the way
-  module _ (g : T (goes_now s)) (o : T (not (cached s (key_now s)))) (key : ℕ) (ek : key ≡ key_now s) (gone : Option ℕ)
-      (eg : gone ≡ dropped (awaiting s s.turn)) (map opened still' : List ℕ) (em : map ≡ put_bit (eased s.cached gone) key 1)
-      (eo : opened ≡ put_bit s.fetching (key_now s) 1) (es : still' ≡ without opened key) (q : Step) (still : List ℕ)
-      (e : stepped (with_fetching (with_cached s map) still') s.turn q still ≡ read_of (with_fetching (with_cached s map) still') s.turn) where
-    map_is : map ≡ stored s v closed g gone
-    map_is = em ∙ ap (λ k. put_bit (eased s.cached gone) k 1) ek
+  -- the second Read is no F
+  pub arrived-read : (a : Answer) → a ≡ (read_of arrived s.turn).answer → NoFetch a
+  arrived-read a e file page h =
+      let q : (read_of arrived s.turn).answer ≡ Hit (now_at s).file ((now_at s).position + 1) =
+      rw (em, es) (ap (λ r. r.answer) (read-stored s v closed g o (dropped (awaiting s s.turn)))) in
+      cc
 
-    still-is : still' ≡ emptied s v closed g
-    still-is = es ∙ ap₂ without eo ek
-
-    abbrev told : stepped (with_fetching (with_cached s (stored s v closed g gone)) (emptied s v closed g)) s.turn q still
-        ≡ read_of (with_fetching (with_cached s (stored s v closed g gone)) (emptied s v closed g)) s.turn
-    told = rw (map_is, still-is) at e
-
-    pub fetch-made : record {
-      after = with_fetching (with_cached (with_readers (next_turn s) (set s.readers s.turn (moved_to q.reader.position r))) map) still;
-      fetched = 1;
-      read = length (hit_page q.answer);
-    } ≡ tally (turn_of s)
-    fetch-made = rw map_is (turn-fetches g o gone eg q still told)
-
-    -- in fetch is what was before the turn: nothing
-    pub fetch-left : on still ≡ in_fetch s
-    fetch-left = ap on (fetch-still g o gone eg q still told) ∙ emptied-same s v closed g o
-
-    pub fetch-quiet : (k : ℕ) → T (on still k) → ⊥
-    fetch-quiet k h = closed k (subst (λ (f : ℕ → Bool). T (f k)) fetch-left h)
+  -- a turn from there is the rest of this turn, which met F
+  pub arrived-turn : Valid arrived → record { after = (turn_of arrived).after; fetched = 1; read = length (turn_of arrived).hit } ≡ tally (turn_of s)
+  arrived-turn w =
+      ap (λ (t : Turn). record { after = t.after; fetched = 1; read = length t.hit }) (hit-turn arrived w arrived-quiet g there)
+      ∙ rw (em, es) refl ∙ sym (ap tally (fetch-turn s v closed g o))
 
 -- ---- the turns so far
 

@@ -1,4 +1,4 @@
--- What the contracts of the turns speak of beside the rules: turns as their loop holds them, one turn, and a leg.
+-- What the contracts of the turns speak of beside the rules: turns as their loop holds them, one turn, and a Run under way.
 pub mod Places
 pub mod Tallies
-pub mod Legs
+pub mod Runs

@@ -1,25 +1,28 @@
 // The turns of a Run, of the slots in their order: each with Read and, where that meets F, Arrive and Read again. A turn changes one position, the cached map
-// and the files' counts. So the view stays as it is for a leg of turns: the positions are in the readers' array of the searches, which is lent from turn to
-// turn, and what is known of the files' heads goes along.
+// and the files' counts. So the view stays as it is for a leg of turns: the positions are in the seats of the searches, which go along from turn to turn, and
+// so does what is known of the files' heads.
 
 #![tactic(auto)]
 
-ghost use Rattle.std.specs.Prelude.{◌≡◌, ℕ, ◌+◌, ◌≤◌, ◌<◌, get_or, length};
-ghost use Rattle.rules.specs.Readers.{reader_in};
-ghost use Rattle.rules.specs.Views.{state_of};
+ghost use Rattle.std.specs.Prelude.{◌≡◌, ℕ, ◌+◌, ◌≤◌, ◌<◌, T, length};
+ghost use Rattle.rules.specs.declared.State.{State};
+ghost use Rattle.rules.specs.Readers.{attached};
 ghost use Rattle.rules.specs.Calls.{dropped};
 ghost use Rattle.rules.specs.Run.{hit_page};
 ghost use Rattle.parts.specs.Held.{Held};
-ghost use Rattle.uses.specs.Choices.{chosen};
-ghost use Rattle.uses.specs.Sights.{state_under};
-ghost use Rattle.heads.specs.Heads.{Kept};
-ghost use Rattle.parts.specs.Positions.{moved_to};
-ghost use Rattle.turns.specs.Places.{Following, Choosing, Turning};
+ghost use Rattle.files.specs.Leads.{SharesOf};
+ghost use Rattle.uses.specs.Sights.{under, state_under};
+ghost use Rattle.uses.specs.Shown.{Shows, seen};
+ghost use Rattle.heads.specs.Heads.{Kept, Forgot, NotRead};
+ghost use Rattle.turns.specs.Places.{moved_seat, Following, Coming, Landed, Turning};
 ghost use Rattle.turns.specs.Tallies.{Single, Made};
-ghost use Rattle.turns.specs.Legs.{Ready, IsLeg};
+ghost use Rattle.turns.specs.Runs.{Underway};
 
+use calls::Step;
+use files::{FileSet, Shares};
+use heads::Heads;
 use rules::{Answer, Reader, View};
-use uses::{Choice, Terms};
+use uses::{Seats, Sight, Terms};
 
 // What a turn did: 1 if it met F, and 1 if it ended in H.
 #[derive(Clone, Copy)]
@@ -28,161 +31,182 @@ pub struct Turned {
     pub read: u16,
 }
 
-// A leg of a Run, some turns that were made: the view after them, how many they are, the fetches and the reads.
+// A Run under way: the view after the turns made, its readers' seats and the heads known, and how many turns, fetches and reads were made.
 #[derive(Clone, Copy)]
-pub struct Leg {
+pub struct Run {
     pub view: View,
+    pub seats: Seats,
+    pub heads: Heads,
     pub turns: u64,
     pub fetches: u16,
     pub reads: u16,
 }
 
-// 1 if the answer is H.
-fn one_if_hit(answer: Answer) -> u16
-    ensures { result ≡ length (hit_page answer) }
-{
-    match answer {
-        Answer::Hit { file: _, page: _ } => 1,
-        _ => 0,
-    }
-}
-
-// A turn that ended in this answer.
-fn ended(answer: Answer, fetched: u16) -> Turned
-    ensures { result ≡ record { fetched = fetched; read = length (hit_page answer) } }
-{
-    let read = one_if_hit(answer);
-    Turned { fetched, read }
-}
-
 // The page that gives up its frame for one that arrives: where all frames are taken, the head of the steal order.
-fn give_up<'a>(
-    t: Terms,
-    sizes: &'a [u16; 8],
-    weights: &'a [u64; 9],
-    seats: &'a [u16; 72],
-    cached: &'a [u64; 128],
-    fetching: &'a [u64; 128],
-    held: &'a [u16; 8],
-    heads: &mut [u64; 8],
-) -> Choice
-    requires choosing { (w : View) × Choosing t sizes.now weights.now seats.now cached.now fetching.now w }
-    requires done_bound { (t.done ≤ 16384) × Held cached.now held.now }
-    ensures { (w : View) → Choosing t sizes.now weights.now seats.now cached.now fetching.now w
-        → Kept (state_under t w cached.now fetching.now) t.done heads.old
-        → (chosen result ≡ dropped (state_under t w cached.now fetching.now))
-        × Kept (state_under t w cached.now fetching.now) t.done heads.new }
+fn give_up(
+    sight: &Sight,
+    shares: &Option<Shares>,
+    held: &[u16; 8],
+    heads: &mut Heads,
+) -> Option<u16>
+    requires { (sight.now.terms.done ≤ 16384) × Held sight.now.cached.now held.now }
+    ensures { (v : View) → Shows sight.now v → SharesOf (under sight.now.terms v) shares.now → Kept (seen sight.now v) sight.now.terms.done heads.old
+        → (result ≡ dropped (seen sight.now v)) × Kept (seen sight.now v) sight.now.terms.done heads.new }
 {
-    if parts::taken(held) < t.frames as u32 {
-        return Choice::Nothing;
+    if parts::taken(held) < sight.terms.frames as u32 {
+        return None;
     }
-    let files = files::files_open(t.frames, weights, held);
-    heads::victim_kept(t, sizes, seats, cached, fetching, heads, files)
+    heads.victim(sight, FileSet::open(shares, held))
 }
 
-// One turn, of the slot whose record is `r`. Read refuses an empty slot and changes nothing, so the slot is not looked at before.
-fn turn<'a>(
-    t: Terms,
-    sizes: &'a [u16; 8],
-    weights: &'a [u64; 9],
-    seats: &mut [u16; 72],
+// Run's Arrive, of a page that is in fetch. What goes for it is chosen before it leaves fetch: so it is present in the choice (A.5), and never the one to go.
+// That every reader waiting for it runs again is said of the state alone: the seats have positions, and these stay.
+fn arrive(
+    v: &View,
+    terms: Terms,
+    shares: &Option<Shares>,
+    seats: &Seats,
+    heads: &mut Heads,
     cached: &mut [u64; 128],
     fetching: &mut [u64; 128],
     held: &mut [u16; 8],
-    heads: &mut [u64; 8],
+    file: u8,
+    page: u16,
+) -> Answer
+    requires coming { (w : View) × Coming v.now terms shares.now seats.now heads.old cached.old fetching.old file page w }
+    requires done_bound { (terms.done ≤ 16384) × Held cached.old held.old }
+    ensures by_rule { (w : View) → Coming v.now terms shares.now seats.now heads.old cached.old fetching.old file page w
+        → Landed (state_under terms w cached.old fetching.old) terms.done file page result heads.new cached.new fetching.new }
+    ensures counted { Held cached.new held.new }
+{
+    let sight = Sight {
+        terms,
+        sizes: &v.sizes,
+        seats,
+        cached,
+        fetching,
+    };
+    let gone = give_up(&sight, shares, held, heads);
+    let key = parts::page_key(file as u64, page as u64);
+    calls::put_in(cached, fetching, held, key, gone);
+    heads.forget_arrived(key, gone);
+    calls::arrival(gone)
+}
+
+// A turn ends in a Read: the seat has the position of the record that it left, and the head of the reader's file is known no more.
+fn end_turn(
+    slot: usize,
+    seats: &mut Seats,
+    heads: &mut Heads,
     r: Reader,
+    step: Step,
+    fetched: u16,
 ) -> Turned
-    requires turning { (w : View) × Turning t sizes.now weights.now seats.old cached.old fetching.old heads.old r w }
-    requires done_bound { (t.done ≤ 16384) × Held cached.old held.old }
-    ensures by_index { (w : View) → Turning t sizes.now weights.now seats.old cached.old fetching.old
-        heads.old r w → (p : ℕ) × Made t w r seats.old cached.old fetching.old result
-        seats.new cached.new fetching.new heads.new p }
+    requires { (slot < 16) × (T (attached r) → r.file < 8) }
+    ensures value { result ≡ record { fetched = fetched; read = length (hit_page step.answer) } }
+    ensures placed { seats.new ≡ moved_seat seats.old slot step.reader.position }
+    ensures forgot { Forgot heads.old (λ f. NotRead f r) heads.new }
+{
+    seats.positions[slot] = step.reader.position;
+    heads.forget_read(r);
+    Turned {
+        fetched,
+        read: u16::from(matches!(step.answer, Answer::Hit { .. })),
+    }
+}
+
+// One turn. Read refuses an empty slot and changes nothing, so the slot is not looked at before. The reader that waits for its page runs again once that has
+// arrived: the second Read is of the same record.
+fn turn(
+    v: &View,
+    terms: Terms,
+    shares: &Option<Shares>,
+    seats: &mut Seats,
+    heads: &mut Heads,
+    cached: &mut [u64; 128],
+    fetching: &mut [u64; 128],
+    held: &mut [u16; 8],
+) -> Turned
+    requires turning { (w : View) × Turning v.now terms shares.now seats.old heads.old cached.old fetching.old w }
+    requires done_bound { (terms.done ≤ 16384) × Held cached.old held.old }
+    ensures by_rule { (w : View) → Turning v.now terms shares.now seats.old heads.old cached.old fetching.old w
+        → (p : ℕ) × Made terms w seats.old cached.old fetching.old result seats.new heads.new cached.new fetching.new p }
     ensures single { Single result }
     ensures counted { Held cached.new held.new }
 {
-    let slot = t.turn as usize;
+    let slot = terms.turn as usize;
+    let r = parts::at_position(v.readers[slot], seats.positions[slot]);
     let first = calls::read_slot(cached, fetching, r);
-    let answer = first.answer;
-    let Answer::Fetch { file: _, page: _ } = answer else {
-        let moved = first.reader;
-        seats[slot] = moved.position;
-        heads::forget_read(heads, r);
-        return ended(answer, 0);
+    let Answer::Fetch { file, page } = first.answer else {
+        return end_turn(slot, seats, heads, r, first, 0);
     };
-    heads::forget_fetched(heads, t.fetch_time, r);
-    let gone = give_up(t, sizes, weights, seats, cached, fetching, held, heads);
-    let key = parts::next_key(r);
-    calls::put_in(cached, fetching, held, key, gone);
-    heads::forget_arrived(heads, key, gone);
+    heads.forget_fetched(terms.fetch_time, r);
+    arrive(
+        v, terms, shares, seats, heads, cached, fetching, held, file, page,
+    );
     let second = calls::read_slot(cached, fetching, r);
-    let again = second.answer;
-    let moved = second.reader;
-    seats[slot] = moved.position;
-    ended(again, 1)
+    end_turn(slot, seats, heads, r, second, 1)
 }
 
-// The readers where the array has them.
-fn readers_at(readers: [Reader; 16], seats: &[u16; 72]) -> [Reader; 16]
-    ensures { (length result ≡ 16) × ((j : ℕ) → j < 16 → reader_in result j ≡ moved_to (get_or seats.now j 0) (reader_in readers j)) }
+// The view after some turns: it is this slot's turn, and the readers are at these positions.
+pub fn view_after(v: &View, slot: u8, positions: &[u16; 16]) -> View
+    ensures { Following v.now slot positions.now result }
 {
-    let mut next = readers;
-    let mut j: usize = 0;
-    while j < 16 {
-        next[j] = parts::at_position(next[j], seats[j]);
-        j += 1;
+    let mut readers = v.readers;
+    for (j, r) in readers.iter_mut().enumerate() {
+        *r = parts::at_position(*r, positions[j]);
     }
-    next
-}
-
-// The view after some turns: it is this slot's turn, and the readers are where the array has them.
-pub fn view_after(v: View, slot: u8, seats: &[u16; 72]) -> View
-    ensures { Following v slot seats.now result }
-{
-    let readers = v.readers;
-    let moved = readers_at(readers, seats);
-    let mut after = v;
-    after.turn = slot;
-    after.readers = moved;
-    after
-}
-
-// Some turns, one after the other. The counts fit: each turn adds at most 1 to either, and there are at most 16,384. Between two turns no page is in fetch.
-pub fn go_on(
-    v: View,
-    seats: &mut [u16; 72],
-    cached: &mut [u64; 128],
-    fetching: &mut [u64; 128],
-    held: &mut [u16; 8],
-    heads: &mut [u64; 8],
-    done: u64,
-    turns: u64,
-) -> Leg
-    requires { Ready v seats.old cached.old fetching.old heads.old done × (done + turns ≤ 16384) × Held cached.old held.old }
-    ensures leg { IsLeg (state_of v cached.old fetching.old) done turns result
-        seats.new cached.new fetching.new heads.new }
-    ensures counted { Held cached.new held.new }
-    ensures all { result.turns ≡ turns }
-{
-    let sizes = v.sizes;
-    let weights = files::weights_of(v);
-    let mut slot = v.turn;
-    let mut fetches: u16 = 0;
-    let mut reads: u16 = 0;
-    let mut i: u64 = 0;
-    while i < turns {
-        let t = uses::terms_at(v.look_ahead, v.fetch_time, v.frames, slot, done + i);
-        let r = parts::at_position(v.readers[slot as usize], seats[slot as usize]);
-        let q = turn(t, &sizes, &weights, seats, cached, fetching, held, heads, r);
-        fetches += q.fetched;
-        reads += q.read;
-        slot = (slot + 1) % 16;
-        i += 1;
+    View {
+        turn: slot,
+        readers,
+        ..*v
     }
-    let view = view_after(v, slot, seats);
-    Leg {
-        view,
-        turns,
-        fetches,
-        reads,
+}
+
+impl Run {
+    // Some turns more, one after the other. The counts fit: each turn adds at most 1 to either, and there are at most 16,384. Between two turns no page is in
+    // fetch.
+    pub fn go_on(
+        &mut self,
+        cached: &mut [u64; 128],
+        fetching: &mut [u64; 128],
+        held: &mut [u16; 8],
+        turns: u64,
+    )
+        requires going { (s : State) × Underway s self.old cached.old fetching.old }
+        requires few { self.old.turns + turns ≤ 16384 }
+        requires held { Held cached.old held.old }
+        ensures gone { (s : State) → Underway s self.old cached.old fetching.old → Underway s self.new cached.new fetching.new }
+        ensures all { self.new.turns ≡ self.old.turns + turns }
+        ensures counted { Held cached.new held.new }
+    {
+        let v = self.view;
+        let shares = Shares::of_view(v);
+        let done = self.turns;
+        let mut slot = v.turn;
+        for i in 0..turns {
+            let terms = Terms {
+                look_ahead: v.look_ahead,
+                fetch_time: v.fetch_time,
+                frames: v.frames,
+                turn: slot,
+                done: done + i,
+            };
+            let q = turn(
+                &v,
+                terms,
+                &shares,
+                &mut self.seats,
+                &mut self.heads,
+                cached,
+                fetching,
+                held,
+            );
+            self.fetches += q.fetched;
+            self.reads += q.read;
+            slot = (slot + 1) % 16;
+        }
+        self.turns = done + turns;
+        self.view = view_after(&v, slot, &self.seats.positions);
     }
 }

@@ -11,17 +11,13 @@ use Rattle.rules.specs.declared.Condition.{Condition}
 use Rattle.rules.specs.declared.Condition.TheVariants.{Empty, Running, Waiting}
 use Rattle.uses.specs.declared.Terms.{Terms}
 use Rattle.uses.specs.declared.Seats.{Seats}
-use Rattle.uses.specs.Seats.{BeforeSlot, WithinSlots}
 use Rattle.uses.specs.Sights.{Sighted, state_under}
-use Rattle.uses.proofs.Seating.{seat_is}
 
 -- the ghost fields of a `Sight`
 pub record Sound (t : Terms) (sizes : List ℕ) (seats : Seats) : Type 0 where
   pub turn_fits : t.turn < 16
   pub sizes_fit : (f : ℕ) → slice_index sizes f ≤ 1024
   pub positions_fit : (j : ℕ) → slice_index seats.positions j ≤ 1024
-  pub chains_fall : (j : ℕ) → BeforeSlot seats.before j
-  pub chains_begin : (f : ℕ) → f < 8 → WithinSlots seats.last_slots f
 
 position-in : (c : Condition) (s : State) (r : Reader) → Valid s → ReaderIn c s r → r.position ≤ 1024
 position-in Empty s r v e = rw e (omega arith)
@@ -35,8 +31,6 @@ sound t sizes seats cached fetching v h = record {
   turn_fits = h.valid.turn_high;
   sizes_fit = λ f. rw h.sizes_are (h.valid.sizes_high f);
   positions_fit = λ j. by j (dec_lt j 16);
-  chains_fall = h.seated.falls;
-  chains_begin = λ f u. rw (h.seated.last f u) (seat_is v.readers f 16).high;
 }
   where
     s : State

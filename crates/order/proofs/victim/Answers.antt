@@ -16,13 +16,8 @@ open-files-requires c = held_high _ _ c.requires.1
 
 pub invariant_of-sight : goal.invariant_of-sight
 invariant_of-sight c =
-    let s = sound _ _ _ _ _ _ (sighted (goal.at.invariant_of-sight c).After-of) in record {
-      turn_fits = s.turn_fits;
-      sizes_fit = s.sizes_fit;
-      positions_fit = s.positions_fit;
-      chains_fall = s.chains_fall;
-      chains_begin = s.chains_begin;
-    }
+    let s = sound _ _ _ _ _ _ (sighted (goal.at.invariant_of-sight c).After-of) in
+    record { turn_fits = s.turn_fits; sizes_fit = s.sizes_fit; positions_fit = s.positions_fit }
 
 pub returns : goal.returns
 returns c =

@@ -1,56 +1,91 @@
--- Invariant: the least position of the slots passed that have a reader of the file with the page before it. Measure: the slot reached, down the file's chain.
-use Rattle.std.proofs.Common.{◌<◌, ap, arith}
-use Rattle.uses.specs.Seats.{up_to}
-use Rattle.uses.proofs.Seating.{chain_first, chain-reach, chain-is, chain_next}
-use Rattle.rears.proofs.Rearing.{least-none, least-past, least-nearer}
-use Rattle.rears.proofs.least_ahead.Goals.{then-page-seats, else-page-seats}
+-- Invariant: the least position of the first slots, those passed, that have a reader of the file with the page before it; the others are left. Measure: those
+-- left.
+use Rattle.std.proofs.Common.{◌≡◌, ℕ, ◌+◌, ◌≤◌, ◌<◌, T, arith, slice_index}
+use Rattle.rules.specs.Readers.{reader_in, reads_file}
+use Rattle.rules.specs.declared.View.{View}
+use Rattle.uses.specs.Shown.{Shows}
+use Rattle.uses.proofs.Seating.{Left, NoneBefore, popped-low, popped-none, popped-left, popped-reads, popped-between, left-none, reach-is}
+use Rattle.rears.proofs.Rearing.{least-none, least-past, least-nearer, least-all}
+use Rattle.rears.proofs.least_ahead.Goals.{In-Some}
 use Rattle.rears.proofs.least_ahead.Goals as goal
 
-pub loop-at-init : goal.loop-at-init
-loop-at-init c =
-    let a = c.args in
-    let seats = a.sight.now.seats.now in (
-      omega arith,
-      a.sight.now.chains_begin a.file c.requires,
-      λ v h. (chain_first v.readers seats h.seated a.file c.requires, least-none v.readers a.file a.page _ (h.seated.last a.file c.requires)),
+pub loop-slot-init : goal.loop-slot-init
+loop-slot-init c = (
+  0,
+  λ j l. absurd (omega arith),
+  omega arith,
+  omega arith,
+  λ v h. (λ j l u. h.seated.slots c.args.file j c.requires u, least-none v.readers c.args.file c.args.page),
+)
+
+-- the slot taken out: what stands before it, and what is left
+low : (c : In-Some) → c.loop-slot.invariant.0 ≤ c.in-Some.slot
+low c = popped-low c.loop-slot.invariant.0 c.in-Some.slot _ _ c.in-Some.ensures c.loop-slot.invariant.1
+
+none-before : (c : In-Some) → NoneBefore (c.in-Some.slot + 1) c.pop.new.self
+none-before c = popped-none c.loop-slot.invariant.0 c.in-Some.slot _ _ c.in-Some.ensures c.loop-slot.invariant.1
+
+module _ (c : In-Some) (v : View) (h : Shows c.args.sight.now v) where
+  abbrev s : ℕ
+  s = c.loop-slot.invariant.0
+
+  abbrev slot : ℕ
+  slot = c.in-Some.slot
+
+  here : Left v.readers c.args.file s c.loop-slot.left
+  here = (c.loop-slot.invariant.4 v h).0
+
+  left : Left v.readers c.args.file (slot + 1) c.pop.new.self
+  left = popped-left s slot _ _ c.in-Some.ensures c.loop-slot.invariant.1 v.readers c.args.file here
+
+  reads : T (reads_file c.args.file (reader_in v.readers slot))
+  reads = popped-reads s slot _ _ c.in-Some.ensures c.loop-slot.invariant.1 v.readers c.args.file here
+
+  between : (j : ℕ) → s ≤ j → j < slot → T (reads_file c.args.file (reader_in v.readers j)) → ⊥
+  between = popped-between s slot _ _ c.in-Some.ensures c.loop-slot.invariant.1 v.readers c.args.file here
+
+  last : slice_index c.args.sight.now.seats.now.lasts slot ≡ (reader_in v.readers slot).last
+  last = reach-is v.readers c.args.sight.now.seats.now h.seated c.args.file slot c.in-Some.ensures.low reads
+
+pub loop-slot-preserved-then-page-seats : goal.loop-slot-preserved-then-page-seats
+loop-slot-preserved-then-page-seats c =
+    let i = c.loop-slot.invariant in
+    let p = c.in-Some.ensures in
+    let t = (goal.at.loop-slot-preserved-then-page-seats c).In-Some in (
+      c.in-Some.slot + 1,
+      none-before t,
+      omega (arith, p.low),
+      omega (arith, i.3, c.min-least.ensures),
+      λ v h. (
+        left t v h,
+        rw (c.min-least.ensures, h.seated.position c.in-Some.slot p.low)
+            (least-nearer v.readers c.args.file c.args.page i.0 c.in-Some.slot c.loop-slot.least (low t) p.low (reads t v h) (between t v h) (i.4 v h).1
+            (omega (arith, last t v h, c.if-page-seats.true))),
+      ),
     )
 
-pub bounds-seats-slot : goal.bounds-seats-slot
-bounds-seats-slot c = omega (arith, ap up_to c.in-Some.is, c.loop-at.invariant.1)
-
-pub bounds-seats-slot-then-page-seats : goal.bounds-seats-slot-then-page-seats
-bounds-seats-slot-then-page-seats c = omega (arith, ap up_to c.in-Some.is, c.loop-at.invariant.1)
-
-pub bounds-seats-slot-in-Some : goal.bounds-seats-slot-in-Some
-bounds-seats-slot-in-Some c = omega (arith, ap up_to c.in-Some.is, c.loop-at.invariant.1)
-
-pub loop-at-preserved : goal.loop-at-preserved
-loop-at-preserved c =
-    let a = c.args in
-    let l = c.loop-at in
-    let slot = c.in-Some.slot in
-    let seats = a.sight.now.seats.now in
-    let at = ap up_to c.in-Some.is in
-    let falls = a.sight.now.chains_fall slot in (
-      elim c.if-page-seats.branch [
-        | then-page-seats w ↦ omega (arith, l.invariant.0, w.least-is)
-        | else-page-seats w ↦ omega (arith, l.invariant.0, w.least-is)
-      ],
-      omega (arith, l.invariant.1, at, falls),
-      λ v h.
-          let i = l.invariant.2 v h in
-          let low : slot < 16 = omega (arith, at, l.invariant.1) in
-          let sits = i.0.sits slot c.in-Some.is in
-          let reach = chain-reach v.readers seats h.seated a.file slot low sits in
-          let before = chain-is v.readers seats h.seated a.file slot low sits in
-          let least = rw c.in-Some.is at i.1 in (
-            chain_next v.readers seats h.seated a.file slot low sits,
-            elim c.if-page-seats.branch [
-              | then-page-seats w ↦
-                  rw (w.least-is, w.min-least.ensures, h.seated.position slot low)
-                  (least-nearer v.readers a.file a.page slot _ l.least low sits before least (omega (arith, reach, w.if-page-seats.true)))
-              | else-page-seats w ↦
-                  rw w.least-is (least-past v.readers a.file a.page slot _ l.least low sits before least (omega (arith, reach, w.if-page-seats.false)))
-            ],
-          ),
+pub loop-slot-preserved : goal.loop-slot-preserved
+loop-slot-preserved c =
+    let i = c.loop-slot.invariant in
+    let p = c.in-Some.ensures in
+    let t = (goal.at.loop-slot-preserved c).In-Some in (
+      c.in-Some.slot + 1,
+      none-before t,
+      omega (arith, p.low),
+      i.3,
+      λ v h. (
+        left t v h,
+        least-past v.readers c.args.file c.args.page i.0 c.in-Some.slot c.loop-slot.least (low t) p.low (reads t v h) (between t v h) (i.4 v h).1
+            (omega (arith, last t v h, c.if-page-seats.false)),
+      ),
     )
+
+pub returns : goal.returns
+returns c =
+    let l = c.loop-slot in
+    let i = l.invariant in record {
+      least = λ v h.
+          let r = i.4 v h in
+          least-all v.readers c.args.file c.args.page i.0 l.least i.2 (left-none v.readers c.args.file i.0 l.left c.in_default.ensures r.0) r.1;
+      low = i.3;
+    }

@@ -1,13 +1,16 @@
--- Invariant: the legs so far, as one, were gone from the start on (`IsLeg`), and the files' counts are those of the map. Measure: the turns that are left.
-use Prim.Native.Nat.{◌-◌}
+-- Invariant: so many of the turns are made from the start on (`Underway`), and the files' counts are those of the map. Measure: the turns that are left.
+use Rattle.std.proofs.Common.{◌-◌, ◌≤◌}
 use Rattle.rules.specs.Views.{state_of}
 use Rattle.parts.specs.Held.{Held}
-use Rattle.turns.specs.Legs.{IsLeg}
+use Rattle.turns.specs.Runs.{Underway}
 use Rattle.run.proofs.make_turns.Given as goal
 
-abbrev pub invariant-loop-made : goal.invariant-loop-made
-invariant-loop-made l =
-    IsLeg (state_of l.initial.made.view l.initial.cached l.initial.fetching) 0 l.turns l.made l.seats l.cached l.fetching l.heads × Held l.cached l.held
+abbrev pub invariant-loop-run : goal.invariant-loop-run
+invariant-loop-run l = record {
+  within : l.run.turns ≤ l.turns;
+  gone : Underway (state_of l.initial.run.view l.initial.cached l.initial.fetching) l.run l.cached l.fetching;
+  counted : Held l.cached l.held;
+}
 
-abbrev pub decreases-loop-made : goal.decreases-loop-made
-decreases-loop-made l = l.turns - l.made.turns
+abbrev pub decreases-loop-run : goal.decreases-loop-run
+decreases-loop-run l = l.turns - l.run.turns

@@ -1,12 +1,14 @@
 -- The turns that meet no F are passed; no head is known after them.
-use mathlib.Core.Path.{refl}
-use lib.ListN.{get_or-replicate}
-use Rattle.run.proofs.Legs.{leg-passed}
+use Rattle.std.proofs.Common.{refl, arith}
+use Rattle.run.proofs.Passings.{underway-few, passed, passed-few}
 use Rattle.run.proofs.pass_hits.Goals as goal
 
-pub returns : goal.returns
-returns c = λ fetching done r.
-    let ahead = c.turns_ahead-turns.ensures in
-    let passed = c.pass_turns-reads.ensures in
-    leg-passed _ _ done _ _ _ _ _ _ fetching _ _ _ r ahead.0 ahead.1 passed.moved passed.value refl c.view_after-view.ensures refl
-    (λ f. get_or-replicate 8 f 0 0)
+pub overflow_add-run : goal.overflow_add-run
+overflow_add-run c =
+    let few = underway-few _ _ _ _ c.requires.going.1.1 in
+    omega (arith, few, c.pass_turns.ensures.value, passed-few c.args.run.now.view c.turns_ahead-turns.result (omega arith))
+
+pub returns-clause-gone : goal.returns-clause-gone
+returns-clause-gone c = λ s fetching u.
+    passed s _ _ fetching u _ c.turns_ahead-turns.ensures.1 _ _ _ _ c.pass_turns.ensures.moved c.pass_turns.ensures.value refl c.view_after-run.ensures _
+    c.new-run.ensures

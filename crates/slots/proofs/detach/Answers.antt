@@ -1,16 +1,12 @@
--- The slot, and then its condition, as the rule has them.
+-- The rule keeps a valid state valid.
+use Rattle.std.proofs.Common.{arith}
+use Rattle.std.proofs.lemmas.Grind.{common_steps}
 use Rattle.rules.specs.Calls.{detach_of}
-use Rattle.calls.proofs.Outcomes.{answers}
+use Rattle.rules.specs.Entries.{detach}
+use Rattle.rules.specs.declared.Answer.TheVariants.{Done}
+use Rattle.state.proofs.Kept.{kept-by}
 use Rattle.slots.proofs.detach.Goals as goal
 
-pub returns-then-slot-gt15-clause-by_index : goal.returns-then-slot-gt15-clause-by_index
+pub invariant_of-q : goal.invariant_of-q
 unfolding detach_of
-returns-then-slot-gt15-clause-by_index c = λ a b. rw c.refuse.ensures (search answers depth 12)
-
-pub returns-in-Empty-clause-by_index : goal.returns-in-Empty-clause-by_index
-unfolding detach_of
-returns-in-Empty-clause-by_index c = λ a b. rw c.refuse-in-Empty.ensures (search answers depth 12)
-
-pub returns-in-Running-clause-by_index : goal.returns-in-Running-clause-by_index
-unfolding detach_of
-returns-in-Running-clause-by_index c = λ a b. rw (c.outcome.ensures, c.no_reader.ensures) (search answers depth 12)
+invariant_of-q c = (kept-by (detach c.args.slot) _ _ Done (grind (arith, common_steps)) c.q.invariant.0, c.q.invariant.1)

@@ -1,21 +1,12 @@
--- The slot, its condition and the interval, as the rule has them, then the record.
-use borrow.Author.Rules.{rules}
-use Rattle.slots.proofs.Ranges.{interval-in}
-use Rattle.slots.proofs.Records.{measure-no-slot, measure-empty, measure-no-interval, measure-done}
+-- The rule keeps a valid state valid.
+use Rattle.std.proofs.Common.{arith}
+use Rattle.std.proofs.lemmas.Grind.{common_steps}
+use Rattle.rules.specs.Calls.{measure_of}
+use Rattle.rules.specs.Entries.{measure}
+use Rattle.rules.specs.declared.Answer.TheVariants.{Done}
+use Rattle.state.proofs.Kept.{kept-by}
 use Rattle.slots.proofs.measure.Goals as goal
 
-pub measured_pace-pace-requires : goal.measured_pace-pace-requires
-measured_pace-pace-requires c = search (interval-in, rules)
-
-pub returns-then-slot-gt15-clause-by_index : goal.returns-then-slot-gt15-clause-by_index
-returns-then-slot-gt15-clause-by_index c = λ a b. rw c.refuse.ensures (search (measure-no-slot, rules) depth 12)
-
-pub returns-then-not-is_attached-clause-by_index : goal.returns-then-not-is_attached-clause-by_index
-returns-then-not-is_attached-clause-by_index c = λ a b. rw c.refuse-then-not-is_attached.ensures (search (measure-empty, rules) depth 12)
-
-pub returns-then-no_interval-clause-by_index : goal.returns-then-no_interval-clause-by_index
-returns-then-no_interval-clause-by_index c = λ a b. rw c.refuse-then-no_interval.ensures (search (measure-no-interval, rules) depth 12)
-
-pub returns-clause-by_index : goal.returns-clause-by_index
-returns-clause-by_index c =
-    λ a b. rw (c.outcome.ensures, c.paced.ensures, c.measured_pace-pace.ensures) (search (measure-done, rules) depth 12)
+pub invariant_of-q : goal.invariant_of-q
+unfolding measure_of
+invariant_of-q c = (kept-by (measure c.args.slot c.args.interval c.args.blocked) _ _ Done (grind (arith, common_steps)) c.q.invariant.0, c.q.invariant.1)

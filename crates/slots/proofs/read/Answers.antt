@@ -1,8 +1,10 @@
--- The slot, and then its record, as the rule has them.
-use Rattle.rules.specs.Calls.{read_of}
-use Rattle.calls.proofs.Outcomes.{answers}
+-- The rule keeps a valid state valid.
+use Rattle.std.proofs.Common.{arith, refl}
+use Rattle.std.proofs.lemmas.Grind.{common_steps}
+use Rattle.rules.specs.Entries.{read}
+use Rattle.state.proofs.Kept.{kept-by}
 use Rattle.slots.proofs.read.Goals as goal
 
-pub returns-then-slot-gt15-clause-fetching_after : goal.returns-then-slot-gt15-clause-fetching_after
-unfolding read_of
-returns-then-slot-gt15-clause-fetching_after c = rw c.refuse.ensures (search answers depth 12)
+pub invariant_of-q : goal.invariant_of-q
+invariant_of-q c =
+    (kept-by (read _) _ _ _ (c.read_slot-step.ensures c.q.inside.view c.in-Ok.i (grind (arith, common_steps)) refl) c.q.invariant.0, c.q.invariant.1)

@@ -44,20 +44,20 @@ returns-then-is_apart c =
     let g = every (apart_at c.args.cached.now c.args.fetching.now) (range 0 8192) in
     let h = every (size_holds v.sizes c.args.cached.now c.args.fetching.now) (range 0 8) in
     let two : c.if-v-le15.value ≡ (a && b) = elim c.if-v-le15.branch [
-      then-v-le15 w ↦ on a b _ _ refl (le-leb _ _ w.if-v-le15.true) (w.value-is ∙ w.readers_hold.ensures ∙ readers-sized s v.readers)
-    | else-v-le15 w ↦ off a b _ _ refl (lt-leb _ _ w.if-v-le15.false) w.value-is
+      | then-v-le15 w ↦ on a b _ _ refl (le-leb _ _ w.if-v-le15.true) (w.value-is ∙ w.readers_hold.ensures ∙ readers-sized s v.readers)
+      | else-v-le15 w ↦ off a b _ _ refl (lt-leb _ _ w.if-v-le15.false) w.value-is
     ] in
     let three : c.if-readers_hold.value ≡ (a && b && d) = elim c.if-readers_hold.branch [
-      then-readers_hold w ↦ on (a && b) d _ _ two w.if-readers_hold.true (w.value-is ∙ w.marks_hold.ensures)
-    | else-readers_hold w ↦ off (a && b) d _ _ two w.if-readers_hold.false w.value-is
+      | then-readers_hold w ↦ on (a && b) d _ _ two w.if-readers_hold.true (w.value-is ∙ w.marks_hold.ensures)
+      | else-readers_hold w ↦ off (a && b) d _ _ two w.if-readers_hold.false w.value-is
     ] in
     let four : c.if-marks_hold.value ≡ (a && b && d && e) = elim c.if-marks_hold.branch [
-      then-marks_hold w ↦ on (a && b && d) e _ _ three w.if-marks_hold.true (w.value-is ∙ ap (λ n. leb n v.frames) c.requires)
-    | else-marks_hold w ↦ off (a && b && d) e _ _ three w.if-marks_hold.false w.value-is
+      | then-marks_hold w ↦ on (a && b && d) e _ _ three w.if-marks_hold.true (w.value-is ∙ ap (λ n. leb n v.frames) c.requires)
+      | else-marks_hold w ↦ off (a && b && d) e _ _ three w.if-marks_hold.false w.value-is
     ] in
     let five : c.if-taken-v.value ≡ (a && b && d && e && g) = elim c.if-taken-v.branch [
-      then-taken-v w ↦ on (a && b && d && e) g _ _ four w.if-taken-v.true (w.value-is ∙ w.is_apart.ensures)
-    | else-taken-v w ↦ off (a && b && d && e) g _ _ four w.if-taken-v.false w.value-is
+      | then-taken-v w ↦ on (a && b && d && e) g _ _ four w.if-taken-v.true (w.value-is ∙ w.is_apart.ensures)
+      | else-taken-v w ↦ off (a && b && d && e) g _ _ four w.if-taken-v.false w.value-is
     ] in
     on _ _ _ _ c.settings_hold.ensures c.if-not-settings_hold.false
     (on (a && b && d && e && g) h _ _ five c.if-is_apart.true c.files_hold.ensures)
@@ -74,20 +74,20 @@ returns-else-is_apart c =
     let g = every (apart_at c.args.cached.now c.args.fetching.now) (range 0 8192) in
     let h = every (size_holds v.sizes c.args.cached.now c.args.fetching.now) (range 0 8) in
     let two : c.if-v-le15.value ≡ (a && b) = elim c.if-v-le15.branch [
-      then-v-le15 w ↦ on a b _ _ refl (le-leb _ _ w.if-v-le15.true) (w.value-is ∙ w.readers_hold.ensures ∙ readers-sized s v.readers)
-    | else-v-le15 w ↦ off a b _ _ refl (lt-leb _ _ w.if-v-le15.false) w.value-is
+      | then-v-le15 w ↦ on a b _ _ refl (le-leb _ _ w.if-v-le15.true) (w.value-is ∙ w.readers_hold.ensures ∙ readers-sized s v.readers)
+      | else-v-le15 w ↦ off a b _ _ refl (lt-leb _ _ w.if-v-le15.false) w.value-is
     ] in
     let three : c.if-readers_hold.value ≡ (a && b && d) = elim c.if-readers_hold.branch [
-      then-readers_hold w ↦ on (a && b) d _ _ two w.if-readers_hold.true (w.value-is ∙ w.marks_hold.ensures)
-    | else-readers_hold w ↦ off (a && b) d _ _ two w.if-readers_hold.false w.value-is
+      | then-readers_hold w ↦ on (a && b) d _ _ two w.if-readers_hold.true (w.value-is ∙ w.marks_hold.ensures)
+      | else-readers_hold w ↦ off (a && b) d _ _ two w.if-readers_hold.false w.value-is
     ] in
     let four : c.if-marks_hold.value ≡ (a && b && d && e) = elim c.if-marks_hold.branch [
-      then-marks_hold w ↦ on (a && b && d) e _ _ three w.if-marks_hold.true (w.value-is ∙ ap (λ n. leb n v.frames) c.requires)
-    | else-marks_hold w ↦ off (a && b && d) e _ _ three w.if-marks_hold.false w.value-is
+      | then-marks_hold w ↦ on (a && b && d) e _ _ three w.if-marks_hold.true (w.value-is ∙ ap (λ n. leb n v.frames) c.requires)
+      | else-marks_hold w ↦ off (a && b && d) e _ _ three w.if-marks_hold.false w.value-is
     ] in
     let five : c.if-taken-v.value ≡ (a && b && d && e && g) = elim c.if-taken-v.branch [
-      then-taken-v w ↦ on (a && b && d && e) g _ _ four w.if-taken-v.true (w.value-is ∙ w.is_apart.ensures)
-    | else-taken-v w ↦ off (a && b && d && e) g _ _ four w.if-taken-v.false w.value-is
+      | then-taken-v w ↦ on (a && b && d && e) g _ _ four w.if-taken-v.true (w.value-is ∙ w.is_apart.ensures)
+      | else-taken-v w ↦ off (a && b && d && e) g _ _ four w.if-taken-v.false w.value-is
     ] in
     on _ _ _ _ c.settings_hold.ensures c.if-not-settings_hold.false
     (off (a && b && d && e && g) h _ _ five c.if-is_apart.false refl)

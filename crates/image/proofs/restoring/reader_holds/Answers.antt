@@ -6,9 +6,10 @@ use Rattle.image.proofs.restoring.reader_holds.Goals as goal
 
 pub reader_awaits-requires : goal.reader_awaits-requires
 reader_awaits-requires c =
-    let placed = c.reader_placed-in-Waiting in
-    (placed-file c.args.sizes.now [] c.args.r.now _ placed.ensures c.if-reader_placed.true,
-    placed-last c.args.sizes.now [] c.args.r.now _ placed.ensures c.if-reader_placed.true c.requires)
+    let placed = c.reader_placed-in-Waiting in (
+      placed-file c.args.sizes.now [] c.args.r.now _ placed.ensures c.if-reader_placed.true,
+      placed-last c.args.sizes.now [] c.args.r.now _ placed.ensures c.if-reader_placed.true c.requires,
+    )
 
 pub returns-in-Empty : goal.returns-in-Empty
 returns-in-Empty c = holds-empty _ _ c.args.r.now _ c.in-Empty.is c.is_blank.ensures

@@ -1,5 +1,5 @@
 -- File, pace, last page and position are tested one after the other.
-use Rattle.std.proofs.Common.{get_or, refl, sym, ◌∙◌, arith}
+use Rattle.std.proofs.Common.{get_or, refl, sym, ◌∙◌}
 use Rattle.rules.specs.Views.{no_pages}
 use Rattle.rules.specs.Image.{reader_placed}
 use Rattle.rules.proofs.laws.Cases.{file_there}

@@ -27,6 +27,7 @@ returns-in_err-r c =
 pub returns : goal.returns
 returns c =
     let numbers = image_numbers c.args.image.now in
-    let all : c.loop-slot.slot ≡ 16 = omega arith in
-    (rw all at c.loop-slot.invariant.known,
-    filled-all (reader_from numbers) 16 _ _ _ c.loop-slot.invariant.read-so c.loop-slot-test.false refl)
+    let all : c.loop-slot.slot ≡ 16 = omega arith in (
+      rw all at c.loop-slot.invariant.known,
+      filled-all (reader_from numbers) 16 _ _ _ c.loop-slot.invariant.read-so c.loop-slot-test.false refl,
+    )

@@ -1,8 +1,8 @@
 -- An image of another length, one that has a number which is none's, and one that fails a test are refused; of any other the state is read.
-use Rattle.std.proofs.Common.{◌≡◌, false, ◌&&◌, refl, sym, ap, ◌∙◌, arith}
+use Rattle.std.proofs.Common.{◌≡◌, refl, sym, ap, ◌∙◌}
 use Rattle.rules.specs.Views.{state_of}
 use Rattle.rules.specs.Calls.{reply, refused, idle}
-use Rattle.rules.specs.Image.{restore_whole, gaps_hold, image_numbers}
+use Rattle.rules.specs.Image.{restore_whole}
 use Rattle.rules.proofs.images.Images.{lent-valid}
 use Rattle.rules.specs.declared.Answer.TheVariants.{Refused, Done}
 use Rattle.rules.specs.declared.Refusal.TheVariants.{NoImage}
@@ -45,26 +45,28 @@ returns-then-holds c =
 pub invariant_of-q : goal.invariant_of-q
 invariant_of-q c =
     let image = c.args.image.now in
-    let same = read-so (goal.at.invariant_of-q c).After-holds in
-    (lent-valid image c.type_inv.image (reply _ Done) (restore-pass image c.if-image-eq-IMAGE_LENGTH.true c.in-Ok.ensures.0
-    (sym (on _ _ _ _ c.gaps_hold.ensures c.if-gaps_hold.true (c.holds.ensures ∙ ap tests same)) ∙ c.if-holds.true) _ same),
-    c.count_held.ensures)
+    let same = read-so (goal.at.invariant_of-q c).After-holds in (
+      lent-valid image c.type_inv.image (reply _ Done) (restore-pass image c.if-image-eq-IMAGE_LENGTH.true c.in-Ok.ensures.0
+          (sym (on _ _ _ _ c.gaps_hold.ensures c.if-gaps_hold.true (c.holds.ensures ∙ ap tests same)) ∙ c.if-holds.true) _ same),
+      c.count_held.ensures,
+    )
 
 pub returns : goal.returns
 returns c =
     let image = c.args.image.now in
     ap (λ s. reply s (Refused NoImage)) (c.q-2.view_is ∙ c.idle.ensures)
     ∙ elim c.if-image-eq-IMAGE_LENGTH.branch as (λ _. refused idle NoImage ≡ restore_whole image) [
-      then-image-eq-IMAGE_LENGTH+in-Ok+else-gaps_hold w ↦
-        let long = w.if-image-eq-IMAGE_LENGTH.true in
-        elim w.else-gaps_hold.branch as (λ _. refused idle NoImage ≡ restore_whole image) [
-          else-gaps_hold-via-then-gaps_hold+else-holds u ↦ restore-stop image long
-            (sym (on _ _ _ _ w.gaps_hold.ensures u.if-gaps_hold.true (u.holds.ensures ∙ ap tests (state-read image _ _ _ w.in-Ok.ensures.1
-            (rw c.q.told.0 at w.get_all.ensures ∙ cached-read image) (rw c.q.told.1 at w.get_all-then-image-eq-IMAGE_LENGTH.ensures ∙ fetching_read image))))
-            ∙ u.if-holds.false)
-        | else-gaps_hold-via-else-gaps_hold u ↦ restore-stop image long
-            (sym (off _ (tests (state_in image)) _ _ w.gaps_hold.ensures u.if-gaps_hold.false refl) ∙ u.if-gaps_hold.false)
-        ]
-    | then-image-eq-IMAGE_LENGTH+in_default w ↦ restore-unread image w.if-image-eq-IMAGE_LENGTH.true w.in_default.ensures
-    | else-image-eq-IMAGE_LENGTH w ↦ restore-short image w.if-image-eq-IMAGE_LENGTH.false
+      | then-image-eq-IMAGE_LENGTH+in-Ok+else-gaps_hold w ↦
+          let long = w.if-image-eq-IMAGE_LENGTH.true in
+          elim w.else-gaps_hold.branch as (λ _. refused idle NoImage ≡ restore_whole image) [
+            | else-gaps_hold-via-then-gaps_hold+else-holds u ↦ restore-stop image long
+                (sym (on _ _ _ _ w.gaps_hold.ensures u.if-gaps_hold.true (u.holds.ensures ∙ ap tests (state-read image _ _ _ w.in-Ok.ensures.1
+                (rw c.q.told.0 at w.get_all.ensures ∙ cached-read image)
+                    (rw c.q.told.1 at w.get_all-then-image-eq-IMAGE_LENGTH.ensures ∙ fetching_read image))))
+                ∙ u.if-holds.false)
+            | else-gaps_hold-via-else-gaps_hold u ↦ restore-stop image long
+                (sym (off _ (tests (state_in image)) _ _ w.gaps_hold.ensures u.if-gaps_hold.false refl) ∙ u.if-gaps_hold.false)
+          ]
+      | then-image-eq-IMAGE_LENGTH+in_default w ↦ restore-unread image w.if-image-eq-IMAGE_LENGTH.true w.in_default.ensures
+      | else-image-eq-IMAGE_LENGTH w ↦ restore-short image w.if-image-eq-IMAGE_LENGTH.false
     ]

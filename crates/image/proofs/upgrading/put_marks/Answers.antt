@@ -8,7 +8,8 @@ loop-slot-init c = subst (Marking c.args.image.now 0) (sym c.requires.1) (markin
 
 pub loop-slot-preserved : goal.loop-slot-preserved
 loop-slot-preserved c =
-    marking-more c.args.image.now c.requires.0 _ _ _ _ _ _ c.loop-slot-test.true c.loop-slot.invariant c.put.ensures c.last_in.ensures c.put-in-loop-slot.ensures
+    marking-more c.args.image.now c.requires.0 _ _ _ _ _ _ c.loop-slot-test.true c.loop-slot.invariant c.put.ensures c.last_in.ensures c.put-in-loop-slot.ensure
+            marking-more c.args.image.now c.requires.0 _ _ _ _ _ _ c.loop-slot-test.true c.loop-slot.invariant c.put.ensures c.last_in.ensures c.put-in-loop-slot.ensures
     c.get.ensures
 
 pub returns : goal.returns

@@ -1,5 +1,5 @@
 -- The image stands at the front, and 0 behind it: the rule, E and R, and the marks where it has none.
-use Rattle.std.proofs.Common.{◌∙◌, arith}
+use Rattle.std.proofs.Common.{◌∙◌}
 use mathlib.Core.Logic.{⊎_elim}
 use Rattle.image.proofs.Upgrades.{padded, unruled-upgraded}
 use Rattle.image.proofs.upgrading.upgrade.Goals as goal
