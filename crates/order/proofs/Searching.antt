@@ -1,5 +1,5 @@
 -- The search for the page of the highest rank, from page to page and from file to file. Assumes nothing.
-use Rattle.std.proofs.Common.{◌≡◌, refl, sym, ap, subst, ◌∙◌, Bool, true, false, cond, ℕ, ◌+◌, ◌-◌, ◌*◌, ◌/◌, ◌≤◌, ◌<◌, T, arith}
+use Rattle.std.proofs.Common.{◌≡◌, refl, sym, ap, ◌∙◌, Bool, true, false, cond, ℕ, ◌+◌, ◌-◌, ◌*◌, ◌/◌, ◌≤◌, ◌<◌, T, arith}
 use native.Mathlib.Decide.{ℕ_discrete, dec_lt}
 use borrow.Author.Tests.{eq-eqb, ltb-true, ltb-false}
 use lib.Dec.{ltb, eqb→eq}
@@ -9,20 +9,18 @@ use Rattle.rules.specs.Pages.{file_of, page_of, cached}
 use Rattle.rules.specs.Readers.{reader_at, attached, reads_file}
 use Rattle.rules.specs.Valid.{Valid}
 use Rattle.rules.specs.UseTimes.{never, ahead}
-use Rattle.rules.proofs.laws.Tests.{and_both, and_first, and_second}
-use Rattle.rules.proofs.laws.Cases.{passed, failed}
+use Rattle.rules.proofs.laws.Tests.{and_both}
+use Rattle.rules.proofs.laws.Cases.{passed}
 use Rattle.rules.specs.Ranks.{rank, cached_among}
 use Rattle.rules.proofs.orders.LookAheads.{before-is}
 use Rattle.rules.proofs.orders.Candidates.{Clear, later-higher}
 use Rattle.rules.specs.declared.State.{State}
-use Rattle.files.specs.Sets.{NoFile}
-use Rattle.files.proofs.Sets.{below}
 use Rattle.uses.specs.declared.Pick.{Pick}
 use Rattle.uses.specs.Sights.{Ranked}
 use Rattle.uses.specs.declared.Queue.{Queue}
 use Rattle.uses.specs.Queueing.{Has}
 use Rattle.rears.proofs.Rearing.{some-ahead}
-use Rattle.order.specs.Searches.{HasShort, higher_of, AllAhead, Raised, First}
+use Rattle.order.specs.Searches.{HasShort, higher_of, AllAhead, Raised}
 use Rattle.order.proofs.Sweeps.{before-reads, rank_most}
 
 -- ---- a file's pages
@@ -125,37 +123,3 @@ module _ (s : State) (files : ℕ → Bool) (f : ℕ) (p : Pick) where
 pub record Highest (s : State) (files : ℕ → Bool) (n : ℕ) (p : Pick) : Type 0 where
   pub page : Ranked s files p
   pub most : (k : ℕ) → file_of k < n → T (cached_among files s k) → rank s k ≤ p.value
-
-module _ (s : State) (files : ℕ → Bool) where
-  -- a search starts before the first file of the set
-  pub highest-none : (n : ℕ) → NoFile files 0 n → Highest s files n (record { key = 0; value = 0 })
-  highest-none n past = record {
-    page = record { held = λ h. absurd (omega arith); its = λ h. absurd (omega arith) };
-    most = λ k l c. absurd (past (file_of k) (omega arith) l (and_second (cached s k) _ c));
-  }
-
-  module _ (n : ℕ) (p : Pick) (a : Highest s files n p) where
-    -- one file more
-    pub highest-more : (q : Pick) → Raised s files n 0 p q → Highest s files (n + 1) q
-    highest-more q r = record { page = r.page; most = λ k l c. by k l c (dec_lt (file_of k) n) }
-      where
-        by : (k : ℕ) → file_of k < n + 1 → T (cached_among files s k) → Dec (file_of k < n) → rank s k ≤ q.value
-        by k l c (yes h) = omega (arith, a.most k h c, r.up)
-        by k l c (no h) = r.most k (and_first (cached s k) _ c) (omega arith) (omega arith)
-
-    -- one that is not of the set
-    pub highest-skip : files n ≡ false → Highest s files (n + 1) p
-    highest-skip e = record { page = a.page; most = λ k l c. by k l c (dec_lt (file_of k) n) }
-      where
-        by : (k : ℕ) → file_of k < n + 1 → T (cached_among files s k) → Dec (file_of k < n) → rank s k ≤ p.value
-        by k l c (yes h) = a.most k h c
-        by k l c (no h) =
-            let q : file_of k ≡ n = omega arith in
-            absurd (failed _ e (subst (λ g. T (files g)) q (and_second (cached s k) _ c)))
-
-  -- it ends after the last one
-  pub highest-all : Valid s → (n : ℕ) (p : Pick) → NoFile files n 8 → Highest s files n p → First s files p
-  highest-all w n p none a = record { page = a.page; top = λ k c. a.most k (below files n none (file_of k) (low k c) (and_second (cached s k) _ c)) c }
-    where
-      low : (k : ℕ) → T (cached_among files s k) → file_of k < 8
-      low k c = omega (arith, (w.cached_in k (and_first (cached s k) _ c)).low)

@@ -1,31 +1,6 @@
 -- The page to give up where a page is ahead of no reader: the least position of those that have a page before them, the pages passed over, and the best of
 -- the files. Assumes nothing.
-use Rattle.std.proofs.Common.{
-  ◌≡◌,
-  refl,
-  sym,
-  ap,
-  subst,
-  ◌∙◌,
-  Bool,
-  true,
-  false,
-  not,
-  List,
-  ◌⊎◌,
-  inl,
-  inr,
-  ℕ,
-  min,
-  ◌+◌,
-  ◌-◌,
-  ◌*◌,
-  ◌≤◌,
-  ◌<◌,
-  T,
-  arith,
-  get_or,
-}
+use Rattle.std.proofs.Common.{◌≡◌, refl, sym, ap, ◌∙◌, Bool, true, not, List, ◌⊎◌, inl, inr, ℕ, min, ◌+◌, ◌-◌, ◌*◌, ◌≤◌, ◌<◌, T, arith, get_or}
 use native.Mathlib.Decide.{ℕ_discrete, dec_lt, dec_le}
 use borrow.Author.Tests.{eq-eqb}
 use lib.Dec.{T_not, eqb→eq}
@@ -38,17 +13,15 @@ use Rattle.rules.specs.UseTimes.{before, never, ahead}
 use Rattle.rules.specs.Orders.{place}
 use Rattle.rules.specs.Ranks.{rank, cached_among}
 use Rattle.rules.proofs.laws.Tests.{side, and_both, and_first, and_second}
-use Rattle.rules.proofs.laws.Cases.{passed, failed}
+use Rattle.rules.proofs.laws.Cases.{passed}
 use Rattle.rules.proofs.laws.Leasts.{some_at, some_in}
 use Rattle.rules.proofs.orders.LookAheads.{before-is, is-before}
 use Rattle.rules.proofs.orders.Ranks.{rank-behind, rank-ahead}
 use Rattle.rules.specs.declared.State.{State}
 use Rattle.rules.specs.declared.Reader.{Reader}
 use Rattle.uses.specs.declared.Pick.{Pick}
-use Rattle.files.specs.Sets.{NoFile}
 use Rattle.uses.specs.Sights.{Ranked}
 use Rattle.rears.specs.Rears.{Ahead, Least, Back, Free, Rear}
-use Rattle.files.proofs.Sets.{below}
 
 -- ---- the least position
 
@@ -182,14 +155,6 @@ module _ (s : State) (w : Valid s) (files : ℕ → Bool) where
   unfolding ahead
   ahead-some k x = some_in 16 x.0 (λ j. before (reader_in s.readers j) k) x.1 x.2
 
-  -- a search starts before the first file of the set
-  pub rear-none : (n : ℕ) → NoFile files 0 n → Rear s files n (record { key = 0; value = 0 })
-  rear-none n past = record {
-    page = record { held = λ h. absurd (omega arith); its = λ h. absurd (omega arith) };
-    deep = λ h. absurd (omega arith);
-    most = λ k l h. absurd (past (file_of k) (omega arith) l (and_second (cached s k) _ h));
-  }
-
   module _ (n : ℕ) (p : Pick) (a : Rear s files n p) where
     -- one file more, of whose pages none that is ahead of no reader goes before the page kept then
     rear-one : (q : Pick) → Ranked s files q → (0 < q.value → 2 * never ≤ q.value) → p.value ≤ q.value
@@ -199,10 +164,6 @@ module _ (s : State) (w : Valid s) (files : ℕ → Bool) where
         by : (k : ℕ) → file_of k < n + 1 → T (cached_among files s k) → T (not (ahead s k)) → Dec (file_of k < n) → 2 * never + place k ≤ q.value
         by k l h z (yes g) = omega (arith, u, a.most k g h z)
         by k l h z (no g) = m k (omega arith) h z
-
-    -- one that is not of the set
-    pub rear-skip : files n ≡ false → Rear s files (n + 1) p
-    rear-skip e = rear-one p a.page a.deep (omega arith) (λ k f h. absurd (failed _ e (subst (λ i. T (files i)) f (and_second (cached s k) _ h))))
 
     module _ (size page : ℕ) (low : n < 8) (few : page ≤ 1024) (es : size ≡ get_or s.sizes n 0) (b : Back s.readers s.cached n size page)
         (free : Free s.readers n page) where
@@ -243,14 +204,6 @@ module _ (s : State) (w : Valid s) (files : ℕ → Bool) where
           clear (inl x) = absurd (free (omega arith) (some-ahead s (key_of n page) x))
           clear (inr x) = x
 
-  -- it ends after the last one
-  pub rear-all : (n : ℕ) (p : Pick) → NoFile files n 8 → Rear s files n p → Rear s files 8 p
-  rear-all n p rest a = record {
-    page = a.page;
-    deep = a.deep;
-    most = λ k l h. a.most k (below files n rest (file_of k) l (and_second (cached s k) _ h)) h;
-  }
-
   module _ (p : Pick) (a : Rear s files 8 p) where
     -- no page of the set goes before the page kept
     pub rear-top : 0 < p.value → (k : ℕ) → T (cached_among files s k) → rank s k ≤ p.value
@@ -262,11 +215,3 @@ module _ (s : State) (w : Valid s) (files : ℕ → Bool) where
         by : T (ahead s k) ⊎ T (not (ahead s k)) → rank s k ≤ p.value
         by (inl x) = omega (arith, rank-ahead s w k page x, a.deep h)
         by (inr x) = omega (arith, rank-behind s k x, a.most k (omega (arith, page.low)) c x)
-
-    -- none is kept, and some reader has each of them before it
-    pub rear-nothing : p.value ≡ 0 → (k : ℕ) → T (cached_among files s k) → T (ahead s k)
-    rear-nothing e k c = by (side (ahead s k))
-      where
-        by : T (ahead s k) ⊎ T (not (ahead s k)) → T (ahead s k)
-        by (inl x) = x
-        by (inr x) = absurd (omega (arith, e, a.most k (omega (arith, (w.cached_in k (and_first (cached s k) _ c)).low)) c x))
