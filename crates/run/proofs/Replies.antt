@@ -9,6 +9,7 @@ use Rattle.rules.specs.Pages.{in_fetch, fetching_pages}
 use Rattle.rules.specs.Valid.{Valid}
 use Rattle.rules.specs.Calls.{reply, refused}
 use Rattle.rules.specs.Run.{fetch_open, turns_of, run_of}
+use Rattle.rules.specs.declared.Refusal.TheVariants.{TooManyTurns, FetchOpen}
 use Rattle.rules.specs.declared.State.{State}
 use Rattle.rules.specs.declared.Reply.{Reply}
 use Rattle.rules.specs.declared.Answer.TheVariants.{Ran}
@@ -18,7 +19,7 @@ use Rattle.calls.proofs.Frames.{pages-ones}
 use Rattle.turns.specs.Tallies.{so_far}
 
 -- 11
-pub run-many : (s : State) (n : ℕ) (r : Reply) → 16384 < n → r ≡ refused s 11 → r ≡ run_of s n
+pub run-many : (s : State) (n : ℕ) (r : Reply) → 16384 < n → r ≡ refused s TooManyTurns → r ≡ run_of s n
 unfolding run_of
 run-many s n r h e = cond_yes (λ q. r ≡ q) (ltb 16384 n) _ _ (search outcomes) e
 
@@ -34,7 +35,7 @@ module _ (s : State) (v : Valid s) (n : ℕ) (few : n ≤ 16384) (q : ℕ) (e : 
   none_open h = let o : eqb q 0 ≡ true = search outcomes in none-in-fetch s v (rw (is_in_fetch, o) refl)
 
   -- 10
-  pub run-open : (r : Reply) → (q ≡ 0 → ⊥) → r ≡ refused s 10 → r ≡ run_of s n
+  pub run-open : (r : Reply) → (q ≡ 0 → ⊥) → r ≡ refused s FetchOpen → r ≡ run_of s n
   unfolding run_of fetch_open
   run-open r h k =
       let o : eqb q 0 ≡ false = search outcomes in
