@@ -1,6 +1,7 @@
 -- Pages counted by the bits of a map: whether a frame is free, and what is known of a page before it is counted in or out. Assumes nothing.
 use Prim.Native.Nat.{ℕ, ◌≤◌, ◌<◌}
 use mathlib.Core.Path.{◌≡◌, refl, sym, ap, ◌∙◌}
+use mathlib.Core.Bool.{true}
 use mathlib.Core.List.{List}
 use Rattle.std.specs.declared.option.Option.{Option}
 use Rattle.std.specs.declared.option.Option.TheVariants.{Some, None}
@@ -9,7 +10,7 @@ use native.Mathlib.Omega.{arith}
 use lib.ListN.{length}
 use lib.Dec.{T, leb}
 use Rattle.bits.specs.Map.{bit, ones, on, put_bit}
-use Rattle.bits.proofs.Bits.{put_other, put-length}
+use Rattle.bits.proofs.Bits.{bit_le, put_other, put-length}
 use Rattle.rules.specs.Lists.{only}
 use Rattle.rules.specs.Pages.{pages, Page, cached_pages}
 use Rattle.rules.specs.Valid.{Valid}
@@ -17,7 +18,8 @@ use Rattle.rules.specs.Orders.{victim}
 use Rattle.rules.specs.Calls.{full, dropped}
 use Rattle.rules.specs.declared.State.{State}
 use Rattle.calls.specs.Inner.{CachedIn, eased}
-use Rattle.rules.proofs.laws.Cases.{cond_yes, cond_no, outcomes}
+use Rattle.rules.proofs.laws.Cases.{cond_yes, cond_no, passed, outcomes}
+use Rattle.rules.proofs.laws.Tests.{key}
 use Rattle.rules.proofs.laws.Counts.{count_ones, pages-count}
 
 -- a map of pages of the files has as many of them as set bits
@@ -53,3 +55,9 @@ eased-clear cached (Some g) k a e = by (ℕ_discrete k g)
 pub eased-length : (cached : List ℕ) (gone : Option ℕ) → length (eased cached gone) ≡ length cached
 eased-length cached None = refl
 eased-length cached (Some g) = put-length cached g 0
+
+-- a page in fetch is not cached
+pub fetch-clear : (s : State) → Valid s → (k : ℕ) → on s.fetching k ≡ true → bit s.cached k ≡ 0
+fetch-clear s v k e =
+    key (bit s.cached k) 1 (λ t. (T t → ⊥) → bit s.cached k ≡ 0) (λ _ n. absurd (n tt)) (λ n _. omega (arith, bit_le s.cached k))
+    (λ t. v.apart k t (passed _ e))

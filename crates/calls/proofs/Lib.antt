@@ -1,8 +1,5 @@
--- What the calls rest on: ranges, frames, walks over slots, refusals, outcomes and choices.
-pub mod Outcomes
+-- What the calls rest on: frames, walks over lists, records and choices.
 pub mod Walks
-pub mod Ranges
-pub mod Refusing
 pub mod Slots
 pub mod Choices
 pub mod Frames

@@ -1,44 +1,16 @@
--- Loops over the members of an array: one that tests each, one that copies each, and one that changes each in place. Assumes nothing.
+-- The members of a list: what holds of each where all pass a test, and a loop that changes each in place. Assumes nothing.
 use Prim.Native.Nat.{ℕ, zero, suc, ◌+◌, ◌≤◌, ◌<◌}
-use mathlib.Core.Path.{◌≡◌, refl, sym, ap, ◌∙◌}
-use mathlib.Core.Bool.{Bool, true, false, not, ◌&&◌}
+use mathlib.Core.Path.{◌≡◌, refl, ap, ◌∙◌}
+use mathlib.Core.Bool.{Bool, true}
 use mathlib.Core.List.{List, [], ◌∷◌, map}
 use native.Mathlib.Omega.{arith}
 use native.Mathlib.Numerals.{add-one}
-use borrow.Author.Tests.{not-true, not-false, le-leb}
-use lib.ListN.{get_or, set, length, take, drop}
-use lib.Seq.{take_all, drop-cons, take-suc, take-suc-set}
+use borrow.Author.Tests.{le-leb}
+use lib.ListN.{get_or, set, length}
 use Rattle.rules.specs.Lists.{within, every}
 use Rattle.rules.proofs.laws.Cases.{and-true, within-true}
 
--- ---- each is tested
-
--- past the end there are none
-drop_all : {A : Type 0} (i : ℕ) (l : List A) → length l ≤ i → drop i l ≡ []
-drop_all zero [] h = refl
-drop_all (suc i) [] h = refl
-drop_all zero (x ∷ l) h = let z : ⊥ = omega arith in absurd z
-drop_all (suc i) (x ∷ l) h = drop_all i l (omega arith)
-
-module _ {A : Type 0} (P : A → Bool) (l : List A) (d : A) where
-  -- the test of the members from i on: member i, and those after it
-  every-at : (i : ℕ) → i < length l → every P (drop i l) ≡ (P (get_or l i d) && every P (drop (i + 1) l))
-  unfolding every
-  every-at i h = rw (add-one i, drop-cons l i d h)
-
-  -- member i passes: the result q of its test, turned round, says so
-  pub every_more : (i : ℕ) → i < length l → (q : Bool) → q ≡ P (get_or l i d) → not q ≡ false → every P l ≡ every P (drop i l)
-      → every P l ≡ every P (drop (i + 1) l)
-  every_more i h q e n k = k ∙ every-at i h ∙ rw (sym e ∙ not-false q n)
-
-  -- member i fails
-  pub every-fails : (i : ℕ) → i < length l → (q : Bool) → q ≡ P (get_or l i d) → not q ≡ true → every P l ≡ every P (drop i l) → false ≡ every P l
-  every-fails i h q e n k = sym (k ∙ every-at i h ∙ rw (sym e ∙ not-true q n))
-
-  -- all have passed
-  pub every-end : (i n : ℕ) → length l ≡ n → n ≤ i → every P l ≡ every P (drop i l) → true ≡ every P l
-  unfolding every
-  every-end i n e h k = sym (k ∙ ap (every P) (drop_all i l (omega arith)))
+-- ---- all pass a test
 
 -- where every member passes, member i does
 every_holds : {A : Type 0} (P : A → Bool) (l : List A) (d : A) (i : ℕ) → every P l ≡ true → i < length l → P (get_or l i d) ≡ true
@@ -59,17 +31,6 @@ every-higher low high more (x ∷ l) h e =
     let a = and-true (within low high x) (every (within low high) l) e in
     let b = within-true low high x a.0 in
     rw (le-leb low x b.0, le-leb x more (omega (arith, b.1, h)), every-higher low high more l h a.1)
-
--- ---- each is copied
-
-module _ {A : Type 0} (l t : List A) (i : ℕ) where
-  -- one more member is copied
-  pub copied_more : (d : A) → i < length l → i < length t → take i t ≡ take i l → take (i + 1) (set t i (get_or l i d)) ≡ take (i + 1) l
-  copied_more d h k e = rw (add-one i, take-suc-set t i (get_or l i d) k, take-suc l i d h, e)
-
-  -- all are
-  pub copied-end : (n : ℕ) → length l ≡ n → length t ≡ n → n ≤ i → take i t ≡ take i l → t ≡ l
-  copied-end n p q h e = sym (take_all i t (omega arith)) ∙ e ∙ take_all i l (omega arith)
 
 -- ---- each is changed in place
 

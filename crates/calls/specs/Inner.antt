@@ -5,7 +5,7 @@ use Rattle.std.specs.declared.option.Option.TheVariants.{Some}
 use Rattle.bits.specs.Map.{bit, on}
 use Rattle.rules.specs.Lists.{on_option}
 use Rattle.rules.specs.Pages.{file_of, page_of, key_of}
-use Rattle.rules.specs.Calls.{reply, with_readers, with_reader, with_fetching, with_cached, without}
+use Rattle.rules.specs.Calls.{reply, with_reader, with_fetching, without}
 use Rattle.parts.specs.Files.{no_file_in, no_page_in}
 use Rattle.rules.specs.declared.State.{State}
 use Rattle.rules.specs.declared.Reader.{Reader}

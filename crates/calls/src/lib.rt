@@ -64,6 +64,7 @@ fn rule_in(rule: u64, expected: &[u64; 8]) -> bool
 }
 
 // Are the settings in range?
+#[tactic(auto, unfolding(rules::specs::Calls::settings_in))]
 fn settings_in(
     frames: u64,
     look_ahead: u64,
@@ -90,6 +91,7 @@ fn settings_in(
 }
 
 // Setup by either rule.
+#[tactic(auto, unfolding(rules::specs::Calls::setup_of, rules::specs::Calls::settings_in))]
 pub fn setup_by_rule(
     q: &mut Quay,
     frames: u64,
@@ -126,6 +128,7 @@ pub fn setup(q: &mut Quay, frames: u64, look_ahead: u64, fetch_time: u64, sizes:
 // ---- Read
 
 // The Read of a running reader, whose record is `old`. The caller stores the record.
+#[tactic(auto, unfolding(rules::specs::Calls::read_running))]
 fn read_running(cached: &[u64; 128], fetching: &mut [u64; 128], old: Reader) -> Step
     requires { Readable old }
     ensures { (v : View) (i : ℕ) → old ≡ reader_in v.readers i
@@ -162,6 +165,7 @@ fn read_running(cached: &[u64; 128], fetching: &mut [u64; 128], old: Reader) -> 
 }
 
 // Read on one record. The maps are looked at only for a running reader; the one that waits is not moved by Read but by the end of its fetch.
+#[tactic(auto, unfolding(rules::specs::Calls::read_of))]
 pub fn read_slot(cached: &[u64; 128], fetching: &mut [u64; 128], old: Reader) -> Step
     requires { Readable old }
     ensures { (v : View) (i : ℕ) → i < 16 → old ≡ reader_in v.readers i
@@ -201,6 +205,7 @@ fn open_fetch(
 }
 
 // A reader that waits for the page runs.
+#[tactic(auto, unfolding(rules::specs::Calls::woken))]
 fn wake_reader(r: Reader, key: usize) -> Reader
     ensures { result ≡ woken key r }
 {
@@ -224,6 +229,7 @@ pub fn wake(readers: [Reader; 16], key: usize) -> [Reader; 16]
 }
 
 // The page leaves fetch, and every reader that waits for it runs.
+#[tactic(auto, unfolding(rules::specs::Calls::lost_of, rules::specs::Calls::for_fetch))]
 pub fn lost(q: &mut Quay, file: u64, page: u64) -> Answer
     ensures { reply q.new result ≡ lost_of q.old file page }
 {
@@ -296,6 +302,7 @@ fn give_up(q: &Quay) -> Option<u16>
 
 // The page to give up is chosen before the one that arrives leaves fetch and is cached. So that one is never the one to go, and is present in the choice
 // (A.5).
+#[tactic(auto, unfolding(rules::specs::Calls::arrive_of, rules::specs::Calls::for_fetch, rules::specs::Calls::landed))]
 pub fn arrive(q: &mut Quay, file: u64, page: u64) -> Answer
     ensures { reply q.new result ≡ arrive_of q.old file page }
 {
@@ -312,6 +319,7 @@ pub fn arrive(q: &mut Quay, file: u64, page: u64) -> Answer
 
 // ---- Steal and Prefetch: the heads of the two orders, worked out afresh
 
+#[tactic(auto, unfolding(rules::specs::Calls::steal_of))]
 pub fn steal(q: &mut Quay) -> Answer
     ensures { reply q.new result ≡ steal_of q.old }
 {
@@ -329,6 +337,7 @@ pub fn steal(q: &mut Quay) -> Answer
 }
 
 // No reader waits for the page: one that comes to it before it arrives begins to wait by Read.
+#[tactic(auto, unfolding(rules::specs::Calls::prefetch_of))]
 pub fn prefetch(q: &mut Quay) -> Answer
     ensures { reply q.new result ≡ prefetch_of q.old }
 {

@@ -1,5 +1,4 @@
 -- A frame is free, or the head of the steal order goes.
-use Rattle.std.proofs.Common.{rules, subst, sym, ap}
 use Rattle.parts.proofs.Carried.{held_high}
 use Rattle.calls.proofs.Frames.{free-none, taken-victim}
 use Rattle.calls.proofs.give_up.Goals as goal

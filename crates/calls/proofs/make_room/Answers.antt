@@ -1,5 +1,5 @@
 -- By whether a page was chosen.
-use Rattle.std.proofs.Common.{arith, rules}
+use Rattle.std.proofs.Common.{arith}
 use Rattle.parts.proofs.Carried.{held-some}
 use Rattle.calls.proofs.make_room.Goals as goal
 

@@ -1,6 +1,6 @@
 -- Invariant: the numbers passed are stored.
 use Rattle.std.proofs.Common.{arith, rules}
-use Rattle.calls.proofs.Walks.{all-within, copied_more, copied-end}
+use Rattle.calls.proofs.Walks.{all-within}
 use Rattle.calls.proofs.stored.Goals as goal
 
 pub overflow_cast-kept : goal.overflow_cast-kept

@@ -3,7 +3,7 @@ use Rattle.std.proofs.Common.{refl, sym, ◌∙◌}
 use Rattle.text.proofs.Asks.{command-few, responds-some, responds-none}
 use Rattle.lines.proofs.answer_line.Goals as goal
 
-pub obey-requires : goal.obey-requires-clause-given
+pub obey-requires : goal.obey-requires
 obey-requires c = (command-few _ _ (sym c.command_in-asked.ensures ∙ c.in-Some.is), c.requires.1)
 
 pub returns-in-Some-clause-gives : goal.returns-in-Some-clause-gives

@@ -24,7 +24,7 @@ returns-then-not-carried_out c =
     let k = (goal.at.returns-then-not-carried_out c).After-carried_out in
     feed-refused _ _ _ _ _ (sym c.ready.ensures ∙ c.if-not-ready.false) (sym (restored k) ∙ c.if-not-carried_out.true)
 
-pub save_whole-requires : goal.save_whole-requires-clause-given
+pub save_whole-requires : goal.save_whole-requires
 save_whole-requires c =
     let k = (goal.at.save_whole-requires c).After-carried_out in
     done-length c.args.image.now (taken-done _ (sym (restored k) ∙ c.if-not-carried_out.false))
