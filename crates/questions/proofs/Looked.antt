@@ -1,10 +1,7 @@
 -- A row that is looked up is the rules' answer, where the map and the table are those of the walks. Assumes nothing.
-use mathlib.Core.Path.{◌≡◌, refl, sym, ap, ap₂, fun_ext}
-use mathlib.Core.Bool.{Bool, true, false, cond}
-use mathlib.Core.List.{List, ◌++◌, map}
-use Prim.Native.Nat.{ℕ, ◌≤◌, ◌<◌}
-use native.Mathlib.Omega.{arith}
-use lib.ListN.{length, drop, get_or}
+use Rattle.std.proofs.Common.{◌≡◌, ◌≤◌, ◌<◌, ℕ, Bool, true, false, cond, List, ◌++◌, map, length, drop, get_or, Result, Ok, Err, refl, sym, ap, arith}
+use Rattle.std.proofs.Common.{lt-ltb, le-ltb}
+use mathlib.Core.Path.{fun_ext}
 use Rattle.bits.specs.Map.{on}
 use Rattle.rules.specs.Pages.{key_of}
 use Rattle.rules.specs.Calls.{no_file, no_page}
@@ -12,16 +9,45 @@ use Rattle.rules.specs.Listings.{Written, count_in}
 use Rattle.rules.specs.Questions.{when_of, answer_of, forecast_of, words_read, words_most, no_room, asked, questions_of}
 use Rattle.rules.specs.Valid.{Valid}
 use Rattle.rules.specs.declared.State.{State}
-use Rattle.rules.specs.declared.Listing.{Listing}
 use Rattle.rules.specs.declared.Question.{Question}
+use Rattle.rules.specs.declared.Refusal.{Refusal}
+use Rattle.rules.specs.declared.Refusal.TheVariants.{NoFile, NoPage, NoRoom}
+use Rattle.rules.specs.declared.When.{When}
 use Rattle.rules.specs.declared.Forecast.{Forecast}
-use Rattle.rules.specs.declared.When.TheVariants.{Refused}
-use Rattle.rules.specs.declared.Listing.TheVariants as listing
 use Rattle.parts.proofs.Files.{there-low}
 use Rattle.rules.proofs.orders.LookAheads.{seen-used}
 use Rattle.rules.proofs.orders.Questions.{words-few}
 use Rattle.walk.specs.Tables.{Keyed}
-use Rattle.questions.specs.Rows.{when_by, row_by}
+use Rattle.questions.specs.Rows.{when_by, answer_by, row_by}
+
+abbrev written : Result ℕ Refusal → List Forecast → Written (Result ℕ Refusal) Forecast
+written a l = record { answer = a; list = l }
+
+-- ---- is there room?
+
+-- more than 1,024 questions
+pub too-many : (asked room : ℕ) → 1024 < asked → no_room asked room ≡ true
+too-many asked room l = rw (lt-ltb 1024 asked l) refl
+
+-- fewer answers than questions
+pub too-few : (asked room : ℕ) → asked ≤ 1024 → room < asked → no_room asked room ≡ true
+too-few asked room h l = rw (le-ltb 1024 asked h, lt-ltb room asked l) refl
+
+-- neither
+enough : (asked room : ℕ) → asked ≤ 1024 → asked ≤ room → no_room asked room ≡ false
+enough asked room h l = rw (le-ltb 1024 asked h, le-ltb room asked l) refl
+
+-- ---- what the call leaves
+
+-- as the rules have it, of no more words than these allow
+abbrev pub Told : State → List Question → List Forecast → Result ℕ Refusal → List Forecast → Type 0
+Told s questions lent answer after = (count_in answer ≤ words_most s) × (written answer after ≡ questions_of s questions lent)
+
+-- where it is refused
+pub refused-rows : (s : State) (questions : List Question) (lent : List Forecast) → no_room (length questions) (length lent) ≡ true
+    → Told s questions lent (Err NoRoom) lent
+unfolding questions_of asked
+refused-rows s questions lent e = (omega arith, rw e refl)
 
 module _ (s : State) (w : Valid s) (before-some table : List ℕ) (h : Keyed s before-some table) where
   -- of a page that is there
@@ -31,41 +57,24 @@ module _ (s : State) (w : Valid s) (before-some table : List ℕ) (h : Keyed s b
 
   -- of any question
   row-looked : (q : Question) → row_by s.sizes s.turn before-some table q ≡ forecast_of s q
-  unfolding row_by answer_of
+  unfolding answer_by answer_of
   row-looked q = ap (λ x. record { when = x }) (by (no_file s q.file) (no_page s q.file q.page) refl refl)
     where
       k : ℕ
       k = key_of q.file q.page
 
       by : (a b : Bool) → no_file s q.file ≡ a → no_page s q.file q.page ≡ b
-          → cond a (Refused 3) (cond b (Refused 8) (when_by (get_or table k 0) (on before-some k) s.turn))
-          ≡ cond a (Refused 3) (cond b (Refused 8) (when_of s k))
+          → ◌≡◌ {A = Result When Refusal}
+          (cond a (Err NoFile) (cond b (Err NoPage) (Ok (when_by (get_or table k 0) (on before-some k) s.turn))))
+          (cond a (Err NoFile) (cond b (Err NoPage) (Ok (when_of s k))))
       by true b e f = refl
       by false true e f = refl
-      by false false e f = when-looked k (there-low false false s.sizes q.file q.page (sym e) refl (sym f) refl (w.sizes_high q.file) k refl)
+      by false false e f = ap Ok (when-looked k (there-low false false s.sizes q.file q.page (sym e) refl (sym f) refl (w.sizes_high q.file) k refl))
 
-  -- so the call's answer and list are the rules', of the words that were read
-  pub asked-looked : (words : ℕ) (questions : List Question) (lent : List Forecast) → words ≡ words_read s
-      → asked words (row_by s.sizes s.turn before-some table) questions lent ≡ questions_of s questions lent
-  unfolding questions_of
-  asked-looked words questions lent e = ap₂ (λ n f. asked n f questions lent) e (fun_ext row-looked)
-
--- the words told are those of the rules, or none
-told-few : (words : ℕ) (answer : Question → Forecast) (questions : List Question) (lent : List Forecast)
-    → count_in (asked words answer questions lent).answer ≤ words
-unfolding asked
-told-few words answer questions lent = by (no_room (length questions) (length lent))
-  where
-    by : (b : Bool)
-        → count_in (cond {A = Written Listing Forecast} b (record { answer = listing.Refused 12; list = lent })
-        (record { answer = listing.Count words; list = map answer questions ++ drop (length questions) lent })).answer ≤ words
-    by true = omega arith
-    by false = omega arith
-
--- at most 16 for each attached reader
-pub answer-few : (s : State) → Valid s → (r : Listing) (after lent : List Forecast) (questions : List Question)
-    → ◌≡◌ {A = Written Listing Forecast} (record { answer = r; list = after }) (questions_of s questions lent) → count_in r ≤ words_most s
-unfolding questions_of
-answer-few s w r after lent questions e =
-    let f : r ≡ (asked (words_read s) (forecast_of s) questions lent).answer = ap (λ (x : Written Listing Forecast). x.answer) e in
-    rw f (omega (arith, told-few (words_read s) (forecast_of s) questions lent, words-few s w))
+  -- where it is not, of the words that were read
+  pub answered-rows : (questions : List Question) (lent : List Forecast) (words : ℕ) → length questions ≤ 1024 → length questions ≤ length lent
+      → words ≡ words_read s
+      → Told s questions lent (Ok words) (map (row_by s.sizes s.turn before-some table) questions ++ drop (length questions) lent)
+  unfolding questions_of asked
+  answered-rows questions lent words h l f =
+      (omega (arith, words-few s w), rw (enough (length questions) (length lent) h l, f, fun_ext row-looked) refl)

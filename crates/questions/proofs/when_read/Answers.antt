@@ -1,19 +1,36 @@
--- The walks fill the map and the table; the rows that are looked up there are the rules', and so few words were read for them.
-use Rattle.std.proofs.Common.{◌≡◌, ◌∙◌}
+-- There is no room; or the walks fill the map and the table, the rows that are looked up there are the rules', and so few words were read for them.
+use Rattle.std.proofs.Common.{subst, length, Ok}
 use Rattle.rules.specs.Views.{state_of}
-use Rattle.rules.specs.Listings.{Written}
-use Rattle.rules.specs.Questions.{questions_of}
-use Rattle.rules.specs.declared.Forecast.{Forecast}
-use Rattle.rules.specs.declared.Listing.{Listing}
-use Rattle.questions.proofs.Looked.{asked-looked, answer-few}
+use Rattle.questions.proofs.Looked.{Told, too-many, too-few, refused-rows, answered-rows}
+use Rattle.questions.proofs.when_read.Goals.{then-questions-gt1024-via-then-questions-gt1024}
+use Rattle.questions.proofs.when_read.Goals.{then-questions-gt1024-via-else-questions-gt1024+then-answers-questions}
 use Rattle.questions.proofs.when_read.Goals as goal
+
+pub returns-then-questions-gt1024 : goal.returns-then-questions-gt1024
+returns-then-questions-gt1024 c =
+    let asked = length c.args.questions.now in
+    let room = length c.args.answers.now in
+    record {
+      words =
+          refused-rows c.args.q.now c.args.questions.now c.args.answers.now
+          (elim c.then-questions-gt1024.branch [
+            | then-questions-gt1024-via-then-questions-gt1024 w ↦ too-many asked room w.if-questions-gt1024.true
+            | then-questions-gt1024-via-else-questions-gt1024+then-answers-questions w ↦
+                too-few asked room w.if-questions-gt1024.false w.if-answers-questions.true
+          ]);
+    }
 
 pub returns : goal.returns
 returns c =
-    let a = c.args in
-    let s = state_of a.v a.cached.now a.fetching.now in
-    let made = c.walk_all-words in
-    let rows = c.answer_rows in
-    let e : ◌≡◌ {A = Written Listing Forecast} (record { answer = rows.result; list = rows.new.answers }) (questions_of s a.questions.now a.answers.now) =
-    rows.ensures ∙ asked-looked s c.requires made.new.ahead made.new.table made.ensures.1 made.result a.questions.now a.answers.now made.ensures.0 in
-    record { words = (answer-few s c.requires rows.result rows.new.answers a.answers.now a.questions.now e, e) }
+    let q = c.q.inside in
+    let w = c.use_keys-tally.ensures in
+    let questions = c.args.questions.now in
+    let answers = c.args.answers.now in
+    let words = c.use_keys-tally.result.words in
+    record {
+      words =
+          subst (λ s. Told s questions answers (Ok words) c.answer_rows.new.answers) c.q.view_is
+          (rw c.answer_rows.ensures
+          (answered-rows (state_of q.view q.cached q.fetching) c.q.invariant.0 _ _ w.keyed questions answers words
+          c.if-questions-gt1024.false c.if-answers-questions.false w.words));
+    }
