@@ -228,19 +228,26 @@ pub fn wake(readers: [Reader; 16], key: usize) -> [Reader; 16]
     next
 }
 
-// The page leaves fetch, and every reader that waits for it runs.
+// Lost on any view whose sizes fit, whatever is cached: the page leaves fetch, and every reader that waits for it runs.
 #[tactic(auto, unfolding(rules::specs::Calls::lost_of, rules::specs::Calls::for_fetch))]
-pub fn lost(q: &mut Quay, file: u64, page: u64) -> Answer
-    ensures { reply q.new result ≡ lost_of q.old file page }
+pub fn lost_in(v: &mut View, fetching: &mut [u64; 128], file: u64, page: u64) -> Answer
+    requires { get_or v.old.sizes file 0 ≤ 1024 }
+    ensures { (c : List ℕ) → reply (state_of v.new c fetching.new) result ≡ lost_of (state_of v.old c fetching.old) file page }
 {
-    match open_fetch(q.view.sizes, &q.fetching, file, page) {
+    match open_fetch(v.sizes, fetching, file, page) {
         Ok(key) => {
-            bits::clear_bit(&mut q.fetching, key);
-            q.view.readers = wake(q.view.readers, key);
+            bits::clear_bit(fetching, key);
+            v.readers = wake(v.readers, key);
             Answer::Done
         }
         Err(why) => Answer::Refused(why),
     }
+}
+
+pub fn lost(q: &mut Quay, file: u64, page: u64) -> Answer
+    ensures { reply q.new result ≡ lost_of q.old file page }
+{
+    lost_in(&mut q.view, &mut q.fetching, file, page)
 }
 
 // The page chosen, if any, gives up its frame.

@@ -2,12 +2,13 @@
 
 #![tactic(auto)]
 
-ghost use Rattle.std.specs.Prelude.{◌≡◌, ◌≤◌};
+ghost use Rattle.std.specs.Prelude.{◌≡◌, ◌≤◌, List, ℕ};
+ghost use Rattle.rules.specs.Views.{state_of};
 ghost use Rattle.rules.specs.Calls.{reply, attach_of, read_of, detach_of, no_interval, measured_pace, measure_of};
 ghost use Rattle.slots.specs.Berths.{berth_of, reader_slot};
 ghost use Rattle.slots.specs.Others.{OthersStay};
 
-use rules::{Answer, Condition, Reader, Refusal};
+use rules::{Answer, Condition, Reader, Refusal, View};
 use state::Quay;
 
 // ---- Attach
@@ -46,24 +47,30 @@ fn berth_of(
     })
 }
 
-// Only an Attach that is carried out counts (A.6).
+// Attach on any view, whatever its maps. Only an Attach that is carried out counts (A.6).
 #[tactic(auto, unfolding(rules::specs::Calls::attach_of))]
-pub fn attach(q: &mut Quay, slot: u64, file: u64, pace: u64, start: u64, last: u64) -> Answer
-    ensures by_rule { reply q.new result ≡ attach_of q.old slot file pace start last }
-    ensures one_record { OthersStay q.old slot q.new }
+pub fn attach_in(v: &mut View, slot: u64, file: u64, pace: u64, start: u64, last: u64) -> Answer
+    ensures { (c f : List ℕ) → reply (state_of v.new c f) result ≡ attach_of (state_of v.old c f) slot file pace start last }
 {
-    match berth_of(q.view.sizes, slot, file, pace, start, last) {
-        Ok(Berth { slot, file, reader }) => match q.view.readers[slot].condition {
+    match berth_of(v.sizes, slot, file, pace, start, last) {
+        Ok(Berth { slot, file, reader }) => match v.readers[slot].condition {
             Condition::Empty => {
-                q.view.readers[slot] = reader;
-                q.view.marks[slot] = reader.position;
-                q.view.attaches[file] = q.view.attaches[file].saturating_add(1);
+                v.readers[slot] = reader;
+                v.marks[slot] = reader.position;
+                v.attaches[file] = v.attaches[file].saturating_add(1);
                 Answer::Done
             }
             Condition::Running | Condition::Waiting => Answer::Refused(Refusal::SlotTaken),
         },
         Err(why) => Answer::Refused(why),
     }
+}
+
+pub fn attach(q: &mut Quay, slot: u64, file: u64, pace: u64, start: u64, last: u64) -> Answer
+    ensures by_rule { reply q.new result ≡ attach_of q.old slot file pace start last }
+    ensures one_record { OthersStay q.old slot q.new }
+{
+    attach_in(&mut q.view, slot, file, pace, start, last)
 }
 
 // ---- Read
@@ -96,20 +103,26 @@ fn reader_slot(readers: &[Reader; 16], slot: u64) -> Result<usize, Refusal>
     Ok(i)
 }
 
-// A fetch that the reader waited for stays open.
+// Detach on any view, whatever its maps: a fetch that the reader waited for stays open.
 #[tactic(auto, unfolding(rules::specs::Calls::detach_of))]
-pub fn detach(q: &mut Quay, slot: u64) -> Answer
-    ensures by_rule { reply q.new result ≡ detach_of q.old slot }
-    ensures one_record { OthersStay q.old slot q.new }
+pub fn detach_in(v: &mut View, slot: u64) -> Answer
+    ensures { (c f : List ℕ) → reply (state_of v.new c f) result ≡ detach_of (state_of v.old c f) slot }
 {
-    match reader_slot(&q.view.readers, slot) {
+    match reader_slot(&v.readers, slot) {
         Ok(i) => {
-            q.view.readers[i] = parts::no_reader();
-            q.view.marks[i] = 0;
+            v.readers[i] = parts::no_reader();
+            v.marks[i] = 0;
             Answer::Done
         }
         Err(why) => Answer::Refused(why),
     }
+}
+
+pub fn detach(q: &mut Quay, slot: u64) -> Answer
+    ensures by_rule { reply q.new result ≡ detach_of q.old slot }
+    ensures one_record { OthersStay q.old slot q.new }
+{
+    detach_in(&mut q.view, slot)
 }
 
 // 16: an interval that is not 1 to 1,000,000 ticks, or more ticks blocked than it has.
@@ -132,21 +145,27 @@ fn measured_pace(old: Reader, mark: u16, interval: u64, blocked: u64) -> u16
     ((interval - blocked) / n as u64).clamp(1, 1000) as u16
 }
 
-// The ticks for which a reader waited are blocked ones.
+// Measure on any view, whatever its maps. The ticks for which a reader waited are blocked ones.
 #[tactic(auto, unfolding(rules::specs::Calls::measure_of))]
-pub fn measure(q: &mut Quay, slot: u64, interval: u64, blocked: u64) -> Answer
-    ensures by_rule { reply q.new result ≡ measure_of q.old slot interval blocked }
-    ensures one_record { OthersStay q.old slot q.new }
+pub fn measure_in(v: &mut View, slot: u64, interval: u64, blocked: u64) -> Answer
+    ensures { (c f : List ℕ) → reply (state_of v.new c f) result ≡ measure_of (state_of v.old c f) slot interval blocked }
 {
-    match reader_slot(&q.view.readers, slot) {
+    match reader_slot(&v.readers, slot) {
         Ok(_) if no_interval(interval, blocked) => Answer::Refused(Refusal::NoInterval),
         Ok(i) => {
-            let old = q.view.readers[i];
-            let pace = measured_pace(old, q.view.marks[i], interval, blocked);
-            q.view.readers[i] = parts::paced(old, pace);
-            q.view.marks[i] = old.position;
+            let old = v.readers[i];
+            let pace = measured_pace(old, v.marks[i], interval, blocked);
+            v.readers[i] = parts::paced(old, pace);
+            v.marks[i] = old.position;
             Answer::Done
         }
         Err(why) => Answer::Refused(why),
     }
+}
+
+pub fn measure(q: &mut Quay, slot: u64, interval: u64, blocked: u64) -> Answer
+    ensures by_rule { reply q.new result ≡ measure_of q.old slot interval blocked }
+    ensures one_record { OthersStay q.old slot q.new }
+{
+    measure_in(&mut q.view, slot, interval, blocked)
 }

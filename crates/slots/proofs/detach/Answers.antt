@@ -1,12 +1,12 @@
--- The rule keeps a valid state valid.
-use Rattle.std.proofs.Common.{arith}
-use Rattle.std.proofs.lemmas.Grind.{common_steps}
-use Rattle.rules.specs.Calls.{detach_of}
+-- The view's Detach, with the maps as they are: the state after it is valid, and has the other slots' records.
 use Rattle.rules.specs.Entries.{detach}
-use Rattle.rules.specs.declared.Answer.TheVariants.{Done}
+use Rattle.rules.proofs.calls.OneRecord.{detaching}
 use Rattle.state.proofs.Kept.{kept-by}
+use Rattle.slots.proofs.Stays.{stay}
 use Rattle.slots.proofs.detach.Goals as goal
 
 pub invariant_of-q : goal.invariant_of-q
-unfolding detach_of
-invariant_of-q c = (kept-by (detach c.args.slot) _ _ Done (grind (arith, common_steps)) c.q.invariant.0, c.q.invariant.1)
+invariant_of-q c = (kept-by (detach _) _ _ _ (c.detach_in.ensures c.q.inside.cached c.q.inside.fetching) c.q.invariant.0, c.q.invariant.1)
+
+pub returns-clause-one_record : goal.returns-clause-one_record
+returns-clause-one_record c = rw (← c.q.view_is) (stay detaching _ _ _ _ (c.detach_in.ensures c.q.inside.cached c.q.inside.fetching))

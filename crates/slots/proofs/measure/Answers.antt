@@ -1,12 +1,12 @@
--- The rule keeps a valid state valid.
-use Rattle.std.proofs.Common.{arith}
-use Rattle.std.proofs.lemmas.Grind.{common_steps}
-use Rattle.rules.specs.Calls.{measure_of}
+-- The view's Measure, with the maps as they are: the state after it is valid, and has the other slots' records.
 use Rattle.rules.specs.Entries.{measure}
-use Rattle.rules.specs.declared.Answer.TheVariants.{Done}
+use Rattle.rules.proofs.calls.OneRecord.{measuring}
 use Rattle.state.proofs.Kept.{kept-by}
+use Rattle.slots.proofs.Stays.{stay}
 use Rattle.slots.proofs.measure.Goals as goal
 
 pub invariant_of-q : goal.invariant_of-q
-unfolding measure_of
-invariant_of-q c = (kept-by (measure c.args.slot c.args.interval c.args.blocked) _ _ Done (grind (arith, common_steps)) c.q.invariant.0, c.q.invariant.1)
+invariant_of-q c = (kept-by (measure _ _ _) _ _ _ (c.measure_in.ensures c.q.inside.cached c.q.inside.fetching) c.q.invariant.0, c.q.invariant.1)
+
+pub returns-clause-one_record : goal.returns-clause-one_record
+returns-clause-one_record c = rw (← c.q.view_is) (stay (measuring _ _) _ _ _ _ (c.measure_in.ensures c.q.inside.cached c.q.inside.fetching))
