@@ -1,5 +1,5 @@
--- What the turns rest on: the answer of a turn, the readers and their seats, an arrival, turns one after the other, a turn as its code reads it, and a Run
--- under way.
+-- What the turns rest on: the answer of a turn, the readers and their seats, an arrival, turns one after the other, a turn as its code reads it, what it
+-- leaves of the heads, its end, and the turns of a leg.
 pub mod Answers
 pub mod Seatings
 pub mod Untouched

@@ -80,8 +80,8 @@ module _ (s : State) (v : Valid s) (closed : (k : ℕ) → T (in_fetch s k) → 
   read-begins file page k =
       let yes : fetches (read_of s s.turn).answer ≡ 1 = ap fetches (sym answer-is ∙ k) in
       let all = read_by s v closed Left (λ z. absurd (omega arith)) (λ z. absurd (omega arith)) (λ _ _ z. absurd (omega arith)) (λ g o _. (g, o, refl)) yes in
-      let told : Fetch (now_at s).file ((now_at s).position + 1) ≡ Fetch file page = sym (ap (λ r. r.answer)
-          (asked s v closed all.0 all.1)) ∙ sym answer-is ∙ k in
+      let told : Fetch (now_at s).file ((now_at s).position + 1) ≡ Fetch file page =
+      sym (ap (λ r. r.answer) (asked s v closed all.0 all.1)) ∙ sym answer-is ∙ k in
       (all.0, all.1, read-map s v s.turn v.turn_high q still _ e ∙ all.2, cc, cc)
     where
       Left : Reply → Type 0

@@ -1,29 +1,6 @@
 -- A turn as its code reads it: the record, the Read of it, and the view while its page is in fetch. Assumes nothing.
-use Rattle.std.proofs.Common.{
-  ℕ,
-  ◌+◌,
-  ◌<◌,
-  ◌≡◌,
-  ◌∙◌,
-  not,
-  List,
-  Option,
-  None,
-  Some,
-  map,
-  T,
-  eqb,
-  refl,
-  sym,
-  ap,
-  subst,
-  arith,
-  get_or,
-  set,
-  length-set,
-  get_or-set_same,
-  get_or-set_other,
-}
+use Rattle.std.proofs.Common.{ℕ, ◌+◌, ◌<◌, ◌≡◌, ◌∙◌, not, List, Option, None, Some, map, T, eqb, refl, sym, ap, subst, arith}
+use Rattle.std.proofs.Common.{get_or, set, length-set, get_or-set_same, get_or-set_other}
 use mathlib.Core.Bool.{cond}
 use lib.ListN.{length-map, get_or-map}
 use lib.Seq.{set-get_or, ext_get_or}

@@ -4,12 +4,13 @@
 
 #![tactic(auto)]
 
-ghost use Rattle.std.specs.Prelude.{◌≡◌, ℕ, ◌+◌, ◌≤◌, ◌<◌, T, length};
+ghost use Rattle.std.specs.Prelude.{◌≡◌, ℕ, ◌+◌, ◌≤◌, ◌<◌, T, length, slice_index};
 ghost use Rattle.rules.specs.declared.State.{State};
-ghost use Rattle.rules.specs.Readers.{attached};
+ghost use Rattle.rules.specs.Readers.{reader_in, attached};
 ghost use Rattle.rules.specs.Calls.{dropped};
 ghost use Rattle.rules.specs.Run.{hit_page};
 ghost use Rattle.parts.specs.Held.{Held};
+ghost use Rattle.parts.specs.Positions.{moved_to};
 ghost use Rattle.files.specs.Leads.{SharesOf};
 ghost use Rattle.uses.specs.Sights.{under, state_under};
 ghost use Rattle.uses.specs.Shown.{Shows, seen};
@@ -49,7 +50,7 @@ fn give_up(
     held: &[u16; 8],
     heads: &mut Heads,
 ) -> Option<u16>
-    requires { (sight.now.terms.done ≤ 16384) × Held sight.now.cached.now held.now }
+    requires { (sight.now.terms.done ≤ 16384) × Held sight.now.cached.now held.now × ((v : View) × Shows sight.now v) }
     ensures { (v : View) → Shows sight.now v → SharesOf (under sight.now.terms v) shares.now → Kept (seen sight.now v) sight.now.terms.done heads.old
         → (result ≡ dropped (seen sight.now v)) × Kept (seen sight.now v) sight.now.terms.done heads.new }
 {
@@ -148,19 +149,25 @@ fn turn(
     end_turn(slot, seats, heads, r, second, 1)
 }
 
+// The readers at these positions.
+fn readers_at(mut readers: [Reader; 16], positions: &[u16; 16]) -> [Reader; 16]
+    ensures sixteen { length result ≡ 16 }
+    ensures moved { (j : ℕ) → j < 16 → reader_in result j ≡ moved_to (slice_index positions.now j) (reader_in readers j) }
+{
+    for (j, r) in readers.iter_mut().enumerate() {
+        *r = parts::at_position(*r, positions[j]);
+    }
+    readers
+}
+
 // The view after some turns: it is this slot's turn, and the readers are at these positions.
 pub fn view_after(v: &View, slot: u8, positions: &[u16; 16]) -> View
     ensures { Following v.now slot positions.now result }
 {
-    let mut readers = v.readers;
-    for (j, r) in readers.iter_mut().enumerate() {
-        *r = parts::at_position(*r, positions[j]);
-    }
-    View {
-        turn: slot,
-        readers,
-        ..*v
-    }
+    let mut after = *v;
+    after.turn = slot;
+    after.readers = readers_at(v.readers, positions);
+    after
 }
 
 impl Run {

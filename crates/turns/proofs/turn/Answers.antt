@@ -3,8 +3,9 @@ use Rattle.std.proofs.Common.{◌+◌, ◌≡◌, ◌∙◌, not, T, arith}
 use Rattle.bits.specs.Map.{put_bit}
 use Rattle.rules.specs.Pages.{cached}
 use Rattle.rules.specs.Readers.{reader_in}
+use Rattle.rules.specs.declared.State.{State}
 use Rattle.rules.specs.declared.View.{View}
-use Rattle.rules.proofs.third.Moves.{goes_now, key_now}
+use Rattle.rules.proofs.third.Moves.{now_at, goes_now, key_now}
 use Rattle.uses.specs.Sights.{under, state_under}
 use Rattle.turns.specs.Places.{Turning}
 use Rattle.turns.proofs.Answers.{one_hit}
@@ -35,12 +36,14 @@ returns-in_default c =
 abbrev Read : In-Fetch → View → Type 0
 Read c w = Turning c.args.v.now c.args.terms c.args.shares.now c.args.seats.now c.args.heads.now c.args.cached.now c.args.fetching.now w
 
+-- the state that it shows
+abbrev s : In-Fetch → View → State
+s c w = state_under c.args.terms w c.args.cached.now c.args.fetching.now
+
 -- the page is in fetch
-begins : (c : In-Fetch) (w : View) (g : Read c w) → T (goes_now (state_under c.args.terms w c.args.cached.now c.args.fetching.now))
-    × T (not (cached (state_under c.args.terms w c.args.cached.now c.args.fetching.now) (key_now
-        (state_under c.args.terms w c.args.cached.now c.args.fetching.now))))
-    × (c.read_slot-first.new.fetching ≡ put_bit c.args.fetching.now (key_now (state_under c.args.terms w c.args.cached.now c.args.fetching.now)) 1)
-    × (c.in-Fetch.file ≡ (reader_in w.readers c.args.terms.turn).file) × (c.in-Fetch.page ≡ (reader_in w.readers c.args.terms.turn).position + 1)
+begins : (c : In-Fetch) (w : View) (g : Read c w) → T (goes_now (s c w)) × T (not (cached (s c w) (key_now (s c w))))
+    × (c.read_slot-first.new.fetching ≡ put_bit c.args.fetching.now (key_now (s c w)) 1) × (c.in-Fetch.file ≡ (now_at (s c w)).file)
+    × (c.in-Fetch.page ≡ (now_at (s c w)).position + 1)
 begins c w g =
     let a = c.args in
     let v = valid _ _ _ _ _ _ _ w g in
