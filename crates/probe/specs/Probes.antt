@@ -1,21 +1,22 @@
 -- The library's calls as the tests from outside make them. Assumes nothing: these are definitions.
-use Rattle.std.specs.Prelude.{ℕ, min, ◌+◌, ◌*◌, Bool, cond, List, [], ◌∷◌, ◌++◌, map, get_or, length, take, drop, replicate}
+use Rattle.std.specs.Prelude.{ℕ, min, ◌+◌, ◌*◌, List, [], ◌∷◌, ◌++◌, map, get_or, length, take, drop, replicate, Result, Ok, Err}
 use Rattle.rules.specs.Lists.{range}
 use Rattle.rules.specs.Calls.{setup_of}
-use Rattle.rules.specs.Listings.{Written, steal_list_of, fetch_list_of}
+use Rattle.rules.specs.Listings.{Written}
 use Rattle.rules.specs.Questions.{questions_of}
 use Rattle.rules.specs.Image.{save_of, restore_of}
-use Rattle.rules.specs.Entries.{code, carried_out, Entered}
+use Rattle.rules.specs.Entries.{code, Entered}
+use Rattle.rules.specs.Refusals.{refusal_number}
 use Rattle.rules.specs.declared.State.{State}
 use Rattle.rules.specs.declared.Reply.{Reply}
-use Rattle.rules.specs.declared.Ordered.{Ordered}
-use Rattle.rules.specs.declared.Ordered.TheVariants.{Keys, Refused}
+use Rattle.rules.specs.declared.Keys.{Keys}
 use Rattle.rules.specs.declared.Question.{Question}
 use Rattle.rules.specs.declared.When.{When}
-use Rattle.rules.specs.declared.When.TheVariants as when
+use Rattle.rules.specs.declared.When.TheVariants.{At, Behind, NotSeen}
 use Rattle.rules.specs.declared.Forecast.{Forecast}
-use Rattle.rules.specs.declared.Listing.{Listing}
-use Rattle.rules.specs.declared.Listing.TheVariants as listing
+use Rattle.rules.specs.declared.Refusal.{Refusal}
+use Rattle.rules.specs.declared.Refusal.TheVariants.{NoImage}
+use Rattle.probe.specs.Asks.{Listed, asked}
 
 -- a call, and Save of what it gives into a buffer: both numbers in one, and the buffer after it
 abbrev pub saved_after : Reply → List ℕ → Entered
@@ -42,28 +43,17 @@ abbrev pub setup_probed : List ℕ → List ℕ → Entered
 setup_probed numbers buffer = saved_after (setup_from numbers) buffer
 
 -- the number of an order's answer: the refusal's, or the count of keys and the pages tested, told from a refusal as Run's is
-abbrev pub order_number : Ordered → ℕ
-order_number (Keys count tested) = 4294967296 + count * 65536 + tested
-order_number (Refused number) = number
-
--- a number, and a lent list after the call
-pub record Listed : Type 0 where
-  pub number : ℕ
-  pub list : List ℕ
+abbrev pub order_number : Result Keys Refusal → ℕ
+order_number (Ok keys) = 4294967296 + keys.count * 65536 + keys.tested
+order_number (Err why) = refusal_number why
 
 -- the one order or the other
-abbrev pub list_of : Bool → State → List ℕ → Written Ordered ℕ
-list_of stealing s lent = cond stealing (steal_list_of s lent) (fetch_list_of s lent)
+abbrev pub list_asked : (State → List ℕ → Written (Result Keys Refusal) ℕ) → State → List ℕ → Listed ℕ
+list_asked order s lent = record { number = order_number (order s lent).answer; list = (order s lent).list }
 
 -- Restore, and a list of what it gives; 13, and the list left, where it refuses the image
-abbrev pub list_probed : Bool → List ℕ → List ℕ → Listed
-list_probed stealing image lent =
-    cond (carried_out (restore_of image).answer)
-    (record {
-      number = order_number (list_of stealing (restore_of image).state lent).answer;
-      list = (list_of stealing (restore_of image).state lent).list;
-    })
-    (record { number = code (restore_of image).answer; list = lent })
+abbrev pub list_probed : (State → List ℕ → Written (Result Keys Refusal) ℕ) → List ℕ → List ℕ → Listed ℕ
+list_probed order = asked (list_asked order)
 
 -- ---- when will these be read
 
@@ -73,35 +63,36 @@ questions_in [] = []
 questions_in (file ∷ []) = []
 questions_in (file ∷ page ∷ rest) = record { file = file; page = page } ∷ questions_in rest
 
--- the number of a row's answer: the row's own refusal; behind; not seen; or time and slot, told from the others as Run's is
-abbrev pub when_number : When → ℕ
-when_number (when.At time slot) = 4294967296 + time * 256 + slot
-when_number when.Behind = 256
-when_number when.NotSeen = 257
-when_number (when.Refused number) = number
+-- the number of a row's answer: time and slot, told from the others as Run's is; behind; not seen; the row's own refusal; or 0 for 13, which is no row's
+abbrev pub when_number : Result When Refusal → ℕ
+when_number (Ok (At time slot)) = 4294967296 + time * 256 + slot
+when_number (Ok Behind) = 256
+when_number (Ok NotSeen) = 257
+when_number (Err NoImage) = 0
+when_number (Err why) = refusal_number why
 
 abbrev pub forecast_number : Forecast → ℕ
 forecast_number row = when_number row.when
 
 -- the number of what the call returns: the refusal's, or the count of words
-abbrev pub listing_number : Listing → ℕ
-listing_number (listing.Count words) = 4294967296 + words
-listing_number (listing.Refused number) = number
+abbrev pub listing_number : Result ℕ Refusal → ℕ
+listing_number (Ok words) = 4294967296 + words
+listing_number (Err why) = refusal_number why
 
 -- an answer before the call: a refusal that it never gives
 abbrev pub unanswered : Forecast
-unanswered = record { when = when.Refused 0 }
+unanswered = record { when = Err NoImage }
 
 -- the call, of the first 1,025 questions, with the first 1,025 rows of the list for its answers: one more than it takes
-abbrev pub answered : State → List ℕ → List ℕ → Written Listing Forecast
+abbrev pub answered : State → List ℕ → List ℕ → Written (Result ℕ Refusal) Forecast
 answered s numbers lent = questions_of s (take 1025 (questions_in numbers)) (replicate (min 1025 (length lent)) unanswered)
 
+abbrev pub when_asked : List ℕ → State → List ℕ → Listed ℕ
+when_asked numbers s lent = record {
+  number = listing_number (answered s numbers lent).answer;
+  list = map forecast_number (answered s numbers lent).list ++ drop 1025 lent;
+}
+
 -- Restore, and the questions to what it gives; 13, and the list left, where it refuses the image
-abbrev pub when_probed : List ℕ → List ℕ → List ℕ → Listed
-when_probed image numbers lent =
-    cond (carried_out (restore_of image).answer)
-    (record {
-      number = listing_number (answered (restore_of image).state numbers lent).answer;
-      list = map forecast_number (answered (restore_of image).state numbers lent).list ++ drop 1025 lent;
-    })
-    (record { number = code (restore_of image).answer; list = lent })
+abbrev pub when_probed : List ℕ → List ℕ → List ℕ → Listed ℕ
+when_probed image numbers = asked (when_asked numbers) image

@@ -12,50 +12,48 @@
 //
 // `probe_when_read`: Restore of an image of any length, then the questions to the state that it gives, two numbers each, file then page; an odd last number is
 // none. The call has slices of records; here they are numbers, and the records are made of them: up to 1,025 questions and as many answers, one more than the
-// call takes. Before it each answer is a refusal with the number 0, which it never gives, so 0 is a row that it left; further numbers of the answers are not
+// call takes. Before it each answer is 13, which is no row's, and whose number is 0: so 0 is a row that it left; further numbers of the answers are not
 // touched. A row's number is the refusal's, 256 behind, 257 not seen, or 4,294,967,296 + time × 256 + slot. The number returned is Restore's 13, which leaves
 // the answers, the call's 12, or 4,294,967,296 + count of words.
 
 #![tactic(auto)]
 
-ghost use Rattle.std.specs.Prelude.{◌≡◌, true, false, ◌++◌, map, min, ◌+◌, ◌*◌, ◌≤◌, ◌<◌, get_or, length, take, drop};
-ghost use Rattle.rules.specs.Valid.{Valid};
-ghost use Rattle.rules.specs.Views.{state_of};
-ghost use Rattle.rules.specs.Questions.{questions_of};
-ghost use Rattle.probe.specs.Probes.{restore_probed, eight_from, setup_probed, order_number, list_probed};
-ghost use Rattle.probe.specs.Probes.{questions_in, when_number, forecast_number, listing_number, when_probed};
+ghost use Rattle.std.specs.Prelude.{◌≡◌, ◌++◌, map, ◌+◌, ◌*◌, ◌≤◌, ◌<◌, get_or, length, take, drop};
+ghost use Rattle.rules.specs.Calls.{reply};
+ghost use Rattle.rules.specs.Entries.{code};
+ghost use Rattle.rules.specs.Listings.{steal_list_of, fetch_list_of};
+ghost use Rattle.probe.specs.Asks.{Asks, asked};
+ghost use Rattle.probe.specs.Probes.{saved_after, restore_probed, eight_from, setup_probed, order_number, list_probed};
+ghost use Rattle.probe.specs.Probes.{questions_in, forecast_number, listing_number, when_asked, when_probed};
 
-use rules::{Forecast, Listing, Ordered, Question, View, When};
+use rules::{Answer, Forecast, Keys, Question, Refusal, When};
+use state::Quay;
 
-// Two numbers in one.
-fn two_numbers(first: u64, second: u64) -> u64
-    requires { (first < 4294967296) × (second < 4294967296) }
-    ensures { result ≡ first + 4294967296 * second }
+// ---- Save after Restore or Setup
+
+// Save of what a call left: the numbers of both in one.
+fn saved_after(done: Answer, q: &Quay, buffer: &mut [u8]) -> u64
+    requires { code done < 4294967296 }
+    ensures { record { number = result; image = buffer.new } ≡ saved_after (reply q.now done) buffer.old }
 {
-    first + 4294967296 * second
+    let saved = image::save(q, buffer);
+    done.number() + 4294967296 * saved.number()
 }
 
 #[unsafe(no_mangle)]
 pub extern "C" fn probe_restore(image: &[u8], buffer: &mut [u8]) -> u64
     ensures { record { number = result; image = buffer.new } ≡ restore_probed image.now buffer.old }
 {
-    let mut cached = [0u64; 128];
-    let mut fetching = [0u64; 128];
-    let mut held = [0u16; 8];
-    let restored = image::restore(image, &mut cached, &mut fetching, &mut held);
-    let done = restored.answer;
-    let saved = image::save(restored.view, &cached, &fetching, buffer);
-    two_numbers(codes::number(done), codes::number(saved))
+    let mut q = Quay::idle();
+    let done = image::restore(&mut q, image);
+    saved_after(done, &q, buffer)
 }
 
 // The number at a place; 0 where there is none.
 fn number_at(numbers: &[u64], i: usize) -> u64
     ensures { result ≡ get_or numbers.now i 0 }
 {
-    if i < numbers.len() {
-        return numbers[i];
-    }
-    0
+    numbers.get(i).copied().unwrap_or(0)
 }
 
 // Eight numbers from a place on.
@@ -63,175 +61,141 @@ fn eight_from(numbers: &[u64], from: usize) -> [u64; 8]
     requires { from ≤ 12 }
     ensures { result ≡ eight_from numbers.now from }
 {
-    let mut eight = [0u64; 8];
-    let mut i: usize = 0;
-    while i < 8 {
-        eight[i] = number_at(numbers, from + i);
-        i += 1;
-    }
-    eight
+    std::array::from_fn(|i| number_at(numbers, from + i))
 }
 
 #[unsafe(no_mangle)]
 pub extern "C" fn probe_setup(numbers: &[u64], buffer: &mut [u8]) -> u64
     ensures { record { number = result; image = buffer.new } ≡ setup_probed numbers.now buffer.old }
 {
-    let frames = number_at(numbers, 0);
-    let look_ahead = number_at(numbers, 1);
-    let fetch_time = number_at(numbers, 2);
-    let sizes = eight_from(numbers, 3);
-    let rule = number_at(numbers, 11);
-    let expected = eight_from(numbers, 12);
-    let made = calls::setup_by_rule(frames, look_ahead, fetch_time, sizes, rule, expected);
-    let done = made.answer;
-    let none = [0u64; 128];
-    let saved = image::save(made.view, &none, &none, buffer);
-    two_numbers(codes::number(done), codes::number(saved))
+    let mut q = Quay::idle();
+    let done = calls::setup_by_rule(
+        &mut q,
+        number_at(numbers, 0),
+        number_at(numbers, 1),
+        number_at(numbers, 2),
+        eight_from(numbers, 3),
+        number_at(numbers, 11),
+        eight_from(numbers, 12),
+    );
+    saved_after(done, &q, buffer)
+}
+
+// ---- what Restore gives is asked
+
+// What the box that an image gives is asked, with a list lent for the answer; Restore's own number where it refuses the image.
+fn ask<T, F: FnOnce(&Quay, &mut [T]) -> u64>(image: &[u8], lent: &mut [T], question: F) -> u64
+    requires { F.IsAlwaysCallable question }
+    ensures { (by : _) → Asks F.FnOnce question by → record { number = result; list = lent.new } ≡ asked by image.now lent.old }
+{
+    let mut q = Quay::idle();
+    let done = image::restore(&mut q, image);
+    if !done.carried_out() {
+        return done.number();
+    }
+    question(&q, lent)
 }
 
 // The number of an order's answer.
-fn order_number(r: Ordered) -> u64
+fn order_number(r: Result<Keys, Refusal>) -> u64
     ensures { result ≡ order_number r }
 {
     match r {
-        Ordered::Keys { count, tested } => 4294967296 + (count as u64) * 65536 + (tested as u64),
-        Ordered::Refused(number) => number as u64,
+        Ok(keys) => 4294967296 + (keys.count as u64) * 65536 + (keys.tested as u64),
+        Err(why) => why.number() as u64,
     }
-}
-
-// The steal list or the fetch list of what Restore gives.
-fn probe_list(image: &[u8], stealing: bool, list: &mut [u16]) -> u64
-    ensures { record { number = result; list = list.new } ≡ list_probed stealing image.now list.old }
-{
-    let mut cached = [0u64; 128];
-    let mut fetching = [0u64; 128];
-    let mut held = [0u16; 8];
-    let restored = image::restore(image, &mut cached, &mut fetching, &mut held);
-    let done = restored.answer;
-    if !codes::carried_out(done) {
-        return codes::number(done);
-    }
-    if stealing {
-        return order_number(lists::steal_list(restored.view, &cached, &fetching, list));
-    }
-    order_number(lists::fetch_list(restored.view, &cached, &fetching, list))
 }
 
 #[unsafe(no_mangle)]
 pub extern "C" fn probe_steal_list(image: &[u8], list: &mut [u16]) -> u64
-    ensures { record { number = result; list = list.new } ≡ list_probed true image.now list.old }
+    ensures { record { number = result; list = list.new } ≡ list_probed steal_list_of image.now list.old }
 {
-    probe_list(image, true, list)
+    ask(
+        image,
+        list,
+        |q, list| order_number(lists::steal_list(q, list)),
+    )
 }
 
 #[unsafe(no_mangle)]
 pub extern "C" fn probe_fetch_list(image: &[u8], list: &mut [u16]) -> u64
-    ensures { record { number = result; list = list.new } ≡ list_probed false image.now list.old }
+    ensures { record { number = result; list = list.new } ≡ list_probed fetch_list_of image.now list.old }
 {
-    probe_list(image, false, list)
+    ask(
+        image,
+        list,
+        |q, list| order_number(lists::fetch_list(q, list)),
+    )
 }
 
-// How many of so many rows are handed over: all that the call takes, and one more, for which it refuses them.
-fn rows_handed(rows: usize) -> usize
-    ensures { result ≡ min 1025 rows }
-{
-    if rows < 1025 {
-        return rows;
-    }
-    1025
-}
+// ---- when will these be read
 
-// The records of the first questions, and of no question behind them.
-fn questions_of(numbers: &[u64], asked: usize) -> [Question; 1025]
-    requires { (asked ≤ 1025) × (asked + asked ≤ length numbers.now) }
-    ensures { take asked result ≡ take asked (questions_in numbers.now) }
+// All that the call takes, and one more, for which it refuses them.
+const ROWS: usize = 1025;
+
+// An answer before the call: a refusal that no row is given. Its number is 0.
+const UNANSWERED: Forecast = Forecast {
+    when: Err(Refusal::NoImage),
+};
+
+// The questions of numbers, two each.
+fn put_questions(numbers: &[u64], questions: &mut [Question])
+    requires { 2 * length questions.old ≤ length numbers.now }
+    ensures { questions.new ≡ take (length questions.old) (questions_in numbers.now) }
 {
-    let none = Question { file: 0, page: 0 };
-    let mut questions = [none; 1025];
-    let mut i = 0;
-    while i < asked {
-        questions[i] = Question {
-            file: numbers[i + i],
-            page: numbers[i + i + 1],
+    for (i, question) in questions.iter_mut().enumerate() {
+        *question = Question {
+            file: numbers[2 * i],
+            page: numbers[2 * i + 1],
         };
-        i += 1;
     }
-    questions
 }
 
 // The number of a row.
-fn when_number(w: When) -> u64
-    ensures { result ≡ when_number w }
+fn row_number(row: Forecast) -> u64
+    ensures { result ≡ forecast_number row }
 {
-    match w {
-        When::At { time, slot } => 4294967296 + (time as u64) * 256 + (slot as u64),
-        When::Behind => 256,
-        When::NotSeen => 257,
-        When::Refused(number) => number as u64,
+    match row.when {
+        Ok(When::At { time, slot }) => 4294967296 + (time as u64) * 256 + (slot as u64),
+        Ok(When::Behind) => 256,
+        Ok(When::NotSeen) => 257,
+        Err(Refusal::NoImage) => 0,
+        Err(why) => why.number() as u64,
     }
 }
 
-// The numbers of the first rows, in front of what the answers had.
-fn put_numbers(rows: [Forecast; 1025], room: usize, answers: &mut [u64])
-    requires { (room ≤ 1025) × (room ≤ length answers.old) }
-    ensures { answers.new ≡ map forecast_number (take room rows) ++ drop room answers.old }
+// The numbers of the rows, in front of what the answers had.
+fn put_numbers(rows: &[Forecast], answers: &mut [u64])
+    requires { length rows.now ≤ length answers.old }
+    ensures { answers.new ≡ map forecast_number rows.now ++ drop (length rows.now) answers.old }
 {
-    let mut i = 0;
-    while i < room {
-        let row = rows[i];
-        let when = row.when;
-        answers[i] = when_number(when);
-        i += 1;
+    for (i, row) in rows.iter().enumerate() {
+        answers[i] = row_number(*row);
     }
 }
 
 // The number of what the call returns.
-fn listing_number(r: Listing) -> u64
+fn listing_number(r: Result<u16, Refusal>) -> u64
     ensures { result ≡ listing_number r }
 {
     match r {
-        Listing::Count(words) => 4294967296 + (words as u64),
-        Listing::Refused(number) => number as u64,
+        Ok(words) => 4294967296 + (words as u64),
+        Err(why) => why.number() as u64,
     }
 }
 
-// What the call returns, and the answers after it.
-#[derive(Drop)]
-struct Answered {
-    listing: Listing,
-    rows: [Forecast; 1025],
-}
-
-// The two parts of an answer.
-fn both(listing: Listing, rows: [Forecast; 1025]) -> Answered
-    ensures { (result.listing ≡ listing) × (result.rows ≡ rows) }
+// The call, on records made of the numbers.
+fn when_asked(q: &Quay, numbers: &[u64], answers: &mut [u64]) -> u64
+    ensures { record { number = result; list = answers.new } ≡ when_asked numbers.now q.now answers.old }
 {
-    Answered { listing, rows }
-}
-
-// The first `asked` of the questions, answered in the first `room` of the rows: both are lent to the call.
-fn in_arrays<'a>(
-    v: View,
-    cached: &'a [u64; 128],
-    fetching: &'a [u64; 128],
-    questions: [Question; 1025],
-    asked: usize,
-    rows: [Forecast; 1025],
-    room: usize,
-) -> Answered
-    requires { Valid (state_of v cached.now fetching.now) × (asked ≤ 1025) × (room ≤ 1025) }
-    ensures { (result.listing ≡ (questions_of (state_of v cached.now fetching.now) (take asked questions) (take room rows)).answer)
-        × (result.rows ≡ (questions_of (state_of v cached.now fetching.now) (take asked questions) (take room rows)).list ++ drop room rows) }
-{
-    let mut filled = rows;
-    let listing = questions::when_read(
-        v,
-        cached,
-        fetching,
-        &questions[..asked],
-        &mut filled[..room],
-    );
-    both(listing, filled)
+    let asked = ROWS.min(numbers.len() / 2);
+    let room = ROWS.min(answers.len());
+    let mut questions = [Question { file: 0, page: 0 }; ROWS];
+    put_questions(numbers, &mut questions[..asked]);
+    let mut rows = [UNANSWERED; ROWS];
+    let words = questions::when_read(q, &questions[..asked], &mut rows[..room]);
+    put_numbers(&rows[..room], answers);
+    listing_number(words)
 }
 
 #[unsafe(no_mangle)]
@@ -239,31 +203,9 @@ pub extern "C" fn probe_when_read(image: &[u8], questions: &[u64], answers: &mut
     ensures { record { number = result; list = answers.new }
         ≡ when_probed image.now questions.now answers.old }
 {
-    let mut cached = [0u64; 128];
-    let mut fetching = [0u64; 128];
-    let mut held = [0u16; 8];
-    let restored = image::restore(image, &mut cached, &mut fetching, &mut held);
-    let done = restored.answer;
-    if !codes::carried_out(done) {
-        return codes::number(done);
-    }
-    let asked = rows_handed(questions.len() / 2);
-    let room = rows_handed(answers.len());
-    let records = questions_of(questions, asked);
-    let when = When::Refused(0);
-    let unanswered = Forecast { when };
-    let blank = [unanswered; 1025];
-    let answered = in_arrays(
-        restored.view,
-        &cached,
-        &fetching,
-        records,
-        asked,
-        blank,
-        room,
-    );
-    let listing = answered.listing;
-    let rows = answered.rows;
-    put_numbers(rows, room, answers);
-    listing_number(listing)
+    ask(
+        image,
+        answers,
+        |q, answers| when_asked(q, questions, answers),
+    )
 }

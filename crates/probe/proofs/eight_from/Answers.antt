@@ -1,22 +1,7 @@
--- A turn puts one more number; after the last all eight are those from the place on.
-use Rattle.std.proofs.Common.{ℕ, ◌+◌, refl, List, arith, get_or, replicate}
-use Rattle.image.proofs.Fills.{filled_more, filled-all}
+-- The numbers from the place on, one by one.
+use Rattle.std.proofs.Common.{◌+◌, get_or, rules}
+use Rattle.probe.proofs.Numbers.{from-results}
 use Rattle.probe.proofs.eight_from.Goals as goal
 
--- the number behind the place
-abbrev behind : List ℕ → ℕ → ℕ → ℕ
-behind numbers from i = get_or numbers (from + i) 0
-
-pub loop-i-init : goal.loop-i-init
-loop-i-init c = (omega arith, refl)
-
-pub loop-i-preserved : goal.loop-i-preserved
-loop-i-preserved c =
-    let from = behind c.args.numbers.now c.args.from in
-    let less = c.loop-i-test.true in
-    (omega arith, filled_more from 8 0 (replicate 8 0) _ c.loop-i.i _ c.loop-i.invariant.1 c.number_at.ensures less refl)
-
 pub returns : goal.returns
-returns c =
-    filled-all (behind c.args.numbers.now c.args.from) 8 0 (replicate 8 0) _ c.loop-i.i c.loop-i.invariant.1
-    (omega (arith, c.loop-i-test.false)) refl
+returns c = from-results _ (λ i. get_or c.args.numbers.now (c.args.from + i) 0) _ (λ i y q k. (search rules, search rules)) _ 8 c.from_fn.ensures.items

@@ -1,8 +1,0 @@
--- The number there, or 0 past the end.
-use native.Mathlib.Omega.{arith}
-use mathlib.Core.Path.{sym}
-use lib.ListN.{get_or-eq_default}
-use Rattle.probe.proofs.number_at.Goals as goal
-
-pub returns : goal.returns
-returns c = sym (get_or-eq_default c.args.numbers.now 0 {n = c.args.i} (omega (arith, c.if-i-numbers.false)))
