@@ -1,5 +1,5 @@
 -- A call's answer in a buffer: how long it is, and its line end. Assumes nothing.
-use Rattle.std.proofs.Common.{ℕ, ◌+◌, ◌<◌, ◌≤◌, ◌≡◌, List, ◌++◌, length, arith}
+use Rattle.std.proofs.Common.{ℕ, ◌<◌, ◌≤◌, ◌≡◌, List, ◌++◌, length, arith}
 use Rattle.rules.specs.Lines.{numbers_of, answer_line}
 use Rattle.rules.specs.Entries.{letter}
 use Rattle.rules.specs.declared.Answer.{Answer}

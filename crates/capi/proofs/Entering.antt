@@ -1,5 +1,5 @@
 -- An entry by its rule: the image is restored, the call is done, its state is saved. Assumes nothing.
-use Rattle.std.proofs.Common.{◌≡◌, Bool, true, false, cond, List, ℕ, sym}
+use Rattle.std.proofs.Common.{◌≡◌, true, false, cond, List, ℕ, sym}
 use Rattle.rules.specs.Calls.{reply}
 use Rattle.rules.specs.Image.{image_of, restore_whole}
 use Rattle.rules.specs.Entries.{code, carried_out, Call, call_of, enter}

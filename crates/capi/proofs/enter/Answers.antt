@@ -19,8 +19,8 @@ returns g c = λ k d.
     let whole = restored k _ _ _ c.restore_whole-restored.ensures (sym c.carried_out.ensures ∙ c.if-not-carried_out.false) _ _ called in
     rw c.number-2.ensures
     (elim c.if-carried_out.branch [
-      then-carried_out w ↦
-        let e = sym c.carried_out-2.ensures ∙ w.if-carried_out.true in rw (w.image-is, w.save_whole.ensures) (rw e at whole)
+      | then-carried_out w ↦
+          let e = sym c.carried_out-2.ensures ∙ w.if-carried_out.true in rw (w.image-is, w.save_whole.ensures) (rw e at whole)
       | else-carried_out w ↦
-        let e = sym c.carried_out-2.ensures ∙ w.if-carried_out.false in rw w.image-is (rw e at whole)
+          let e = sym c.carried_out-2.ensures ∙ w.if-carried_out.false in rw w.image-is (rw e at whole)
     ])

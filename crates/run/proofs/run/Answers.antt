@@ -1,9 +1,8 @@
 -- 11 and 10 are refused; else the turns are made.
-use Rattle.std.proofs.Common.{◌≡◌, ◌∙◌, ap, refl, subst}
+use Rattle.std.proofs.Common.{◌∙◌, ap, refl}
 use Rattle.rules.specs.Views.{state_of}
-use Rattle.rules.specs.Run.{run_of, turns_of}
+use Rattle.rules.specs.Run.{turns_of}
 use Rattle.rules.specs.Entries.{run}
-use Rattle.rules.specs.Valid.{Valid}
 use Rattle.rules.proofs.third.Optimal.{third_of}
 use Rattle.state.proofs.Kept.{kept-by}
 use Rattle.run.proofs.Replies.{run-many, run-open, run-done, none_open}
