@@ -39,13 +39,13 @@ fn reader_in(image: &[u8], slot: usize) -> Result<Reader, NoNumber>
 {
     let at = READERS_AT + 8 * slot;
     let condition = Condition::try_from(u8::get(image, at))?;
-    Ok(parts::reader_of(
+    Ok(Reader {
         condition,
-        u8::get(image, at + 1),
-        u16::get(image, at + 2),
-        u16::get(image, at + 4),
-        u16::get(image, at + 6),
-    ))
+        file: u8::get(image, at + 1),
+        pace: u16::get(image, at + 2),
+        position: u16::get(image, at + 4),
+        last: u16::get(image, at + 6),
+    })
 }
 
 fn readers_in(image: &[u8]) -> Result<[Reader; 16], NoNumber>
@@ -69,18 +69,18 @@ fn view_in(image: &[u8]) -> Result<View, NoNumber>
 {
     let readers = readers_in(image)?;
     let rule = Rule::try_from(u8::get(image, RULE_AT))?;
-    Ok(parts::view_of(
-        u16::get(image, 0),
-        u8::get(image, 2),
-        u32::get(image, 4),
-        u32::get(image, 8),
-        numbers_in(image, SIZES_AT),
+    Ok(View {
+        frames: u16::get(image, 0),
+        turn: u8::get(image, 2),
+        look_ahead: u32::get(image, 4),
+        fetch_time: u32::get(image, 8),
+        sizes: numbers_in(image, SIZES_AT),
         readers,
-        numbers_in(image, MARKS_AT),
+        marks: numbers_in(image, MARKS_AT),
         rule,
-        numbers_in(image, EXPECTED_AT),
-        numbers_in(image, ATTACHES_AT),
-    ))
+        expected: numbers_in(image, EXPECTED_AT),
+        attaches: numbers_in(image, ATTACHES_AT),
+    })
 }
 
 // Reads both maps into their places.

@@ -1,9 +1,9 @@
-// What the calls, the orders, the walks, the lists and the image all build and ask of readers, files and pages. A reader or a view is made here alone, by one
-// function for each kind of change.
+// What the calls, the orders, the walks, the lists and the image all build and ask of readers, files and pages. A reader or a view is made here, by one
+// function for each kind of change, or read from an image.
 
 #![tactic(auto)]
 
-ghost use Rattle.std.specs.Prelude.{◌≡◌, false, List, ℕ, min, ◌+◌, ◌-◌, ◌*◌, ◌/◌, ◌%◌, ◌≤◌, ◌<◌, get_or, length};
+ghost use Rattle.std.specs.Prelude.{◌≡◌, false, List, ℕ, ◌+◌, ◌-◌, ◌*◌, ◌/◌, ◌%◌, ◌≤◌, ◌<◌, get_or, length};
 ghost use Rattle.bits.specs.Map.{bit, ones, put_bit};
 ghost use Rattle.rules.specs.Views.{state_of, no_pages};
 ghost use Rattle.rules.specs.Lists.{within};
@@ -22,13 +22,6 @@ use rules::{Condition, Reader, Refusal, Rule, View};
 
 // Above every use key: the page is in no look-ahead.
 pub const NEVER: u64 = 67108864;
-
-// The smaller of two numbers.
-pub fn lesser(a: u64, b: u64) -> u64
-    ensures { result ≡ min a b }
-{
-    a.min(b)
-}
 
 // The seat distance of a slot.
 pub fn seat(turn: u8, slot: usize) -> u64
@@ -206,19 +199,6 @@ pub fn page_out(held: &mut [u16; 8], key: usize)
 
 // ---- readers
 
-// A record of these parts, as an image has them.
-pub fn reader_of(condition: Condition, file: u8, pace: u16, position: u16, last: u16) -> Reader
-    ensures { result ≡ record { condition = condition; file = file; pace = pace; position = position; last = last } }
-{
-    Reader {
-        condition,
-        file,
-        pace,
-        position,
-        last,
-    }
-}
-
 // The record of an empty slot, all 0.
 pub fn no_reader() -> Reader
     ensures { result ≡ no_reader }
@@ -292,47 +272,6 @@ pub fn next_key(r: Reader) -> usize
 }
 
 // ---- views
-
-// A view of these parts, as an image has them.
-pub fn view_of(
-    frames: u16,
-    turn: u8,
-    look_ahead: u32,
-    fetch_time: u32,
-    sizes: [u16; 8],
-    readers: [Reader; 16],
-    marks: [u16; 16],
-    rule: Rule,
-    expected: [u16; 8],
-    attaches: [u16; 8],
-) -> View
-    ensures { result
-        ≡ record {
-          marks = marks;
-          expected = expected;
-          attaches = attaches;
-          frames = frames;
-          turn = turn;
-          rule = rule;
-          look_ahead = look_ahead;
-          fetch_time = fetch_time;
-          sizes = sizes;
-          readers = readers;
-        } }
-{
-    View {
-        marks,
-        expected,
-        attaches,
-        frames,
-        turn,
-        rule,
-        look_ahead,
-        fetch_time,
-        sizes,
-        readers,
-    }
-}
 
 // The view of a state without readers, pages or fetches. Its maps are the caller's.
 pub fn fresh(

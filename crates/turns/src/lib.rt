@@ -189,15 +189,14 @@ impl Run {
     {
         let v = self.view;
         let shares = Shares::of_view(v);
+        let first = Terms::of(&v);
         let done = self.turns;
         let mut slot = v.turn;
         for i in 0..turns {
             let terms = Terms {
-                look_ahead: v.look_ahead,
-                fetch_time: v.fetch_time,
-                frames: v.frames,
                 turn: slot,
                 done: done + i,
+                ..first
             };
             let q = turn(
                 &v,

@@ -13,6 +13,5 @@ pub returns : goal.returns
 returns c =
     let number = c.in_ok-condition.ensures in (
       condition-known _ _ _ c.requires.1 c.get.ensures _ number,
-      c.reader_of.ensures
-          ∙ reader-read _ _ _ c.requires.1 c.get.ensures _ _ _ _ _ number c.get-2.ensures c.get-3.ensures c.get-4.ensures c.get-5.ensures,
+      reader-read _ _ _ c.requires.1 c.get.ensures _ _ _ _ _ number c.get-2.ensures c.get-3.ensures c.get-4.ensures c.get-5.ensures,
     )

@@ -19,8 +19,7 @@ returns c =
     let known = c.in_ok-readers.ensures in
     let number = c.in_ok-rule.ensures in (
       rule-known image _ _ c.get.ensures number known.0,
-      c.view_of.ensures
-          ∙ view-read image _ _ _ _ _ _ _ _ _ _ _ c.get-2.ensures c.get-3.ensures c.get-4.ensures c.get-5.ensures
+      view-read image _ _ _ _ _ _ _ _ _ _ _ c.get-2.ensures c.get-3.ensures c.get-4.ensures c.get-5.ensures
           c.numbers_in.ensures known.1 c.numbers_in-2.ensures
           c.get.ensures number c.numbers_in-3.ensures c.numbers_in-4.ensures,
     )

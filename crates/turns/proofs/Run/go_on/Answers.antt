@@ -7,7 +7,7 @@ pub turn-q-requires-clause-turning : goal.turn-q-requires-clause-turning
 turn-q-requires-clause-turning c =
     let i = c.loop-i.invariant in
     let u = i.going c.requires.going.0 c.requires.going.1 in
-    (_, going-turning _ _ _ _ _ _ _ _ _ _ u i.low _ c.of_view-shares.ensures)
+    rw c.of-first.ensures (_, going-turning _ _ _ _ _ _ _ _ _ _ u i.low _ c.of_view-shares.ensures)
 
 pub overflow_add-self : goal.overflow_add-self
 overflow_add-self c =
@@ -30,7 +30,7 @@ loop-i-preserved c =
           let ws = c.of_view-shares.ensures in
           rw (← add_assoc c.args.self.now.turns c.loop-i.i 1)
           (going-more _ _ _ _ _ _ _ _ _ _ u i.low _ ws c.turn-q.result _ _ _ _
-          (c.turn-q.ensures.by_rule _ (going-turning _ _ _ _ _ _ _ _ _ _ u i.low _ ws)));
+          ((rw c.of-first.ensures at c.turn-q.ensures.by_rule) _ (going-turning _ _ _ _ _ _ _ _ _ _ u i.low _ ws)));
     }
 
 pub returns-clause-gone : goal.returns-clause-gone
