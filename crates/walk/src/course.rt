@@ -3,6 +3,7 @@
 ghost use Rattle.std.specs.Prelude.{◌+◌, ◌*◌, ◌<◌, ◌≤◌};
 
 use crate::Tally;
+use bits::{Joined, PageMap};
 use rules::View;
 
 // What a walk goes by: the key of its first page, how many pages are in reach, how many missing ones end it, what the number grows by at each page and at each
@@ -26,26 +27,6 @@ struct Walk {
     tested: usize,
     missing: usize,
     number: u32,
-}
-
-// The two maps of what q takes for cached, which are put together word by word.
-#[derive(Clone, Copy)]
-pub struct Maps<'a> {
-    pub cached: &'a [u64; 128],
-    pub fetching: &'a [u64; 128],
-}
-
-impl<'a> Maps<'a> {
-    ghost use Rattle.std.specs.Prelude.{◌≡◌, ◌<◌, get_or};
-    ghost use Rattle.bits.specs.Map.{joined};
-
-    // The two words at one place, put together.
-    fn word(self, i: usize) -> u64
-        requires { i < 128 }
-        ensures { result ≡ get_or (joined self.entry.cached.now self.entry.fetching.now) i 0 }
-    {
-        self.cached[i] | self.fetching[i]
-    }
 }
 
 impl Course {
@@ -118,12 +99,12 @@ impl Course {
         p
     }
 
-    // Walks word by word, over as many pages as are in reach. The two words at one place of the maps are read once for their pages: the count of the words is
-    // raised here alone.
-    pub fn walk_words(self, maps: Maps, table: &mut [u32; 8192]) -> Tally
+    // Walks word by word, over as many pages as are in reach. What q takes for cached is in one of the two maps: they are put together, and the two words at
+    // one place are read once for their pages. The count of the words is raised here alone.
+    pub fn walk_words(self, maps: Joined, table: &mut [u32; 8192]) -> Tally
         ensures few { result.tested ≤ self.reach }
         ensures words { result.words ≡ spanned self.from result.tested }
-        ensures walked { (s : State) (j : ℕ) → CourseOf s j self → Presents s maps.entry.cached.now maps.entry.fetching.now
+        ensures walked { (s : State) (j : ℕ) → CourseOf s j self → Presents s maps.entry.0.now maps.entry.1.now
             → Walked s j table.old table.new result.tested }
     {
         let mut at = Walk {

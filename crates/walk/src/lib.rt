@@ -13,7 +13,8 @@ ghost use Rattle.walk.specs.Tables.{Keyed, InLookAhead};
 
 mod course;
 
-use course::{Course, Maps};
+use bits::Joined;
+use course::Course;
 use rules::View;
 
 // What the walks count: the pages tested, and the words of the maps that were read: two at one place count as one.
@@ -41,7 +42,7 @@ pub fn use_keys<'a>(
     ensures keyed { Keyed (state_of v cached.now fetching.now) ahead.new table.new }
     ensures seen { InLookAhead (state_of v cached.now fetching.now) seen.new }
 {
-    let maps = Maps { cached, fetching };
+    let maps = Joined(cached, fetching);
     let mut tally = Tally::default();
     for slot in 0..16 {
         let r = v.readers[slot];

@@ -12,7 +12,7 @@ invariant-loop-at l = record {
   on_course : OnCourse l.self l.at;
   words_are : l.words ≡ spanned l.self.from l.at.tested;
   fresh : l.at.tested < l.self.reach → l.at.missing < l.self.most → Fresh l.self.from l.at.tested;
-  along : (s : State) (j : ℕ) → CourseOf s j l.self → Presents s l.maps.cached.now l.maps.fetching.now → Along s j l.initial.table l.table l.at;
+  along : (s : State) (j : ℕ) → CourseOf s j l.self → Presents s l.maps.0.now l.maps.1.now → Along s j l.initial.table l.table l.at;
 }
 
 abbrev pub decreases-loop-at : goal.decreases-loop-at
