@@ -273,7 +273,7 @@ pub fn next_key(r: Reader) -> usize
 
 // ---- views
 
-// The view of a state without readers, pages or fetches. Its maps are the caller's.
+// The view of a state without readers, pages or fetches.
 pub fn fresh(
     frames: u16,
     look_ahead: u32,

@@ -32,13 +32,16 @@ lettered a n = letter a * 65536 + n
 -- "The number returned is the refusal's, or the answer letter's ..; for Run 4,294,967,296 + fetches × 65,536 + reads"
 unfoldable pub code : Answer → ℕ
 code (Refused why) = refusal_number why
+code Done = lettered Done 0
 code (Hit file page) = lettered (Hit file page) (key_of file page + 1)
 code (Wait file page) = lettered (Wait file page) (key_of file page + 1)
 code (Fetch file page) = lettered (Fetch file page) (key_of file page + 1)
+code End = lettered End 0
+code Nothing = lettered Nothing 0
 code (Stolen file page) = lettered (Stolen file page) (key_of file page + 1)
+code Arrived = lettered Arrived 0
 code (Replaced file page) = lettered (Replaced file page) (key_of file page + 1)
 code (Ran fetches reads) = 4294967296 + fetches * 65536 + reads
-code other = lettered other 0
 
 -- the call was carried out: it was not refused
 abbrev pub carried_out : Answer → Bool

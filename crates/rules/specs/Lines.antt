@@ -39,7 +39,7 @@ use Rattle.rules.specs.declared.Refusal.TheVariants.{NoFile, NoRequest}
 use Rattle.rules.specs.declared.State.{State}
 use Rattle.rules.specs.declared.Reply.{Reply}
 use Rattle.rules.specs.declared.Answer.{Answer}
-use Rattle.rules.specs.declared.Answer.TheVariants.{Refused, Hit, Wait, Fetch, Stolen, Replaced, Ran}
+use Rattle.rules.specs.declared.Answer.TheVariants.{Refused, Done, Hit, Wait, Fetch, End, Nothing, Stolen, Arrived, Replaced, Ran}
 
 -- ---- a line that is read
 
@@ -98,13 +98,16 @@ line_of first numbers = first ∷ each field_of numbers
 -- what stands behind the letter: "E,number"; "H, W or F with file,page"; ".. S,file,page; I alone or with file,page; N,fetches,reads"
 abbrev pub numbers_of : Answer → List ℕ
 numbers_of (Refused why) = refusal_number why ∷ []
+numbers_of Done = []
 numbers_of (Hit file page) = file ∷ page ∷ []
 numbers_of (Wait file page) = file ∷ page ∷ []
 numbers_of (Fetch file page) = file ∷ page ∷ []
+numbers_of End = []
+numbers_of Nothing = []
 numbers_of (Stolen file page) = file ∷ page ∷ []
+numbers_of Arrived = []
 numbers_of (Replaced file page) = file ∷ page ∷ []
 numbers_of (Ran fetches reads) = fetches ∷ reads ∷ []
-numbers_of other = []
 
 abbrev pub answer_line : Answer → List ℕ
 answer_line a = line_of (letter a) (numbers_of a)

@@ -43,9 +43,9 @@ refusal_number NotInFetch = 9
 refusal_number FetchOpen = 10
 -- "above 16,384"
 refusal_number TooManyTurns = 11
--- "list too short", "buffer shorter"
+-- "list too short", "buffer shorter"; A.4: "More than 1,024 rows, or a short answer list"
 refusal_number NoRoom = 12
--- what Restore refuses
+-- what Restore refuses, and a C buffer that is not as long as an image
 refusal_number NoImage = 13
 -- "any other line"
 refusal_number NoRequest = 14

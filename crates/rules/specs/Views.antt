@@ -2,8 +2,6 @@
 use Rattle.std.specs.Prelude.{ℕ, List, replicate}
 use Rattle.rules.specs.declared.State.{State}
 use Rattle.rules.specs.declared.View.{View}
-use Rattle.rules.specs.declared.Reply.{Reply}
-use Rattle.rules.specs.declared.Outcome.{Outcome}
 
 -- the state of a view with these maps
 abbrev pub state_of : View → List ℕ → List ℕ → State
@@ -40,7 +38,3 @@ view_of s = record {
 -- a map without pages
 abbrev pub no_pages : List ℕ
 no_pages = replicate 128 0
-
--- the reply that an outcome is, with the maps as the call leaves them
-abbrev pub reply_of : Outcome → List ℕ → List ℕ → Reply
-reply_of r cached fetching = record { state = state_of r.view cached fetching; answer = r.answer }

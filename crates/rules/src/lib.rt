@@ -1,5 +1,5 @@
 // The types of the box, and the numbers that stand for them outside. What each call does with them is in specs/, rule by rule: on a whole State. The code has
-// the maps lent, and the rest as a View.
+// a view and the maps, in a box of crate `state`.
 
 #![tactic(auto)]
 
@@ -262,12 +262,5 @@ pub struct Forecast {
 #[derive(Drop)]
 pub struct Reply {
     pub state: State,
-    pub answer: Answer,
-}
-
-// What a call returns where its state's maps are lent.
-#[derive(Drop)]
-pub struct Outcome {
-    pub view: View,
     pub answer: Answer,
 }

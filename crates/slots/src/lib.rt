@@ -2,7 +2,7 @@
 
 #![tactic(auto)]
 
-ghost use Rattle.std.specs.Prelude.{◌≡◌, ◌≤◌, List, ℕ};
+ghost use Rattle.std.specs.Prelude.{◌≡◌, ◌≤◌, ◌<◌, List, ℕ, set};
 ghost use Rattle.rules.specs.Views.{state_of};
 ghost use Rattle.rules.specs.Calls.{reply, attach_of, read_of, detach_of, no_interval, measured_pace, measure_of};
 ghost use Rattle.slots.specs.Berths.{berth_of, reader_slot};
@@ -10,6 +10,15 @@ ghost use Rattle.slots.specs.Others.{OthersStay};
 
 use rules::{Answer, Condition, Reader, Refusal, View};
 use state::Quay;
+
+// One record changed, and the fifteen others as they are.
+fn with_reader(mut readers: [Reader; 16], slot: usize, r: Reader) -> [Reader; 16]
+    requires { slot < 16 }
+    ensures { result ≡ set readers slot r }
+{
+    readers[slot] = r;
+    readers
+}
 
 // ---- Attach
 
@@ -55,7 +64,7 @@ pub fn attach_in(v: &mut View, slot: u64, file: u64, pace: u64, start: u64, last
     match berth_of(v.sizes, slot, file, pace, start, last) {
         Ok(Berth { slot, file, reader }) => match v.readers[slot].condition {
             Condition::Empty => {
-                v.readers[slot] = reader;
+                v.readers = with_reader(v.readers, slot, reader);
                 v.marks[slot] = reader.position;
                 v.attaches[file] = v.attaches[file].saturating_add(1);
                 Answer::Done
@@ -83,7 +92,7 @@ pub fn read(q: &mut Quay, slot: u64) -> Answer
     match parts::slot_in(slot) {
         Ok(i) => {
             let step = calls::read_slot(&q.cached, &mut q.fetching, q.view.readers[i]);
-            q.view.readers[i] = step.reader;
+            q.view.readers = with_reader(q.view.readers, i, step.reader);
             step.answer
         }
         Err(why) => Answer::Refused(why),
@@ -110,7 +119,7 @@ pub fn detach_in(v: &mut View, slot: u64) -> Answer
 {
     match reader_slot(&v.readers, slot) {
         Ok(i) => {
-            v.readers[i] = parts::no_reader();
+            v.readers = with_reader(v.readers, i, parts::no_reader());
             v.marks[i] = 0;
             Answer::Done
         }
@@ -155,7 +164,7 @@ pub fn measure_in(v: &mut View, slot: u64, interval: u64, blocked: u64) -> Answe
         Ok(i) => {
             let old = v.readers[i];
             let pace = measured_pace(old, v.marks[i], interval, blocked);
-            v.readers[i] = parts::paced(old, pace);
+            v.readers = with_reader(v.readers, i, parts::paced(old, pace));
             v.marks[i] = old.position;
             Answer::Done
         }

@@ -1,5 +1,5 @@
 // The box as the code has it: a state of the rules, and the counts of its files' cached pages. Every `Quay` is a valid state with the counts that are its
-// own: whoever makes or changes one proves it, and no contract repeats it.
+// own: whoever makes or changes one proves it, and no contract of a call repeats it.
 
 #![tactic(auto)]
 
