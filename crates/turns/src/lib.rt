@@ -193,11 +193,9 @@ impl Run {
         let done = self.turns;
         let mut slot = v.turn;
         for i in 0..turns {
-            let terms = Terms {
-                turn: slot,
-                done: done + i,
-                ..first
-            };
+            let mut terms = first;
+            terms.turn = slot;
+            terms.done = done + i;
             let q = turn(
                 &v,
                 terms,
