@@ -112,7 +112,7 @@ impl Heads {
             → (result ≡ victim_among (in_set files) (seen sight.now v))
             × Kept (seen sight.now v) sight.now.terms.done self.new }
     {
-        let mut best = Pick { key: 0, value: 0 };
+        let mut best = Pick::NONE;
         for file in files.first()..files.end() {
             if files.has(file) {
                 let head = self.head(sight, file);

@@ -27,11 +27,12 @@ use Rattle.rules.specs.declared.When.{When}
 use Rattle.rules.specs.declared.When.TheVariants.{At, Behind, NotSeen}
 use Rattle.rules.specs.declared.Forecast.{Forecast}
 
--- an answer as numbers: a time behind 200 and before its slot; 100, behind; 101, not seen; a refusal's own
+-- an answer as numbers: a time behind 200 and before its slot; 100, behind; 101, not seen; a refusal's own; 0 where no question is answered
 abbrev numbers : Result When Refusal → List ℕ
 numbers (Ok (At time slot)) = 200 ∷ time ∷ slot ∷ []
 numbers (Ok Behind) = 100 ∷ []
 numbers (Ok NotSeen) = 101 ∷ []
+numbers (Err NoRequest) = 0 ∷ []
 numbers (Err why) = refusal_number why ∷ []
 
 unfoldable pub all : List Forecast → List ℕ
@@ -45,7 +46,7 @@ told w = refused_in w.answer ∷ count_in w.answer ∷ all w.list
 abbrev question : ℕ → ℕ → Question
 question file page = record { file = file; page = page }
 
--- a lent list of n records that no question is answered with, since none gets 14
+-- a lent list of n records that no question is answered with: 14 is no question's
 abbrev blank : ℕ → List Forecast
 blank n = replicate n (record { when = Err NoRequest })
 
@@ -147,11 +148,11 @@ unfoldable pub calls : List Row
 calls =
     -- room for all, and for one more, which keeps
     row (told (questions_of shorter seven (blank 7))) (0 ∷ 1 ∷ their)
-    ∷ row (told (questions_of shorter seven (blank 8))) (0 ∷ 1 ∷ (their ++ 14 ∷ []))
+    ∷ row (told (questions_of shorter seven (blank 8))) (0 ∷ 1 ∷ (their ++ 0 ∷ []))
     -- "a short answer list"
-    ∷ row (told (questions_of shorter seven (blank 6))) (12 ∷ 0 ∷ replicate 6 14)
+    ∷ row (told (questions_of shorter seven (blank 6))) (12 ∷ 0 ∷ replicate 6 0)
     -- no question: the same words
-    ∷ row (told (questions_of shorter [] (blank 1))) (0 ∷ 1 ∷ 14 ∷ [])
+    ∷ row (told (questions_of shorter [] (blank 1))) (0 ∷ 1 ∷ 0 ∷ [])
     ∷ []
 
 pub calls-hold : Hold calls
@@ -168,9 +169,9 @@ edge questions room due =
 unfoldable pub edges : List Row
 edges =
     edge 1024 1024 (0 ∷ 7 ∷ 3 ∷ [])
-    ∷ edge 1025 1025 (12 ∷ 0 ∷ 14 ∷ [])
-    ∷ edge 1025 1024 (12 ∷ 0 ∷ 14 ∷ [])
-    ∷ edge 1024 1023 (12 ∷ 0 ∷ 14 ∷ [])
+    ∷ edge 1025 1025 (12 ∷ 0 ∷ 0 ∷ [])
+    ∷ edge 1025 1024 (12 ∷ 0 ∷ 0 ∷ [])
+    ∷ edge 1024 1023 (12 ∷ 0 ∷ 0 ∷ [])
     ∷ []
 
 pub edges-hold : Hold edges
