@@ -10,7 +10,7 @@ use rules::{Rule, View};
 
 // A set of files: a word with a digit for each file.
 #[derive(Clone, Copy)]
-pub struct FileSet(u64);
+pub struct FileSet(pub u64);
 
 impl FileSet {
     ghost use Rattle.rules.specs.Valid.{Valid};

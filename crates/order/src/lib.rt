@@ -66,7 +66,7 @@ fn highest_of(sight: &Sight, file: usize, kept: Pick) -> Pick
     ensures { (v : View) → Shows sight.now v → Looked (seen sight.now v) file 0 kept result }
 {
     let mut queue = Queue::new();
-    queue.add_readers(sight, file);
+    queue.add_readers(sight.seats, file);
     let mut best = kept;
     let mut n: usize = 1024;
     while !queue.is_empty() && best.value < NEVER + (n * 8 + file) as u64 {

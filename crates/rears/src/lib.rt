@@ -2,10 +2,13 @@
 
 #![tactic(auto)]
 
-ghost use Rattle.std.specs.Prelude.{◌≡◌, Bool, true, ℕ, ◌+◌, ◌<◌, ◌≤◌, slice_index};
+ghost use Rattle.std.specs.Prelude.{◌≡◌, Bool, true, List, ℕ, ◌+◌, ◌<◌, ◌≤◌, slice_index};
+ghost use Rattle.rules.specs.declared.Reader.{Reader};
 ghost use Rattle.rules.specs.declared.View.{View};
 ghost use Rattle.files.specs.Sets.{in_set};
-ghost use Rattle.uses.specs.Shown.{Shows, seen};
+ghost use Rattle.uses.specs.declared.Terms.{Terms};
+ghost use Rattle.uses.specs.Seats.{Seated};
+ghost use Rattle.uses.specs.Sights.{Sighted, state_under};
 ghost use Rattle.rears.specs.Rears.{Least, Back, Free, Rear};
 
 use files::FileSet;
@@ -15,7 +18,7 @@ use uses::{Pick, Sight};
 // The least position of the file's readers that still have the page before them; the page itself where none has.
 fn least_ahead(sight: &Sight, file: usize, page: usize) -> usize
     requires { file < 8 }
-    ensures least { (v : View) → Shows sight.now v → Least v.readers file page 16 result }
+    ensures least { (readers : List Reader) → Seated readers 16 sight.now.seats.now → Least readers file page 16 result }
     ensures low { result ≤ page }
 {
     let seats = sight.seats;
@@ -33,8 +36,8 @@ fn least_ahead(sight: &Sight, file: usize, page: usize) -> usize
 // is cached and ahead of none.
 fn back_from(sight: &Sight, file: usize, page: usize) -> usize
     requires { (file < 8) × (page ≤ 1024) }
-    ensures back { (v : View) → Shows sight.now v
-        → Back v.readers sight.now.cached.now file page result × (result ≡ page → Free v.readers file result) }
+    ensures back { (readers : List Reader) → Seated readers 16 sight.now.seats.now
+        → Back readers sight.now.cached.now file page result × (result ≡ page → Free readers file result) }
     ensures low { result ≤ page }
 {
     bits::last_set(sight.cached, file * 1024, least_ahead(sight, file, page))
@@ -43,8 +46,8 @@ fn back_from(sight: &Sight, file: usize, page: usize) -> usize
 // The last cached page of the file that is ahead of no reader; 0 where there is none.
 fn behind_all(sight: &Sight, file: usize) -> usize
     requires { file < 8 }
-    ensures back { (v : View) → Shows sight.now v
-        → Back v.readers sight.now.cached.now file (slice_index sight.now.sizes.now file) result × Free v.readers file result }
+    ensures back { (readers : List Reader) → Seated readers 16 sight.now.seats.now
+        → Back readers sight.now.cached.now file (slice_index sight.now.sizes.now file) result × Free readers file result }
     ensures low { result ≤ 1024 }
 {
     let mut page = sight.sizes[file] as usize;
@@ -59,8 +62,9 @@ fn behind_all(sight: &Sight, file: usize) -> usize
 // The best page so far, or the file's last one that is ahead of no reader, where that is higher.
 fn further_behind(sight: &Sight, file: usize, best: Pick) -> Pick
     requires { file < 8 }
-    ensures { (v : View) → Shows sight.now v → (files : ℕ → Bool) → files file ≡ true
-        → Rear (seen sight.now v) files file best → Rear (seen sight.now v) files (file + 1) result }
+    ensures { (t : Terms) (v : View) (fetching : List ℕ) → Sighted t sight.now.sizes.now sight.now.seats.now sight.now.cached.now fetching v
+        → (files : ℕ → Bool) → files file ≡ true → Rear (state_under t v sight.now.cached.now fetching) files file best
+        → Rear (state_under t v sight.now.cached.now fetching) files (file + 1) result }
 {
     let page = behind_all(sight, file);
     if page == 0 {
@@ -74,9 +78,11 @@ fn further_behind(sight: &Sight, file: usize, best: Pick) -> Pick
     best
 }
 
-// Of the files of a set the page that goes first of those ahead of no reader: by its page, then by its file.
+// Of the files of a set the page that goes first of those ahead of no reader: by its page, then by its file. The sight's terms and its map of the pages in
+// fetch are not read.
 pub fn furthest_behind(sight: &Sight, files: FileSet) -> Pick
-    ensures { (v : View) → Shows sight.now v → Rear (seen sight.now v) (in_set files) 8 result }
+    ensures { (t : Terms) (v : View) (fetching : List ℕ) → Sighted t sight.now.sizes.now sight.now.seats.now sight.now.cached.now fetching v
+        → Rear (state_under t v sight.now.cached.now fetching) (in_set files) 8 result }
 {
     let mut best = Pick::NONE;
     for file in files.first()..files.end() {

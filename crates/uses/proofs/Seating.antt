@@ -32,13 +32,14 @@ use borrow.Author.Tests.{eq-eqb, ne_eqb}
 use lib.Dec.{eqb}
 use Rattle.rules.specs.Readers.{no_reader, attached, reader_in, reads_file}
 use Rattle.rules.proofs.laws.Below.{one_more}
-use Rattle.rules.proofs.laws.Tests.{and_first, is_true}
+use Rattle.rules.proofs.laws.Tests.{and_first, and_second, is_true}
 use Rattle.rules.proofs.laws.Cases.{passed, failed}
 use Rattle.rules.proofs.calls.Kept.{same_at}
 use Rattle.rules.specs.declared.Reader.{Reader}
 use Rattle.uses.specs.declared.Seats.{Seats}
 use Rattle.uses.specs.declared.SlotSet.{SlotSet}
-use Rattle.uses.specs.Seats.{has_slot, Popped, slots_of, Seated}
+use Rattle.uses.specs.Seats.{has_slot, Popped, slots_of, SeatsFit, Seated}
+use Rattle.uses.specs.Queues.{PositionsFit}
 
 -- ---- the seats, slot by slot
 
@@ -210,6 +211,10 @@ module _ (s slot : ℕ) (old new : SlotSet) (p : Popped old slot new) (none : No
       by (yes e) = rw (eq-eqb j slot e) refl
       by (no e) = rw (ne_eqb j slot e) (p.first j (omega arith))
 
+  -- no other one comes
+  pub popped-rest : (j : ℕ) → T (has_slot new j) → T (has_slot old j)
+  popped-rest j h = and_second (not (eqb j slot)) _ (rw (p.rest j) at h)
+
   module _ (readers : List Reader) (f : ℕ) (a : Left readers f s old) where
     pub popped-left : Left readers f (slot + 1) new
     popped-left j l u = p.rest j ∙ rw (ne_eqb j slot (λ e. omega arith)) (a j (omega (arith, popped-low)) u)
@@ -224,6 +229,14 @@ module _ (s slot : ℕ) (old new : SlotSet) (p : Popped old slot new) (none : No
 pub left-none : (readers : List Reader) (f s : ℕ) (set : SlotSet) → ((j : ℕ) → has_slot set j ≡ false) → Left readers f s set
     → (j : ℕ) → s ≤ j → j < 16 → T (reads_file f (reader_in readers j)) → ⊥
 left-none readers f s set none a j l u h = failed _ (sym (a j l u) ∙ none j) h
+
+-- where no reader of the file stands past page 1,024, neither do the seats have one there
+pub seats-fit : (readers : List Reader) (seats : Seats) (f : ℕ) → f < 8 → Seated readers 16 seats → PositionsFit readers f → SeatsFit seats f
+seats-fit readers seats f l a fit j h = by (dec_lt j 16)
+  where
+    by : Dec (j < 16) → slice_index seats.positions j ≤ 1024
+    by (yes u) = rw (a.position j u) (fit j (rw (a.slots f j l u) at h))
+    by (no u) = absurd (failed _ (a.beyond f j l (omega arith)) h)
 
 -- the seats have the record of a slot with a reader of the file
 module _ (readers : List Reader) (seats : Seats) (a : Seated readers 16 seats) (f j : ℕ) (u : j < 16) (reads : T (reads_file f (reader_in readers j))) where

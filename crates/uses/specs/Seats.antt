@@ -22,6 +22,10 @@ pub record Popped (old : SlotSet) (slot : ℕ) (new : SlotSet) : Type 0 where
 abbrev pub slots_of : Seats → ℕ → SlotSet
 slots_of seats f = get_or seats.slots f (record { 0 = 0 })
 
+-- no slot with a reader of file f has a position past page 1,024
+abbrev pub SeatsFit : Seats → ℕ → Type 0
+SeatsFit seats f = (j : ℕ) → T (has_slot (slots_of seats f) j) → slice_index seats.positions j ≤ 1024
+
 -- the seats are those of the first n slots
 pub record Seated (readers : List Reader) (n : ℕ) (seats : Seats) : Type 0 where
   pub sixteen : length seats.positions ≡ 16

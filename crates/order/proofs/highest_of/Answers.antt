@@ -66,7 +66,7 @@ pub loop-queue-init : goal.loop-queue-init
 loop-queue-init c = (
   omega arith,
   λ v h. (
-    has-all v.readers c.args.file 1024 _ (c.add_readers.ensures v h),
+    has-all v.readers c.args.file 1024 _ (c.add_readers.ensures v.readers h.seated),
     λ files o free r. raised-start (seen c.args.sight.now v) files c.args.file _ r,
   ),
 )

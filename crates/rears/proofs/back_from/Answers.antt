@@ -9,11 +9,11 @@ returns c =
     let a = c.args in
     let map = a.sight.now.cached.now in
     let n = c.least_ahead.result in record {
-      back = λ v h.
-          let l = c.least_ahead.ensures.least v h in
+      back = λ readers h.
+          let l = c.least_ahead.ensures.least readers h in
           rw c.last_set.ensures (
-            back_is v.readers map a.file a.page n c.requires.1 l,
-            back-free v.readers map a.file a.page n c.requires.1 l,
+            back_is readers map a.file a.page n c.requires.1 l,
+            back-free readers map a.file a.page n c.requires.1 l,
           );
       low = omega (arith, c.last_set.ensures, (last-is map (a.file * 1024) n).high, c.least_ahead.ensures.low);
     }

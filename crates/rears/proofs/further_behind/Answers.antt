@@ -4,22 +4,25 @@ use Rattle.rears.proofs.Rearing.{rear-clear, rear-keep, rear-take}
 use Rattle.rears.proofs.further_behind.Goals as goal
 
 pub returns-then-page-eq0 : goal.returns-then-page-eq0
-returns-then-page-eq0 c = λ v h files o p.
+returns-then-page-eq0 c = λ t v fetching h files o p.
     let a = c.args in
     let b = c.behind_all-page.ensures in
-    rear-clear _ h.valid files a.file a.best p _ _ c.requires b.low (ap (λ sizes. slice_index sizes a.file) h.sizes_are) (b.back v h).0 (b.back v h).1
+    let r = b.back v.readers h.seated in
+    rear-clear _ h.valid files a.file a.best p _ _ c.requires b.low (ap (λ sizes. slice_index sizes a.file) h.sizes_are) r.0 r.1
     c.if-page-eq0.true
 
 pub returns-then-best-value : goal.returns-then-best-value
-returns-then-best-value c = λ v h files o p.
+returns-then-best-value c = λ t v fetching h files o p.
     let a = c.args in
     let b = c.behind_all-page.ensures in
-    rear-take _ h.valid files a.file a.best p _ _ c.requires b.low (ap (λ sizes. slice_index sizes a.file) h.sizes_are) (b.back v h).0 (b.back v h).1 o
+    let r = b.back v.readers h.seated in
+    rear-take _ h.valid files a.file a.best p _ _ c.requires b.low (ap (λ sizes. slice_index sizes a.file) h.sizes_are) r.0 r.1 o
     c.if-page-eq0.false c.if-best-value.true
 
 pub returns : goal.returns
-returns c = λ v h files o p.
+returns c = λ t v fetching h files o p.
     let a = c.args in
     let b = c.behind_all-page.ensures in
-    rear-keep _ h.valid files a.file a.best p _ _ c.requires b.low (ap (λ sizes. slice_index sizes a.file) h.sizes_are) (b.back v h).0 (b.back v h).1
+    let r = b.back v.readers h.seated in
+    rear-keep _ h.valid files a.file a.best p _ _ c.requires b.low (ap (λ sizes. slice_index sizes a.file) h.sizes_are) r.0 r.1
     c.if-best-value.false

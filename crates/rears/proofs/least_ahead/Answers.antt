@@ -1,9 +1,9 @@
 -- Invariant: the least position of the slots passed, the first s, that have a reader of the file with the page before it; the others are left. Measure:
 -- those left.
-use Rattle.std.proofs.Common.{◌≡◌, ℕ, ◌+◌, ◌≤◌, ◌<◌, T, arith, slice_index}
+use Rattle.std.proofs.Common.{◌≡◌, List, ℕ, ◌+◌, ◌≤◌, ◌<◌, T, arith, slice_index}
 use Rattle.rules.specs.Readers.{reader_in, reads_file}
-use Rattle.rules.specs.declared.View.{View}
-use Rattle.uses.specs.Shown.{Shows}
+use Rattle.rules.specs.declared.Reader.{Reader}
+use Rattle.uses.specs.Seats.{Seated}
 use Rattle.uses.proofs.Seating.{Left, NoneBefore, popped-low, popped-none, popped-left, popped-reads, popped-between, left-none, reach-is}
 use Rattle.rears.proofs.Rearing.{least-none, least-past, least-nearer, least-all}
 use Rattle.rears.proofs.least_ahead.Goals.{In-Some}
@@ -15,7 +15,7 @@ loop-slot-init c = (
   λ j l. absurd (omega arith),
   omega arith,
   omega arith,
-  λ v h. (λ j l u. h.seated.slots c.args.file j c.requires u, least-none v.readers c.args.file c.args.page),
+  λ readers h. (λ j l u. h.slots c.args.file j c.requires u, least-none readers c.args.file c.args.page),
 )
 
 -- the slot taken out: what stands before it, and what is left
@@ -25,27 +25,27 @@ low c = popped-low c.loop-slot.invariant.0 c.in-Some.slot _ _ c.in-Some.ensures 
 none-before : (c : In-Some) → NoneBefore (c.in-Some.slot + 1) c.pop.new.self
 none-before c = popped-none c.loop-slot.invariant.0 c.in-Some.slot _ _ c.in-Some.ensures c.loop-slot.invariant.1
 
-module _ (c : In-Some) (v : View) (h : Shows c.args.sight.now v) where
+module _ (c : In-Some) (readers : List Reader) (h : Seated readers 16 c.args.sight.now.seats.now) where
   abbrev s : ℕ
   s = c.loop-slot.invariant.0
 
   abbrev slot : ℕ
   slot = c.in-Some.slot
 
-  here : Left v.readers c.args.file s c.loop-slot.left
-  here = (c.loop-slot.invariant.4 v h).0
+  here : Left readers c.args.file s c.loop-slot.left
+  here = (c.loop-slot.invariant.4 readers h).0
 
-  left : Left v.readers c.args.file (slot + 1) c.pop.new.self
-  left = popped-left s slot _ _ c.in-Some.ensures c.loop-slot.invariant.1 v.readers c.args.file here
+  left : Left readers c.args.file (slot + 1) c.pop.new.self
+  left = popped-left s slot _ _ c.in-Some.ensures c.loop-slot.invariant.1 readers c.args.file here
 
-  reads : T (reads_file c.args.file (reader_in v.readers slot))
-  reads = popped-reads s slot _ _ c.in-Some.ensures c.loop-slot.invariant.1 v.readers c.args.file here
+  reads : T (reads_file c.args.file (reader_in readers slot))
+  reads = popped-reads s slot _ _ c.in-Some.ensures c.loop-slot.invariant.1 readers c.args.file here
 
-  between : (j : ℕ) → s ≤ j → j < slot → T (reads_file c.args.file (reader_in v.readers j)) → ⊥
-  between = popped-between s slot _ _ c.in-Some.ensures c.loop-slot.invariant.1 v.readers c.args.file here
+  between : (j : ℕ) → s ≤ j → j < slot → T (reads_file c.args.file (reader_in readers j)) → ⊥
+  between = popped-between s slot _ _ c.in-Some.ensures c.loop-slot.invariant.1 readers c.args.file here
 
-  last : slice_index c.args.sight.now.seats.now.lasts slot ≡ (reader_in v.readers slot).last
-  last = reach-is v.readers c.args.sight.now.seats.now h.seated c.args.file slot c.in-Some.ensures.low reads
+  last : slice_index c.args.sight.now.seats.now.lasts slot ≡ (reader_in readers slot).last
+  last = reach-is readers c.args.sight.now.seats.now h c.args.file slot c.in-Some.ensures.low reads
 
 pub loop-slot-preserved-then-page-seats : goal.loop-slot-preserved-then-page-seats
 loop-slot-preserved-then-page-seats c =
@@ -56,11 +56,12 @@ loop-slot-preserved-then-page-seats c =
       none-before t,
       omega (arith, p.low),
       omega (arith, i.3, c.min-least.ensures),
-      λ v h. (
-        left t v h,
-        rw (c.min-least.ensures, h.seated.position c.in-Some.slot p.low)
-            (least-nearer v.readers c.args.file c.args.page i.0 c.in-Some.slot c.loop-slot.least (low t) p.low (reads t v h) (between t v h) (i.4 v h).1
-            (omega (arith, last t v h, c.if-page-seats.true))),
+      λ readers h. (
+        left t readers h,
+        rw (c.min-least.ensures, h.position c.in-Some.slot p.low)
+            (least-nearer readers c.args.file c.args.page i.0 c.in-Some.slot c.loop-slot.least (low t) p.low (reads t readers h) (between t readers h)
+            (i.4 readers h).1
+            (omega (arith, last t readers h, c.if-page-seats.true))),
       ),
     )
 
@@ -73,10 +74,11 @@ loop-slot-preserved c =
       none-before t,
       omega (arith, p.low),
       i.3,
-      λ v h. (
-        left t v h,
-        least-past v.readers c.args.file c.args.page i.0 c.in-Some.slot c.loop-slot.least (low t) p.low (reads t v h) (between t v h) (i.4 v h).1
-            (omega (arith, last t v h, c.if-page-seats.false)),
+      λ readers h. (
+        left t readers h,
+        least-past readers c.args.file c.args.page i.0 c.in-Some.slot c.loop-slot.least (low t) p.low (reads t readers h) (between t readers h)
+            (i.4 readers h).1
+            (omega (arith, last t readers h, c.if-page-seats.false)),
       ),
     )
 
@@ -84,8 +86,8 @@ pub returns : goal.returns
 returns c =
     let l = c.loop-slot in
     let i = l.invariant in record {
-      least = λ v h.
-          let r = i.4 v h in
-          least-all v.readers c.args.file c.args.page i.0 l.least i.2 (left-none v.readers c.args.file i.0 l.left c.in_default.ensures r.0) r.1;
+      least = λ readers h.
+          let r = i.4 readers h in
+          least-all readers c.args.file c.args.page i.0 l.least i.2 (left-none readers c.args.file i.0 l.left c.in_default.ensures r.0) r.1;
       low = i.3;
     }

@@ -1,8 +1,8 @@
 -- Invariant: the least position of the slots passed, the first s, that have a reader of the file with the page before it; the others are left. Measure:
 -- those left.
-use Rattle.std.proofs.Common.{ℕ, ◌≤◌}
-use Rattle.rules.specs.declared.View.{View}
-use Rattle.uses.specs.Shown.{Shows}
+use Rattle.std.proofs.Common.{List, ℕ, ◌≤◌}
+use Rattle.rules.specs.declared.Reader.{Reader}
+use Rattle.uses.specs.Seats.{Seated}
 use Rattle.uses.proofs.Seating.{Left, NoneBefore}
 use Rattle.rears.specs.Rears.{Least}
 use Rattle.rears.proofs.least_ahead.Given as goal
@@ -13,7 +13,7 @@ invariant-loop-slot l =
     × NoneBefore s l.left
     × (s ≤ 16)
     × (l.least ≤ l.page)
-    × ((v : View) → Shows l.sight v → Left v.readers l.file s l.left × Least v.readers l.file l.page s l.least)
+    × ((readers : List Reader) → Seated readers 16 l.sight.seats.now → Left readers l.file s l.left × Least readers l.file l.page s l.least)
 
 abbrev pub decreases-loop-slot : goal.decreases-loop-slot
 decreases-loop-slot l = l.left.0
