@@ -23,11 +23,11 @@ use Rattle.hits.proofs.Passes.{MovedBy, hits-made}
 use Rattle.turns.specs.declared.Run.{Run}
 use Rattle.turns.specs.Places.{reseated, Following}
 use Rattle.turns.specs.Tallies.{so_far}
-use Rattle.turns.specs.Runs.{Underway}
+use Rattle.turns.specs.Runs.{Few, Underway}
 use Rattle.turns.proofs.Rounds.{turns-none, turns_then, turns-few}
 
 -- no more fetches and reads than turns
-pub underway-few : (s : State) (r : Run) (cached fetching : List ℕ) → Underway s r cached fetching → (r.fetches ≤ r.turns) × (r.reads ≤ r.turns)
+pub underway-few : (s : State) (r : Run) (cached fetching : List ℕ) → Underway s r cached fetching → Few r
 underway-few s r cached fetching u =
     let few = turns-few r.turns s in
     (subst (λ (ts : Turns). ts.fetches ≤ r.turns) (sym u.told) few.0, subst (λ (ts : Turns). ts.reads ≤ r.turns) (sym u.told) few.1)
@@ -38,10 +38,7 @@ pub underway-none : (v : View) (seats : Seats) (heads : Heads) (cached fetching 
     → Underway (state_of v cached fetching) (record { view = v; seats = seats; heads = heads; turns = 0; fetches = 0; reads = 0 }) cached fetching
 underway-none v seats heads cached fetching valid quiet seated none = record {
   told = turns-none _;
-  valid = valid;
-  quiet = quiet;
-  seated = seated;
-  kept = kept-none _ _ heads none;
+  ready = record { valid = valid; quiet = quiet; seated = seated; kept = kept-none _ _ heads none };
 }
 
 -- some turns, and others after them
@@ -54,10 +51,7 @@ pub leg-then : (s : State) (a b : Run) (cached fetching cached' fetching' : List
     → Underway s (and_then a b) cached' fetching'
 leg-then s a b cached fetching cached' fetching' u h kept = record {
   told = turns_then s _ _ a.fetches a.reads b.fetches b.reads a.turns b.turns u.told h.told;
-  valid = h.valid;
-  quiet = h.quiet;
-  seated = h.seated;
-  kept = kept;
+  ready = record { valid = h.ready.valid; quiet = h.ready.quiet; seated = h.ready.seated; kept = kept };
 }
 
 module _ (s : State) (r : Run) (cached fetching : List ℕ) (u : Underway s r cached fetching) (n : ℕ) (clear : Clear r.view cached 16 n) where
@@ -70,7 +64,7 @@ module _ (s : State) (r : Run) (cached fetching : List ℕ) (u : Underway s r ca
     told : so_far (state_of w cached fetching) 0 reads ≡ turns_of n (state_of r.view cached fetching)
     told =
         ap₂ (λ (x : View) m. so_far (state_of x cached fetching) 0 m) (f.same ∙ ap (λ t. reseated r.view t w.readers) el) e
-        ∙ hits-made n (state_of r.view cached fetching) u.valid u.quiet clear w.readers moved
+        ∙ hits-made n (state_of r.view cached fetching) u.ready.valid u.ready.quiet clear w.readers moved
 
     alike : (j : ℕ) → j < 16 → Alike (reader_in w.readers j) (reader_in r.view.readers j)
     alike j h =
@@ -81,7 +75,7 @@ module _ (s : State) (r : Run) (cached fetching : List ℕ) (u : Underway s r ca
     seats = record r.seats { positions = positions }
 
     seated : Seated w.readers 16 seats
-    seated = seated-alike r.view.readers w.readers r.seats positions u.seated alike a.long (λ j h. sym (ap (λ q. q.position) (f.moved j h)))
+    seated = seated-alike r.view.readers w.readers r.seats positions u.ready.seated alike a.long (λ j h. sym (ap (λ q. q.position) (f.moved j h)))
 
     -- these turns alone are a leg
     abbrev alone : Heads → Run
@@ -90,10 +84,12 @@ module _ (s : State) (r : Run) (cached fetching : List ℕ) (u : Underway s r ca
     passed-alone : (heads : Heads) → NoneKnown heads → Underway (state_of r.view cached fetching) (alone heads) cached fetching
     passed-alone heads none = record {
       told = told;
-      valid = subst (λ (ts : Turns). Valid ts.after) (sym told) (turns-kept n (state_of r.view cached fetching) u.valid);
-      quiet = u.quiet;
-      seated = seated;
-      kept = kept-none _ _ heads none;
+      ready = record {
+        valid = subst (λ (ts : Turns). Valid ts.after) (sym told) (turns-kept n (state_of r.view cached fetching) u.ready.valid);
+        quiet = u.ready.quiet;
+        seated = seated;
+        kept = kept-none _ _ heads none;
+      };
     }
 
     -- they are made as the rule has them
