@@ -23,7 +23,7 @@ use Rattle.hits.proofs.Passes.{MovedBy, hits-made}
 use Rattle.turns.specs.declared.Run.{Run}
 use Rattle.turns.specs.Places.{reseated, Following}
 use Rattle.turns.specs.Tallies.{so_far}
-use Rattle.turns.specs.Runs.{Few, Underway}
+use Rattle.turns.specs.Runs.{Ready, Few, Underway}
 use Rattle.turns.proofs.Rounds.{turns-none, turns_then, turns-few}
 
 -- no more fetches and reads than turns
@@ -54,7 +54,7 @@ leg-then s a b cached fetching cached' fetching' u h kept = record {
   ready = record { valid = h.ready.valid; quiet = h.ready.quiet; seated = h.ready.seated; kept = kept };
 }
 
-module _ (s : State) (r : Run) (cached fetching : List ℕ) (u : Underway s r cached fetching) (n : ℕ) (clear : Clear r.view cached 16 n) where
+module _ (r : Run) (cached fetching : List ℕ) (u : Ready r cached fetching) (n : ℕ) (clear : Clear r.view cached 16 n) where
   -- the view after them is that of these positions
   module _ (w : View) (reads slot : ℕ) (positions : List ℕ) (a : Advanced r.view n 16 positions) (e : reads ≡ total 16 (reads_of r.view n))
       (el : slot ≡ (r.view.turn + n) % 16) (f : Following r.view slot positions w) where
@@ -64,7 +64,7 @@ module _ (s : State) (r : Run) (cached fetching : List ℕ) (u : Underway s r ca
     told : so_far (state_of w cached fetching) 0 reads ≡ turns_of n (state_of r.view cached fetching)
     told =
         ap₂ (λ (x : View) m. so_far (state_of x cached fetching) 0 m) (f.same ∙ ap (λ t. reseated r.view t w.readers) el) e
-        ∙ hits-made n (state_of r.view cached fetching) u.ready.valid u.ready.quiet clear w.readers moved
+        ∙ hits-made n (state_of r.view cached fetching) u.valid u.quiet clear w.readers moved
 
     alike : (j : ℕ) → j < 16 → Alike (reader_in w.readers j) (reader_in r.view.readers j)
     alike j h =
@@ -75,7 +75,7 @@ module _ (s : State) (r : Run) (cached fetching : List ℕ) (u : Underway s r ca
     seats = record r.seats { positions = positions }
 
     seated : Seated w.readers 16 seats
-    seated = seated-alike r.view.readers w.readers r.seats positions u.ready.seated alike a.long (λ j h. sym (ap (λ q. q.position) (f.moved j h)))
+    seated = seated-alike r.view.readers w.readers r.seats positions u.seated alike a.long (λ j h. sym (ap (λ q. q.position) (f.moved j h)))
 
     -- these turns alone are a leg
     abbrev alone : Heads → Run
@@ -85,19 +85,32 @@ module _ (s : State) (r : Run) (cached fetching : List ℕ) (u : Underway s r ca
     passed-alone heads none = record {
       told = told;
       ready = record {
-        valid = subst (λ (ts : Turns). Valid ts.after) (sym told) (turns-kept n (state_of r.view cached fetching) u.ready.valid);
-        quiet = u.ready.quiet;
+        valid = subst (λ (ts : Turns). Valid ts.after) (sym told) (turns-kept n (state_of r.view cached fetching) u.valid);
+        quiet = u.quiet;
         seated = seated;
         kept = kept-none _ _ heads none;
       };
     }
 
+    -- after the Run's turns
+    abbrev both : Heads → Run
+    both heads = record { view = w; seats = seats; heads = heads; turns = r.turns + n; fetches = r.fetches; reads = r.reads + reads }
+
+    pub passed-ready : (heads : Heads) → NoneKnown heads → Ready (both heads) cached fetching
+    passed-ready heads none =
+        let a = (passed-alone heads none).ready in
+        record { valid = a.valid; quiet = a.quiet; seated = a.seated; kept = kept-none _ _ heads none }
+
+    pub passed-counts : Few r → (heads : Heads) → NoneKnown heads → Few (both heads)
+    passed-counts few heads none =
+        let more = underway-few _ _ _ _ (passed-alone heads none) in
+        (omega (arith, few.0), omega (arith, few.1, more.1))
+
     -- they are made as the rule has them
-    pub passed : (heads : Heads) → NoneKnown heads
-        → Underway s (record { view = w; seats = seats; heads = heads; turns = r.turns + n; fetches = r.fetches; reads = r.reads + reads }) cached fetching
-    passed heads none =
+    pub passed : (s : State) → Underway s r cached fetching → (heads : Heads) → NoneKnown heads → Underway s (both heads) cached fetching
+    passed s g heads none =
         subst (λ m. Underway s (record (and_then r (alone heads)) { fetches = m }) cached fetching) (omega arith)
-        (leg-then s r (alone heads) cached fetching cached fetching u (passed-alone heads none) (kept-none _ _ heads none))
+        (leg-then s r (alone heads) cached fetching cached fetching g (passed-alone heads none) (kept-none _ _ heads none))
 
 -- so many turns read so many pages at most
 pub passed-few : (v : View) (n : ℕ) → n ≤ 16384 → total 16 (reads_of v n) ≤ 16384
