@@ -3,12 +3,12 @@ use Prim.Native.Nat.{ℕ, zero, suc, ◌+◌, ◌≤◌, ◌<◌}
 use mathlib.Core.Path.{◌≡◌, refl, sym, ap, ap₂, subst, ◌∙◌}
 use mathlib.Core.Bool.{Bool, true, false, not, cond}
 use mathlib.Core.List.{List, []}
-use Rattle.std.specs.declared.option.Option.{Option}
 use native.Mathlib.Omega.{arith}
 use native.Mathlib.Nat.{zero-add, suc-add, add_assoc, add-zero}
 use lib.ListN.{get_or, set, length}
 use lib.Seq.{get_or-set_same}
 use lib.Dec.{T, ltb}
+use Rattle.std.specs.declared.option.Option.{Option}
 use Rattle.bits.specs.Map.{put_bit, on}
 use Rattle.rules.specs.Pages.{cached, in_fetch}
 use Rattle.rules.specs.Readers.{no_reader, reader_at, attached, by_condition, onward}

@@ -1,4 +1,4 @@
--- No turn is made yet.
+-- No turn is made yet; more can follow those made.
 use Rattle.std.proofs.Common.{arith}
 use Rattle.run.proofs.Passings.{underway-none, underway-few}
 use Rattle.run.proofs.make_turns.Goals as goal
