@@ -37,9 +37,9 @@ pub record Going (r : Run) (map opened : List ℕ) (slot n fetches reads : ℕ) 
       → so_far (state_of (reseated r.view slot after) cached fetching) fetches reads ≡ turns_of n s
 
 -- a leg begins
-pub going-first : (r : Run) (cached fetching : List ℕ) → Ready r cached fetching → Few r
-    → Going r cached fetching r.view.turn r.turns r.fetches r.reads r.seats r.heads cached fetching
-going-first r cached fetching u few = record {
+pub going-first : (r : Run) (cached fetching : List ℕ) (n : ℕ) → n ≡ r.turns → Ready r cached fetching → Few r
+    → Going r cached fetching r.view.turn n r.fetches r.reads r.seats r.heads cached fetching
+going-first r cached fetching n e u few = rw e (record {
   after = r.view.readers;
   posed = posed-first r.view.readers r.seats u.seated;
   valid = u.valid;
@@ -47,7 +47,7 @@ going-first r cached fetching u few = record {
   kept = u.kept;
   few = few;
   told = λ s e. e;
-}
+})
 
 module _ (r : Run) (map opened : List ℕ) (slot n fetches reads : ℕ) (seats : Seats) (heads : Heads) (cached fetching : List ℕ)
     (u : Going r map opened slot n fetches reads seats heads cached fetching) where

@@ -1,5 +1,4 @@
 -- One turn more is made where the seats have its reader; the counts are no more than the turns.
-use native.Mathlib.Nat.{add-zero}
 use Rattle.std.proofs.Common.{◌≡◌, arith, add_assoc}
 use Rattle.turns.proofs.Goings.{going-first, going-turning, going-more, going-ready, going-all}
 use Rattle.turns.proofs.Run.go_on.Goals as goal
@@ -8,7 +7,7 @@ pub loop-i-init : goal.loop-i-init
 loop-i-init c = record {
   low = c.requires.ready.0.valid.turn_high;
   counted = c.requires.few.1;
-  going = rw (add-zero c.args.self.now.turns) (going-first _ _ _ c.requires.ready.0 c.requires.ready.1);
+  going = going-first _ _ _ _ (omega arith) c.requires.ready.0 c.requires.ready.1;
 }
 
 pub turn-q-requires-clause-turning : goal.turn-q-requires-clause-turning
