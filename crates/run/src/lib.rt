@@ -11,7 +11,7 @@ ghost use Rattle.rules.specs.Run.{run_of};
 ghost use Rattle.rules.specs.Third.{ThirdStatement};
 ghost use Rattle.parts.specs.Held.{Held};
 ghost use Rattle.turns.specs.Places.{Quiet};
-ghost use Rattle.turns.specs.Runs.{Underway};
+ghost use Rattle.turns.specs.Runs.{Ready, Few, Underway};
 
 use heads::Heads;
 use rules::{Answer, Refusal, View};
@@ -29,8 +29,9 @@ fn one_by_one(fetches: u16) -> u64
 
 // Of so many turns those that go by before one meets F, at once. Readers of any file may have moved: no head is known after them.
 fn pass_hits(run: &mut Run, cached: &[u64; 128], most: u64)
-    requires going { (s : State) × ((fetching : List ℕ) × Underway s run.old cached.now fetching) }
+    requires ready { ((fetching : List ℕ) × Ready run.old cached.now fetching) × Few run.old }
     requires few { run.old.turns + most ≤ 16384 }
+    ensures ready { ((fetching : List ℕ) → Ready run.old cached.now fetching → Ready run.new cached.now fetching) × Few run.new }
     ensures gone { (s : State) (fetching : List ℕ) → Underway s run.old cached.now fetching → Underway s run.new cached.now fetching }
     ensures within { (run.old.turns ≤ run.new.turns) × (run.new.turns ≤ run.old.turns + most) }
 {
@@ -51,9 +52,10 @@ fn further(
     held: &mut [u16; 8],
     most: u64,
 )
-    requires going { (s : State) × Underway s run.old cached.old fetching.old }
+    requires ready { Ready run.old cached.old fetching.old × Few run.old }
     requires few { run.old.turns + most ≤ 16384 }
     requires held { Held cached.old held.old }
+    ensures ready { Ready run.new cached.new fetching.new × Few run.new }
     ensures gone { (s : State) → Underway s run.old cached.old fetching.old → Underway s run.new cached.new fetching.new }
     ensures counted { Held cached.new held.new }
     ensures some { 0 < most → run.old.turns < run.new.turns }

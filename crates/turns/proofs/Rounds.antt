@@ -8,11 +8,12 @@ use native.Mathlib.Nat.{zero-add, suc-add, add_assoc, add-zero}
 use lib.ListN.{get_or, set, length}
 use lib.Seq.{get_or-set_same}
 use lib.Dec.{T, ltb}
+use Rattle.std.specs.declared.option.Option.{Option}
 use Rattle.bits.specs.Map.{put_bit, on}
 use Rattle.rules.specs.Pages.{cached, in_fetch}
 use Rattle.rules.specs.Readers.{no_reader, reader_at, attached, by_condition, onward}
 use Rattle.rules.specs.Valid.{Valid}
-use Rattle.rules.specs.Calls.{refused, with_readers, with_fetching, with_cached, read_of, arrive_of, dropped}
+use Rattle.rules.specs.Calls.{reply, refused, with_readers, with_reader, with_fetching, with_cached, without, read_of, arrive_of, dropped}
 use Rattle.rules.specs.Run.{on_fetch, hit_page, next_turn, ended, read_turn, turn_of, Turn, Turns, turns_of}
 use Rattle.rules.specs.declared.Refusal.TheVariants.{SlotEmpty}
 use Rattle.rules.specs.declared.State.{State}
@@ -26,7 +27,7 @@ use Rattle.rules.proofs.laws.Cases.{cond_no, cond-all, fetch-all, outcomes}
 use Rattle.rules.proofs.calls.Kept.{turn-kept}
 use Rattle.rules.proofs.third.Moves.{now_at, goes_now, key_now}
 use Rattle.rules.proofs.third.Turns.{awaiting, read_by, asked, read-stored, stored, stored_there, emptied, emptied-same, hit-turn, fetch-turn}
-use Rattle.calls.specs.Inner.{stepped}
+use Rattle.calls.specs.Inner.{stepped, eased}
 use Rattle.calls.specs.declared.Step.{Step}
 use Rattle.parts.specs.Positions.{moved_to}
 use Rattle.turns.specs.Tallies.{Tally, tally, so_far}
@@ -122,6 +123,64 @@ module _ (s : State) (v : Valid s) (closed : (k : ℕ) → T (in_fetch s k) → 
       let t : ended 0 (stepped s s.turn q still) ≡ read_turn s = rw (← e) (not-fetch q.answer _ _ k) in
       let moved : moved_to q.reader.position r ≡ q.reader = rw er (sym (read-moves s v closed q still e k).0) in
       rw moved (ap tally (t ∙ turn-reads s v.turn_high))
+
+  -- one that meets F: the page is put in, and the second Read moves the reader on
+  module _ (g : T (goes_now s)) (o : T (not (cached s (key_now s)))) (gone : Option ℕ) (eg : gone ≡ dropped (awaiting s s.turn)) (q : Step) (still : List ℕ)
+      (e : stepped (with_fetching (with_cached s (stored s v closed g gone)) (emptied s v closed g)) s.turn q still
+      ≡ read_of (with_fetching (with_cached s (stored s v closed g gone)) (emptied s v closed g)) s.turn) where
+    again : stepped (with_fetching (with_cached s (stored s v closed g gone)) (emptied s v closed g)) s.turn q still
+        ≡ reply (with_reader (with_fetching (with_cached s (stored s v closed g gone)) (emptied s v closed g)) s.turn (onward (now_at s)))
+        (Hit (now_at s).file ((now_at s).position + 1))
+    again = e ∙ read-stored s v closed g o gone
+
+    fetch-still : still ≡ emptied s v closed g
+    fetch-still = ap (λ r. r.state.fetching) again
+
+    goes_on : q.reader ≡ onward (now_at s)
+    goes_on =
+        sym (get_or-set_same s.readers s.turn q.reader no_reader (omega (arith, v.sixteen, v.turn_high)))
+        ∙ ap (λ r. reader_at r.state s.turn) again
+        ∙ get_or-set_same s.readers s.turn (onward (now_at s)) no_reader (omega (arith, v.sixteen, v.turn_high))
+
+    turn-fetches : record {
+      after =
+          with_fetching (with_cached (with_readers (next_turn s) (set s.readers s.turn (moved_to q.reader.position r))) (stored s v closed g gone))
+          still;
+      fetched = 1;
+      read = length (hit_page q.answer);
+    } ≡ tally (turn_of s)
+    turn-fetches =
+        let moved : moved_to q.reader.position r ≡ onward (now_at s) = rw (er, goes_on) refl in
+        rw (moved, fetch-still, ap (λ r. r.answer) again, eg) (ap tally (sym (fetch-turn s v closed g o)))
+
+  -- the same by what the code is told: the page's key, the page that gave up its frame, and the maps on the way
+  module _ (g : T (goes_now s)) (o : T (not (cached s (key_now s)))) (key : ℕ) (ek : key ≡ key_now s) (gone : Option ℕ)
+      (eg : gone ≡ dropped (awaiting s s.turn)) (map opened still' : List ℕ) (em : map ≡ put_bit (eased s.cached gone) key 1)
+      (eo : opened ≡ put_bit s.fetching (key_now s) 1) (es : still' ≡ without opened key) (q : Step) (still : List ℕ)
+      (e : stepped (with_fetching (with_cached s map) still') s.turn q still ≡ read_of (with_fetching (with_cached s map) still') s.turn) where
+    map_is : map ≡ stored s v closed g gone
+    map_is = em ∙ ap (λ k. put_bit (eased s.cached gone) k 1) ek
+
+    still-is : still' ≡ emptied s v closed g
+    still-is = es ∙ ap₂ without eo ek
+
+    abbrev told : stepped (with_fetching (with_cached s (stored s v closed g gone)) (emptied s v closed g)) s.turn q still
+        ≡ read_of (with_fetching (with_cached s (stored s v closed g gone)) (emptied s v closed g)) s.turn
+    told = rw (map_is, still-is) at e
+
+    pub fetch-made : record {
+      after = with_fetching (with_cached (with_readers (next_turn s) (set s.readers s.turn (moved_to q.reader.position r))) map) still;
+      fetched = 1;
+      read = length (hit_page q.answer);
+    } ≡ tally (turn_of s)
+    fetch-made = rw map_is (turn-fetches g o gone eg q still told)
+
+    -- in fetch is what was before the turn: nothing
+    pub fetch-left : on still ≡ in_fetch s
+    fetch-left = ap on (fetch-still g o gone eg q still told) ∙ emptied-same s v closed g o
+
+    pub fetch-quiet : (k : ℕ) → T (on still k) → ⊥
+    fetch-quiet k h = closed k (subst (λ (f : ℕ → Bool). T (f k)) fetch-left h)
 
 -- ---- the page has arrived, and is read again
 

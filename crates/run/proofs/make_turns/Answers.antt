@@ -1,6 +1,6 @@
--- No turn is made yet.
+-- No turn is made yet; more can follow those made.
 use Rattle.std.proofs.Common.{arith}
-use Rattle.run.proofs.Passings.{underway-none}
+use Rattle.run.proofs.Passings.{underway-none, underway-few}
 use Rattle.run.proofs.make_turns.Goals as goal
 
 pub loop-run-init : goal.loop-run-init
@@ -9,3 +9,8 @@ loop-run-init c = record {
   gone = underway-none c.args.view _ _ _ _ c.requires.valid.0 c.requires.valid.1 c.of.ensures c.new.ensures;
   counted = c.requires.held;
 }
+
+pub further-requires-clause-ready : goal.further-requires-clause-ready
+further-requires-clause-ready c =
+    let u = c.loop-run.invariant.gone in
+    (u.ready, underway-few _ _ _ _ u)

@@ -1,8 +1,6 @@
 -- Invariant: so many turns more are made, and seats, heads and maps are as they left them (`Going`).
 use Rattle.std.proofs.Common.{◌+◌, ◌<◌}
-use Rattle.rules.specs.declared.State.{State}
 use Rattle.parts.specs.Held.{Held}
-use Rattle.turns.specs.Runs.{Underway}
 use Rattle.turns.proofs.Goings.{Going}
 use Rattle.turns.proofs.Run.go_on.Given as goal
 
@@ -10,6 +8,6 @@ abbrev pub invariant-loop-i : goal.invariant-loop-i
 invariant-loop-i l = record {
   low : l.slot < 16;
   counted : Held l.cached l.held;
-  going : (s : State) → Underway s l.initial.self l.initial.cached l.initial.fetching
-      → Going l.v s l.slot (l.done + l.i) l.self.fetches l.self.reads l.self.seats l.self.heads l.cached l.fetching;
+  going : Going l.initial.self l.initial.cached l.initial.fetching
+      l.slot (l.done + l.i) l.self.fetches l.self.reads l.self.seats l.self.heads l.cached l.fetching;
 }
