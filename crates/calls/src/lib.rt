@@ -4,7 +4,8 @@
 
 ghost use Rattle.std.specs.Prelude.{◌≡◌, true, List, [], map, ℕ, ◌≤◌, ◌<◌, get_or, length, replicate};
 ghost use Rattle.bits.specs.Map.{bit, put_bit};
-ghost use Rattle.rules.specs.Views.{state_of};
+ghost use Rattle.rules.specs.Valid.{Valid};
+ghost use Rattle.rules.specs.Views.{state_of, no_pages};
 ghost use Rattle.rules.specs.Lists.{within, every};
 ghost use Rattle.rules.specs.Readers.{reader_in};
 ghost use Rattle.rules.specs.Calls.{
@@ -90,8 +91,47 @@ fn settings_in(
     rule_in(rule, expected)
 }
 
-// Setup by either rule.
+// Setup of a view, by either rule: in the state after it no page is cached or in fetch, so no maps are asked for.
 #[tactic(auto, unfolding(rules::specs::Calls::setup_of, rules::specs::Calls::settings_in))]
+pub fn setup_by_rule_in(
+    v: &mut View,
+    frames: u64,
+    look_ahead: u64,
+    fetch_time: u64,
+    sizes: [u64; 8],
+    rule: u64,
+    expected: [u64; 8],
+) -> Answer
+    ensures { reply (state_of v.new no_pages no_pages) result ≡ setup_of frames look_ahead fetch_time sizes rule expected }
+{
+    if !settings_in(frames, look_ahead, fetch_time, &sizes, rule, &expected) {
+        *v = parts::idle();
+        return Answer::Refused(Refusal::OutOfRange);
+    }
+    *v = parts::fresh(
+        frames as u16,
+        look_ahead as u32,
+        fetch_time as u32,
+        stored(&sizes),
+        Rule::from_number(rule),
+        stored(&expected),
+    );
+    Answer::Done
+}
+
+// Setup as a line asks for it: by the 1989 rule, and no readers are expected (A.6).
+pub fn setup_in(
+    v: &mut View,
+    frames: u64,
+    look_ahead: u64,
+    fetch_time: u64,
+    sizes: [u64; 8],
+) -> Answer
+    ensures { reply (state_of v.new no_pages no_pages) result ≡ setup_of frames look_ahead fetch_time sizes 0 (replicate 8 0) }
+{
+    setup_by_rule_in(v, frames, look_ahead, fetch_time, sizes, 0, [0; 8])
+}
+
 pub fn setup_by_rule(
     q: &mut Quay,
     frames: u64,
@@ -103,22 +143,14 @@ pub fn setup_by_rule(
 ) -> Answer
     ensures { reply q.new result ≡ setup_of frames look_ahead fetch_time sizes rule expected }
 {
-    if !settings_in(frames, look_ahead, fetch_time, &sizes, rule, &expected) {
-        *q = Quay::idle();
-        return Answer::Refused(Refusal::OutOfRange);
-    }
-    *q = Quay::empty(parts::fresh(
-        frames as u16,
-        look_ahead as u32,
-        fetch_time as u32,
-        stored(&sizes),
-        Rule::from_number(rule),
-        stored(&expected),
-    ));
-    Answer::Done
+    let mut view = q.view;
+    let answer = setup_by_rule_in(
+        &mut view, frames, look_ahead, fetch_time, sizes, rule, expected,
+    );
+    *q = Quay::empty(view);
+    answer
 }
 
-// Setup as a line asks for it: by the 1989 rule, and no readers are expected (A.6).
 pub fn setup(q: &mut Quay, frames: u64, look_ahead: u64, fetch_time: u64, sizes: [u64; 8]) -> Answer
     ensures { reply q.new result ≡ setup_of frames look_ahead fetch_time sizes 0 (replicate 8 0) }
 {
@@ -343,14 +375,15 @@ pub fn steal(q: &mut Quay) -> Answer
     }
 }
 
-// No reader waits for the page: one that comes to it before it arrives begins to wait by Read.
+// Prefetch on any view and maps that make a valid state. No reader waits for the page: one that comes to it before it arrives begins to wait by Read.
 #[tactic(auto, unfolding(rules::specs::Calls::prefetch_of))]
-pub fn prefetch(q: &mut Quay) -> Answer
-    ensures { reply q.new result ≡ prefetch_of q.old }
+pub fn prefetch_in(v: View, cached: &[u64; 128], fetching: &mut [u64; 128]) -> Answer
+    requires { Valid (state_of v cached.now fetching.old) }
+    ensures { reply (state_of v cached.now fetching.new) result ≡ prefetch_of (state_of v cached.now fetching.old) }
 {
-    match fetch::next_fetch(q.view, &q.cached, &q.fetching) {
+    match fetch::next_fetch(v, cached, fetching) {
         Some(key) => {
-            bits::set_bit(&mut q.fetching, key as usize);
+            bits::set_bit(fetching, key as usize);
             Answer::Fetch {
                 file: parts::file_of(key),
                 page: parts::page_of(key),
@@ -358,4 +391,10 @@ pub fn prefetch(q: &mut Quay) -> Answer
         }
         None => Answer::Nothing,
     }
+}
+
+pub fn prefetch(q: &mut Quay) -> Answer
+    ensures { reply q.new result ≡ prefetch_of q.old }
+{
+    prefetch_in(q.view, &q.cached, &mut q.fetching)
 }

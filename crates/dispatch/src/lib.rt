@@ -20,18 +20,19 @@ fn set_up(q: &mut Quay, fields: &[u64]) -> Answer
 {
     let mut sizes = [0u64; 8];
     sizes.copy_from_slice(&fields[3..]);
-    let mut new = Quay::idle();
-    let answer = calls::setup(&mut new, fields[0], fields[1], fields[2], sizes);
+    let mut view = q.view;
+    let answer = calls::setup_in(&mut view, fields[0], fields[1], fields[2], sizes);
     if answer.carried_out() {
-        *q = new;
+        *q = Quay::empty(view);
     }
     answer
 }
 
-// A line that was taken apart: each letter with its fields has a call, and any other line is refused. Returns how many bytes the answer has.
-pub fn obey(q: &mut Quay, c: Command, out: &mut [u8]) -> usize
-    requires { (c.count ≤ 11) × Roomy out.old }
-    ensures { Gives (obeyed q.old c.letter (take c.count c.fields)) out.old out.new q.new result }
+// A line that was taken apart: each letter with its fields has a call, and any other line is refused. Returns how many bytes the answer has. The command is
+// lent: a copy of it, just written number by number, would be waited for at every line.
+pub fn obey(q: &mut Quay, c: &Command, out: &mut [u8]) -> usize
+    requires { (c.now.count ≤ 11) × Roomy out.old }
+    ensures { Gives (obeyed q.old c.now.letter (take c.now.count c.now.fields)) out.old out.new q.new result }
 {
     match (c.letter, &c.fields[..c.count]) {
         (b'S', fields) if fields.len() == 11 => answers::tell(set_up(q, fields), out),

@@ -8,9 +8,9 @@ mod restoring;
 mod saving;
 mod upgrading;
 
-pub use restoring::restore_whole;
-pub use saving::{save, save_whole};
-pub use upgrading::restore;
+pub use restoring::{read_maps, restore_whole, restore_whole_in};
+pub use saving::{save, save_in, save_whole, save_whole_in};
+pub use upgrading::{restore, restore_in};
 
 // As many bytes as Save writes.
 pub const IMAGE_LENGTH: usize = 2274;

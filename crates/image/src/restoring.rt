@@ -17,6 +17,7 @@ ghost use Rattle.rules.specs.Image.{
   image_length,
 };
 ghost use Rattle.parts.specs.Files.{sized_with};
+ghost use Rattle.parts.specs.Held.{Held};
 ghost use Rattle.image.specs.Bytes.{state_in};
 ghost use Rattle.image.specs.Tests.{SizesLow, known_condition, readable, mark_in, apart_at, clear_at, clear_above, size_holds, tests};
 
@@ -84,7 +85,7 @@ fn view_in(image: &[u8]) -> Result<View, NoNumber>
 }
 
 // Reads both maps into their places.
-fn read_maps(cached: &mut [u64; 128], fetching: &mut [u64; 128], image: &[u8])
+pub fn read_maps(image: &[u8], cached: &mut [u64; 128], fetching: &mut [u64; 128])
     requires { length image.now ≡ image_length }
     ensures { (cached.new ≡ (state_in image.now).cached) × (fetching.new ≡ (state_in image.now).fetching) }
 {
@@ -228,21 +229,45 @@ fn holds(v: &View, cached: &[u64; 128], fetching: &[u64; 128], taken: u32) -> bo
 
 // ---- Restore
 
-// Restore of an image as long as Save writes it; any other is refused. The maps are read into the box and tested there; where the image is refused, the box
-// becomes idle.
-pub fn restore_whole(q: &mut Quay, image: &[u8]) -> Answer
-    ensures { reply q.new result ≡ restore_whole image.now }
+// Restore of an image as long as Save writes it; any other is refused. The maps are read into their places, whatever these held, and tested there; where the
+// image is refused, all becomes idle.
+pub fn restore_whole_in(
+    v: &mut View,
+    cached: &mut [u64; 128],
+    fetching: &mut [u64; 128],
+    held: &mut [u16; 8],
+    image: &[u8],
+) -> Answer
+    ensures by_rule { reply (state_of v.new cached.new fetching.new) result ≡ restore_whole image.now }
+    ensures counted { Held cached.new held.new }
 {
+    // The length of a lent array is known once it is set, and the count asks for it.
+    *held = [0; 8];
     if image.len() == IMAGE_LENGTH {
-        read_maps(&mut q.cached, &mut q.fetching, image);
-        parts::count_held(&q.cached, &mut q.held);
+        read_maps(image, cached, fetching);
+        parts::count_held(cached, held);
         if let Ok(view) = view_in(image) {
-            if gaps_hold(image) && holds(&view, &q.cached, &q.fetching, parts::taken(&q.held)) {
-                q.view = view;
+            if gaps_hold(image) && holds(&view, cached, fetching, parts::taken(held)) {
+                *v = view;
                 return Answer::Done;
             }
         }
     }
-    *q = Quay::idle();
+    *v = parts::idle();
+    *cached = [0; 128];
+    *fetching = [0; 128];
+    *held = [0; 8];
     Answer::Refused(Refusal::NoImage)
+}
+
+pub fn restore_whole(q: &mut Quay, image: &[u8]) -> Answer
+    ensures { reply q.new result ≡ restore_whole image.now }
+{
+    restore_whole_in(
+        &mut q.view,
+        &mut q.cached,
+        &mut q.fetching,
+        &mut q.held,
+        image,
+    )
 }

@@ -2,6 +2,8 @@
 
 ghost use Rattle.std.specs.Prelude.{◌≡◌, ◌+◌, ◌≤◌, length};
 ghost use Rattle.rules.specs.Lists.{each, written};
+ghost use Rattle.rules.specs.Valid.{Valid};
+ghost use Rattle.rules.specs.Views.{state_of};
 ghost use Rattle.rules.specs.Image.{image_of, save_of, encoded, image_length, unmarked_length, rule_number};
 ghost use Rattle.image.specs.Bytes.{reader_bytes, settings_fields, tail_bytes};
 
@@ -60,27 +62,41 @@ fn put_tail(buffer: &mut [u8], v: &View)
     put_all(buffer, ATTACHES_AT, &v.attaches);
 }
 
-// Save into a buffer that is as long as an image.
+// Save of any view and maps that make a valid state, into a buffer that is as long as an image.
+pub fn save_whole_in(v: &View, cached: &[u64; 128], fetching: &[u64; 128], buffer: &mut [u8])
+    requires { Valid (state_of v.now cached.now fetching.now) × (length buffer.old ≡ image_length) }
+    ensures { buffer.new ≡ image_of (state_of v.now cached.now fetching.now) }
+{
+    put_settings(buffer, v);
+    put_all(buffer, SIZES_AT, &v.sizes);
+    put_readers(buffer, READERS_AT, &v.readers);
+    0u32.put(buffer, GAP_AT);
+    put_all(buffer, CACHED_AT, cached);
+    put_all(buffer, FETCHING_AT, fetching);
+    put_tail(buffer, v);
+}
+
 pub fn save_whole(q: &Quay, buffer: &mut [u8])
     requires { length buffer.old ≡ image_length }
     ensures { buffer.new ≡ image_of q.now }
 {
-    put_settings(buffer, &q.view);
-    put_all(buffer, SIZES_AT, &q.view.sizes);
-    put_readers(buffer, READERS_AT, &q.view.readers);
-    0u32.put(buffer, GAP_AT);
-    put_all(buffer, CACHED_AT, &q.cached);
-    put_all(buffer, FETCHING_AT, &q.fetching);
-    put_tail(buffer, &q.view);
+    save_whole_in(&q.view, &q.cached, &q.fetching, buffer);
 }
 
-// Save into a buffer that is long enough, or longer: what it holds behind the image is left.
-pub fn save(q: &Quay, buffer: &mut [u8]) -> Answer
-    ensures { record { answer = result; buffer = buffer.new } ≡ save_of q.now buffer.old }
+// Save of any view and maps that make a valid state, into a buffer that is long enough, or longer: what it holds behind the image is left.
+pub fn save_in(v: &View, cached: &[u64; 128], fetching: &[u64; 128], buffer: &mut [u8]) -> Answer
+    requires { Valid (state_of v.now cached.now fetching.now) }
+    ensures { record { answer = result; buffer = buffer.new } ≡ save_of (state_of v.now cached.now fetching.now) buffer.old }
 {
     if buffer.len() < IMAGE_LENGTH {
         return Answer::Refused(Refusal::NoRoom);
     }
-    save_whole(q, &mut buffer[..IMAGE_LENGTH]);
+    save_whole_in(v, cached, fetching, &mut buffer[..IMAGE_LENGTH]);
     Answer::Done
+}
+
+pub fn save(q: &Quay, buffer: &mut [u8]) -> Answer
+    ensures { record { answer = result; buffer = buffer.new } ≡ save_of q.now buffer.old }
+{
+    save_in(&q.view, &q.cached, &q.fetching, buffer)
 }

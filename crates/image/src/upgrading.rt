@@ -1,13 +1,15 @@
 // Older images: one without marks, or without a rule, is made into one of the newest length, and then restored like any other.
 
 ghost use Rattle.std.specs.Prelude.{◌≡◌, ◌<◌, ◌++◌, length, replicate};
+ghost use Rattle.rules.specs.Views.{state_of};
 ghost use Rattle.rules.specs.Calls.{reply};
 ghost use Rattle.rules.specs.Image.{last_from, Older, upgraded, restore_of, image_numbers, unmarked_length};
+ghost use Rattle.parts.specs.Held.{Held};
 
 use crate::bytes::Number;
-use crate::restoring::restore_whole;
+use crate::restoring::restore_whole_in;
 use crate::{IMAGE_LENGTH, MARKS_AT, READERS_AT, SIZES_AT, UNMARKED_LENGTH, UNRULED_LENGTH};
-use rules::Answer;
+use rules::{Answer, View};
 use state::Quay;
 
 // The last page of a slot in an image without marks. A taken slot may have 0 there, which means its file's size.
@@ -55,12 +57,31 @@ fn upgrade(image: &[u8]) -> [u8; IMAGE_LENGTH]
     newest
 }
 
-// Restore of an image of any length. Where it is refused, the box becomes idle.
+// Restore of an image of any length, whatever view, maps and counts held. Where it is refused, all becomes idle.
+pub fn restore_in(
+    v: &mut View,
+    cached: &mut [u64; 128],
+    fetching: &mut [u64; 128],
+    held: &mut [u16; 8],
+    image: &[u8],
+) -> Answer
+    ensures by_rule { reply (state_of v.new cached.new fetching.new) result ≡ restore_of image.now }
+    ensures counted { Held cached.new held.new }
+{
+    if image.len() == UNMARKED_LENGTH || image.len() == UNRULED_LENGTH {
+        return restore_whole_in(v, cached, fetching, held, &upgrade(image));
+    }
+    restore_whole_in(v, cached, fetching, held, image)
+}
+
 pub fn restore(q: &mut Quay, image: &[u8]) -> Answer
     ensures { reply q.new result ≡ restore_of image.now }
 {
-    if image.len() == UNMARKED_LENGTH || image.len() == UNRULED_LENGTH {
-        return restore_whole(q, &upgrade(image));
-    }
-    restore_whole(q, image)
+    restore_in(
+        &mut q.view,
+        &mut q.cached,
+        &mut q.fetching,
+        &mut q.held,
+        image,
+    )
 }

@@ -54,7 +54,7 @@ fn answer_line(q: &mut Quay, text: &mut [u8], piece: &[u8], out: &mut [u8]) -> u
 {
     let asked = command_in(text, piece);
     text[0] = 0;
-    match asked {
+    match &asked {
         Some(c) => dispatch::obey(q, c, out),
         None => answers::tell(Answer::Refused(Refusal::NoRequest), out),
     }

@@ -6,10 +6,12 @@
 ghost use Rattle.std.specs.Prelude.{◌≡◌, ◌++◌, ◌≤◌, map, length, drop};
 ghost use Rattle.rules.specs.Listings.{count_in};
 ghost use Rattle.rules.specs.Questions.{words_most, questions_of};
+ghost use Rattle.rules.specs.Valid.{Valid};
+ghost use Rattle.rules.specs.Views.{state_of};
 ghost use Rattle.questions.specs.Rows.{Ranged, when_by, answer_by, row_by};
 
 use parts::NEVER;
-use rules::{Forecast, Question, Refusal, When};
+use rules::{Forecast, Question, Refusal, View, When};
 use state::Quay;
 
 // When a page will be read, by its use key and by whether it is ahead of a reader. The use key has the seat distance; the answer has the slot.
@@ -63,10 +65,17 @@ impl<'a> Known<'a> {
     }
 }
 
-// When will these be read? Answers each question, and returns how many words of the maps were read for it.
-pub fn when_read(q: &Quay, questions: &[Question], answers: &mut [Forecast]) -> Result<u16, Refusal>
-    ensures words { (count_in result ≤ words_most q.now)
-        × (record { answer = result; list = answers.new } ≡ questions_of q.now questions.now answers.old) }
+// When will these be read? Answers each question on any view and maps that make a valid state, and returns how many words of the maps were read for it.
+pub fn when_read_in(
+    v: View,
+    cached: &[u64; 128],
+    fetching: &[u64; 128],
+    questions: &[Question],
+    answers: &mut [Forecast],
+) -> Result<u16, Refusal>
+    requires { Valid (state_of v cached.now fetching.now) }
+    ensures words { (count_in result ≤ words_most (state_of v cached.now fetching.now))
+        × (record { answer = result; list = answers.new } ≡ questions_of (state_of v cached.now fetching.now) questions.now answers.old) }
 {
     if 1024 < questions.len() || answers.len() < questions.len() {
         return Err(Refusal::NoRoom);
@@ -75,19 +84,27 @@ pub fn when_read(q: &Quay, questions: &[Question], answers: &mut [Forecast]) -> 
     let mut seen = [0u64; 128];
     let mut table = [NEVER as u32; 8192];
     let tally = walk::use_keys(
-        q.view,
-        &q.cached,
-        &q.fetching,
+        v,
+        cached,
+        fetching,
         &mut ahead,
         &mut seen,
         &mut table,
     );
+    let sizes = v.sizes;
     let known = Known {
-        sizes: q.view.sizes,
-        turn: q.view.turn,
+        sizes,
+        turn: v.turn,
         ahead: &ahead,
         table: &table,
     };
     known.answer_rows(questions, answers);
     Ok(tally.words as u16)
+}
+
+pub fn when_read(q: &Quay, questions: &[Question], answers: &mut [Forecast]) -> Result<u16, Refusal>
+    ensures words { (count_in result ≤ words_most q.now)
+        × (record { answer = result; list = answers.new } ≡ questions_of q.now questions.now answers.old) }
+{
+    when_read_in(q.view, &q.cached, &q.fetching, questions, answers)
 }

@@ -3,6 +3,7 @@
 #![tactic(auto)]
 
 ghost use Rattle.std.specs.Prelude.{◌≡◌, ◌≤◌, ◌<◌, List, ℕ, set};
+ghost use Rattle.rules.specs.Valid.{Valid};
 ghost use Rattle.rules.specs.Views.{state_of};
 ghost use Rattle.rules.specs.Calls.{reply, attach_of, read_of, detach_of, no_interval, measured_pace, measure_of};
 ghost use Rattle.slots.specs.Berths.{berth_of, reader_slot};
@@ -59,7 +60,8 @@ fn berth_of(
 // Attach on any view, whatever its maps. Only an Attach that is carried out counts (A.6).
 #[tactic(auto, unfolding(rules::specs::Calls::attach_of))]
 pub fn attach_in(v: &mut View, slot: u64, file: u64, pace: u64, start: u64, last: u64) -> Answer
-    ensures { (c f : List ℕ) → reply (state_of v.new c f) result ≡ attach_of (state_of v.old c f) slot file pace start last }
+    ensures by_rule { (c f : List ℕ) → reply (state_of v.new c f) result ≡ attach_of (state_of v.old c f) slot file pace start last }
+    ensures one_record { (c f : List ℕ) → OthersStay (state_of v.old c f) slot (state_of v.new c f) }
 {
     match berth_of(v.sizes, slot, file, pace, start, last) {
         Ok(Berth { slot, file, reader }) => match v.readers[slot].condition {
@@ -84,19 +86,28 @@ pub fn attach(q: &mut Quay, slot: u64, file: u64, pace: u64, start: u64, last: u
 
 // ---- Read
 
+// Read on any view and maps that make a valid state.
 #[tactic(auto, unfolding(rules::specs::Calls::read_of))]
-pub fn read(q: &mut Quay, slot: u64) -> Answer
-    ensures by_rule { reply q.new result ≡ read_of q.old slot }
-    ensures one_record { OthersStay q.old slot q.new }
+pub fn read_in(v: &mut View, cached: &[u64; 128], fetching: &mut [u64; 128], slot: u64) -> Answer
+    requires { Valid (state_of v.old cached.now fetching.old) }
+    ensures by_rule { reply (state_of v.new cached.now fetching.new) result ≡ read_of (state_of v.old cached.now fetching.old) slot }
+    ensures one_record { OthersStay (state_of v.old cached.now fetching.old) slot (state_of v.new cached.now fetching.new) }
 {
     match parts::slot_in(slot) {
         Ok(i) => {
-            let step = calls::read_slot(&q.cached, &mut q.fetching, q.view.readers[i]);
-            q.view.readers = with_reader(q.view.readers, i, step.reader);
+            let step = calls::read_slot(cached, fetching, v.readers[i]);
+            v.readers[i] = step.reader;
             step.answer
         }
         Err(why) => Answer::Refused(why),
     }
+}
+
+pub fn read(q: &mut Quay, slot: u64) -> Answer
+    ensures by_rule { reply q.new result ≡ read_of q.old slot }
+    ensures one_record { OthersStay q.old slot q.new }
+{
+    read_in(&mut q.view, &q.cached, &mut q.fetching, slot)
 }
 
 // ---- Detach and Measure
@@ -115,7 +126,8 @@ fn reader_slot(readers: &[Reader; 16], slot: u64) -> Result<usize, Refusal>
 // Detach on any view, whatever its maps: a fetch that the reader waited for stays open.
 #[tactic(auto, unfolding(rules::specs::Calls::detach_of))]
 pub fn detach_in(v: &mut View, slot: u64) -> Answer
-    ensures { (c f : List ℕ) → reply (state_of v.new c f) result ≡ detach_of (state_of v.old c f) slot }
+    ensures by_rule { (c f : List ℕ) → reply (state_of v.new c f) result ≡ detach_of (state_of v.old c f) slot }
+    ensures one_record { (c f : List ℕ) → OthersStay (state_of v.old c f) slot (state_of v.new c f) }
 {
     match reader_slot(&v.readers, slot) {
         Ok(i) => {
@@ -157,7 +169,8 @@ fn measured_pace(old: Reader, mark: u16, interval: u64, blocked: u64) -> u16
 // Measure on any view, whatever its maps. The ticks for which a reader waited are blocked ones.
 #[tactic(auto, unfolding(rules::specs::Calls::measure_of))]
 pub fn measure_in(v: &mut View, slot: u64, interval: u64, blocked: u64) -> Answer
-    ensures { (c f : List ℕ) → reply (state_of v.new c f) result ≡ measure_of (state_of v.old c f) slot interval blocked }
+    ensures by_rule { (c f : List ℕ) → reply (state_of v.new c f) result ≡ measure_of (state_of v.old c f) slot interval blocked }
+    ensures one_record { (c f : List ℕ) → OthersStay (state_of v.old c f) slot (state_of v.new c f) }
 {
     match reader_slot(&v.readers, slot) {
         Ok(_) if no_interval(interval, blocked) => Answer::Refused(Refusal::NoInterval),

@@ -1,12 +1,10 @@
 -- The view's Measure, with the maps as they are: the state after it is valid, and has the other slots' records.
 use Rattle.rules.specs.Entries.{measure}
-use Rattle.rules.proofs.calls.OneRecord.{measuring}
 use Rattle.state.proofs.Kept.{kept-by}
-use Rattle.slots.proofs.Stays.{stay}
 use Rattle.slots.proofs.measure.Goals as goal
 
 pub invariant_of-q : goal.invariant_of-q
-invariant_of-q c = (kept-by (measure _ _ _) _ _ _ (c.measure_in.ensures c.q.inside.cached c.q.inside.fetching) c.q.invariant.0, c.q.invariant.1)
+invariant_of-q c = (kept-by (measure _ _ _) _ _ _ (c.measure_in.ensures.by_rule c.q.inside.cached c.q.inside.fetching) c.q.invariant.0, c.q.invariant.1)
 
 pub returns-clause-one_record : goal.returns-clause-one_record
-returns-clause-one_record c = rw (← c.q.view_is) (stay (measuring _ _) _ _ _ _ (c.measure_in.ensures c.q.inside.cached c.q.inside.fetching))
+returns-clause-one_record c = rw (← c.q.view_is) (c.measure_in.ensures.one_record c.q.inside.cached c.q.inside.fetching)

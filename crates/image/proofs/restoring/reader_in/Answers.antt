@@ -1,5 +1,4 @@
 -- The numbers of a slot, each read in its place, make its record.
-use Rattle.std.proofs.Common.{◌∙◌}
 use Rattle.std.proofs.lemmas.Result.{err_from_is_err_and}
 use Rattle.image.proofs.States.{condition-unknown, condition-known, reader-read}
 use Rattle.image.proofs.restoring.reader_in.Goals as goal

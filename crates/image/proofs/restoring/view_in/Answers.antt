@@ -1,5 +1,4 @@
 -- The numbers, each read in its place, make the state but its maps.
-use Rattle.std.proofs.Common.{◌∙◌}
 use Rattle.std.proofs.lemmas.Result.{err_from_is_err_and}
 use Rattle.image.proofs.States.{conditions-unknown, rule-unknown, rule-known, view-read}
 use Rattle.image.proofs.restoring.view_in.Goals as goal

@@ -1,9 +1,10 @@
--- An image of either older length is restored as what it is upgraded to, any other as it is.
-use Rattle.image.proofs.Upgrades.{restore-other, restore-older}
+-- What is restored is valid, whatever the image.
+use Rattle.std.proofs.Common.{sym, ap, subst}
+use Rattle.rules.specs.Valid.{Valid}
+use Rattle.rules.proofs.images.Images.{restored-valid}
 use Rattle.image.proofs.upgrading.restore.Goals as goal
 
-pub returns-then-image-eq-UNMARKED_LENGTH : goal.returns-then-image-eq-UNMARKED_LENGTH
-returns-then-image-eq-UNMARKED_LENGTH c = restore-older c.args.image.now _ _ c.upgrade.ensures c.restore_whole.ensures
-
-pub returns : goal.returns
-returns c = restore-other c.args.image.now _ c.if-image-eq-UNMARKED_LENGTH.false c.if-image-eq-UNRULED_LENGTH.false c.restore_whole-2.ensures
+pub invariant_of-q : goal.invariant_of-q
+invariant_of-q c =
+    let r = c.restore_in.ensures in
+    (subst Valid (sym (ap (λ q. q.state) r.by_rule)) (restored-valid c.args.image.now (λ i. (c.type_inv.image i).fits)), r.counted)

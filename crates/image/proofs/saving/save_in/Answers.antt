@@ -2,7 +2,7 @@
 use Rattle.std.proofs.Common.{length}
 use borrow.Author.Tests.{lt-ltb, le-ltb}
 use Rattle.rules.specs.Image.{save_of, image_length}
-use Rattle.image.proofs.saving.save.Goals as goal
+use Rattle.image.proofs.saving.save_in.Goals as goal
 
 pub returns-then-buffer-lt-IMAGE_LENGTH : goal.returns-then-buffer-lt-IMAGE_LENGTH
 unfolding save_of
@@ -10,4 +10,4 @@ returns-then-buffer-lt-IMAGE_LENGTH c = rw (lt-ltb (length c.args.buffer.now) im
 
 pub returns : goal.returns
 unfolding save_of
-returns c = rw (le-ltb (length c.args.buffer.now) image_length c.if-buffer-lt-IMAGE_LENGTH.false, c.save_whole.ensures)
+returns c = rw (le-ltb (length c.args.buffer.now) image_length c.if-buffer-lt-IMAGE_LENGTH.false, c.save_whole_in.ensures)
