@@ -1,3 +1,3 @@
--- What Run rests on: its reply, and turns passed at once.
+-- What Run rests on: its reply, and legs, of turns passed at once too.
 pub mod Replies
 pub mod Passings

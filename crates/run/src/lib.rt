@@ -11,7 +11,7 @@ ghost use Rattle.rules.specs.Run.{run_of};
 ghost use Rattle.rules.specs.Third.{ThirdStatement};
 ghost use Rattle.parts.specs.Held.{Held};
 ghost use Rattle.turns.specs.Places.{Quiet};
-ghost use Rattle.turns.specs.Runs.{Ready, Few, Underway};
+ghost use Rattle.turns.specs.Runs.{Ready, Few, GoesOn, Underway};
 
 use heads::Heads;
 use rules::{Answer, Refusal, View};
@@ -32,6 +32,7 @@ fn pass_hits(run: &mut Run, cached: &[u64; 128], most: u64)
     requires ready { ((fetching : List ℕ) × Ready run.old cached.now fetching) × Few run.old }
     requires few { run.old.turns + most ≤ 16384 }
     ensures ready { ((fetching : List ℕ) → Ready run.old cached.now fetching → Ready run.new cached.now fetching) × Few run.new }
+    ensures leg { (fetching : List ℕ) → Ready run.old cached.now fetching → GoesOn run.old cached.now fetching most run.new cached.now fetching }
     ensures gone { (s : State) (fetching : List ℕ) → Underway s run.old cached.now fetching → Underway s run.new cached.now fetching }
     ensures within { (run.old.turns ≤ run.new.turns) × (run.new.turns ≤ run.old.turns + most) }
 {
@@ -56,6 +57,7 @@ fn further(
     requires few { run.old.turns + most ≤ 16384 }
     requires held { Held cached.old held.old }
     ensures ready { Ready run.new cached.new fetching.new × Few run.new }
+    ensures leg { GoesOn run.old cached.old fetching.old most run.new cached.new fetching.new }
     ensures gone { (s : State) → Underway s run.old cached.old fetching.old → Underway s run.new cached.new fetching.new }
     ensures counted { Held cached.new held.new }
     ensures some { 0 < most → run.old.turns < run.new.turns }

@@ -17,7 +17,7 @@ ghost use Rattle.uses.specs.Shown.{Shows, seen};
 ghost use Rattle.heads.specs.Heads.{Kept, Forgot, NotRead};
 ghost use Rattle.turns.specs.Places.{moved_seat, Following, Coming, Landed, Turning};
 ghost use Rattle.turns.specs.Tallies.{Single, Made};
-ghost use Rattle.turns.specs.Runs.{Ready, Few, Underway};
+ghost use Rattle.turns.specs.Runs.{Ready, Few, GoesOn, Underway};
 
 use calls::Step;
 use files::{FileSet, Shares};
@@ -180,9 +180,9 @@ impl Run {
         held: &mut [u16; 8],
         turns: u64,
     )
-        requires ready { Ready self.old cached.old fetching.old × Few self.old }
-        requires few { (self.old.turns + turns ≤ 16384) × Held cached.old held.old }
+        requires ready { Ready self.old cached.old fetching.old × Few self.old × (self.old.turns + turns ≤ 16384) × Held cached.old held.old }
         ensures ready { Ready self.new cached.new fetching.new × Few self.new }
+        ensures leg { GoesOn self.old cached.old fetching.old turns self.new cached.new fetching.new }
         ensures gone { (s : State) → Underway s self.old cached.old fetching.old → Underway s self.new cached.new fetching.new }
         ensures all { self.new.turns ≡ self.old.turns + turns }
         ensures counted { Held cached.new held.new }

@@ -1,6 +1,6 @@
 -- The turns that meet no F are passed; no head is known after them.
 use Rattle.std.proofs.Common.{refl, arith}
-use Rattle.run.proofs.Passings.{passed-ready, passed-counts, passed, passed-few}
+use Rattle.run.proofs.Passings.{passed-ready, passed-counts, passed-on, passed, passed-few}
 use Rattle.run.proofs.pass_hits.Goals as goal
 
 pub overflow_add-run : goal.overflow_add-run
@@ -16,6 +16,11 @@ returns-clause-ready c =
       λ fetching u. passed-ready _ _ fetching u _ ahead _ _ _ _ p.moved p.value refl c.view_after-run.ensures _ c.new-run.ensures,
       passed-counts _ _ _ known.1 _ ahead _ _ _ _ p.moved p.value refl c.view_after-run.ensures c.requires.ready.1 _ c.new-run.ensures,
     )
+
+pub returns-clause-leg : goal.returns-clause-leg
+returns-clause-leg c = λ fetching u.
+    passed-on _ _ fetching u _ c.turns_ahead-turns.ensures.1 _ _ _ _ c.pass_turns.ensures.moved c.pass_turns.ensures.value refl c.view_after-run.ensures
+    _ c.new-run.ensures _ c.turns_ahead-turns.ensures.0
 
 pub returns-clause-gone : goal.returns-clause-gone
 returns-clause-gone c = λ s fetching u.

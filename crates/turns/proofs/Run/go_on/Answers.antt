@@ -1,12 +1,12 @@
 -- One turn more is made where the seats have its reader; the counts are no more than the turns.
-use Rattle.std.proofs.Common.{◌≡◌, arith, add_assoc}
-use Rattle.turns.proofs.Goings.{going-first, going-turning, going-more, going-ready, going-all}
+use Rattle.std.proofs.Common.{◌≡◌, arith}
+use Rattle.turns.proofs.Goings.{going-first, going-turning, going-more, going-ready, going-all, going-on}
 use Rattle.turns.proofs.Run.go_on.Goals as goal
 
 pub loop-i-init : goal.loop-i-init
 loop-i-init c = record {
   low = c.requires.ready.0.valid.turn_high;
-  counted = c.requires.few.1;
+  counted = c.requires.ready.3;
   going = going-first _ _ _ _ (omega arith) c.requires.ready.0 c.requires.ready.1;
 }
 
@@ -32,15 +32,20 @@ loop-i-preserved c =
     record {
       low = omega arith;
       counted = c.turn-q.ensures.counted;
-      going = rw (← add_assoc c.args.self.now.turns c.loop-i.i 1)
-          (going-more _ _ _ _ _ _ _ _ _ _ _ i.going i.low _ ws c.turn-q.result _ _ _ _ c.turn-q.ensures.single
-          ((rw c.of-first.ensures at c.turn-q.ensures.by_rule) _ (going-turning _ _ _ _ _ _ _ _ _ _ _ i.going i.low _ ws)));
+      going =
+          going-more _ _ _ _ _ _ _ _ _ _ _ i.going i.low _ ws c.turn-q.result _ _ _ _ c.turn-q.ensures.single
+          ((rw c.of-first.ensures at c.turn-q.ensures.by_rule) _ (going-turning _ _ _ _ _ _ _ _ _ _ _ i.going i.low _ ws));
     }
+
+pub returns-clause-leg : goal.returns-clause-leg
+returns-clause-leg c =
+    let e : c.loop-i.i ≡ c.args.turns = omega arith in
+    rw (← e) (going-all _ _ _ _ _ _ _ _ _ _ _ c.loop-i.invariant.going _ c.view_after-self.ensures)
 
 pub returns-clause-gone : goal.returns-clause-gone
 returns-clause-gone c =
     let e : c.loop-i.i ≡ c.args.turns = omega arith in
-    rw (← e) (going-all _ _ _ _ _ _ _ _ _ _ _ c.loop-i.invariant.going _ c.view_after-self.ensures)
+    rw (← e) (going-on _ _ _ _ _ _ _ _ _ _ _ c.loop-i.invariant.going _ c.view_after-self.ensures)
 
 pub returns-clause-ready : goal.returns-clause-ready
 returns-clause-ready c =

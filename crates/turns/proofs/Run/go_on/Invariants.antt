@@ -1,5 +1,5 @@
 -- Invariant: so many turns more are made, and seats, heads and maps are as they left them (`Going`).
-use Rattle.std.proofs.Common.{◌+◌, ◌<◌}
+use Rattle.std.proofs.Common.{◌<◌}
 use Rattle.parts.specs.Held.{Held}
 use Rattle.turns.proofs.Goings.{Going}
 use Rattle.turns.proofs.Run.go_on.Given as goal
@@ -9,5 +9,5 @@ invariant-loop-i l = record {
   low : l.slot < 16;
   counted : Held l.cached l.held;
   going : Going l.initial.self l.initial.cached l.initial.fetching
-      l.slot (l.done + l.i) l.self.fetches l.self.reads l.self.seats l.self.heads l.cached l.fetching;
+      l.slot l.i l.self.fetches l.self.reads l.self.seats l.self.heads l.cached l.fetching;
 }
