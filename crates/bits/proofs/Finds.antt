@@ -2,12 +2,11 @@
 use Rattle.std.proofs.Common.{◌≡◌, Bool, true, false, cond, List, [], ◌∷◌, ℕ, min, zero, suc, ◌+◌, ◌-◌, ◌*◌, ◌/◌, ◌%◌, ◌^◌, ◌≤◌, ◌<◌, get_or, eqb}
 use Rattle.std.proofs.Common.{w64, refl, sym, ap, ◌∙◌, le_antisymm, add-zero, mod-lt, lit<, arith, eqb-true}
 use Rattle.std.proofs.Math.Decide.{dec_lt}
-use Rattle.std.specs.Int.Count.{count_leading_zeros, count_trailing_zeros, trailing_of_zero}
+use Rattle.std.specs.Int.Count.{count_leading_zeros, count_trailing_zeros}
 use Rattle.std.proofs.lemmas.Bool.{eqb-false}
-use Rattle.std.proofs.lemmas.Nat.{shr_le}
-use Rattle.std.proofs.lemmas.Nat.Bits.{bit_at-zero, bit_at_not, bit_at-trailing_zeros}
+use Rattle.std.proofs.lemmas.Nat.Bits.{bit_at_not}
 use Rattle.bits.specs.Map.{digit, bit, next_bit, last_bit}
-use Rattle.bits.proofs.Words.{digit-shr, shl-high, leading-clear, leading-set}
+use Rattle.bits.proofs.Words.{digit-shr, shl-high, trailing-clear, trailing-set, leading-clear, leading-set}
 use Rattle.bits.proofs.Bits.{Same, bit_le, bit_word, word_same, whole_same}
 
 -- no key from a to before b has the bit v
@@ -110,27 +109,19 @@ next-not w s h =
     other (suc zero) u = refl
     other (suc (suc a)) u = absurd (omega arith)
 
--- the digits below a word's trailing zeros are clear, and the one at their end is set
-trailing : (x : ℕ) → x < 2 ^ 64 → let t = count_trailing_zeros 64 x in ((i : ℕ) → i < t → digit x i ≡ 0) × (t < 64 → digit x t ≡ 1)
-trailing zero h = rw (trailing_of_zero 64) ((λ i l. bit_at-zero i), λ l. absurd (omega arith))
-trailing (suc x) h = let t = bit_at-trailing_zeros w64 (suc x) (omega arith) h in (t.2, λ _. t.1)
-
 -- the next 1 of a word, by the zeros below it
-pub next-shr : (w s : ℕ) → w < 2 ^ 64 → s < 64 → min (s + count_trailing_zeros 64 (w / 2 ^ s)) 64 ≡ next_bit (w ∷ []) 1 s (64 - s)
-next-shr w s f h = next-only (w ∷ []) 1 s (64 - s) (min (s + t) 64) record {
+pub next-shr : (w s : ℕ) → s < 64 → min (s + count_trailing_zeros 64 (w / 2 ^ s)) 64 ≡ next_bit (w ∷ []) 1 s (64 - s)
+next-shr w s h = next-only (w ∷ []) 1 s (64 - s) (min (s + t) 64) record {
   low = omega arith;
   high = omega arith;
-  before = λ k l u e. omega (arith, sym e ∙ at k l (omega arith), (trailing (w / 2 ^ s) g).0 (k - s) (omega arith));
+  before = λ k l u e. omega (arith, sym e ∙ at k l (omega arith), trailing-clear 64 (w / 2 ^ s) (k - s) (omega arith));
   found = λ u.
       let q : min (s + t) 64 ≡ s + t = omega arith in
-      rw q (bit_word w (s + t) (omega arith) ∙ sym (digit-shr w s t) ∙ (trailing (w / 2 ^ s) g).1 (omega arith));
+      rw q (bit_word w (s + t) (omega arith) ∙ sym (digit-shr w s t) ∙ trailing-set 64 (w / 2 ^ s) (omega arith));
 }
   where
     t : ℕ
     t = count_trailing_zeros 64 (w / 2 ^ s)
-
-    g : w / 2 ^ s < 2 ^ 64
-    g = omega (arith, shr_le w s)
 
     at : (k : ℕ) → s ≤ k → k < 64 → bit (w ∷ []) k ≡ digit (w / 2 ^ s) (k - s)
     at k l u =

@@ -1,6 +1,6 @@
 -- Laws of many bits at once: a run of them set, and those of another map cleared.
 use Rattle.std.proofs.Common.{◌≡◌, Bool, true, false, ◌&&◌, ◌||◌, not, List, ℕ, min, ◌+◌, ◌-◌, ◌*◌, ◌/◌, ◌%◌, ◌^◌, ◌≤◌, ◌<◌, eqb, length, get_or, set}
-use Rattle.std.proofs.Common.{bit_and, bit_or, w64, refl, sym, ap, ◌∙◌, pow_pos, arith, lt-ltb, le-ltb, le-leb, eq-eqb, shl_exact, get_or-set_same}
+use Rattle.std.proofs.Common.{bit_and, bit_or, bit_xor, w64, refl, sym, ap, ◌∙◌, pow_pos, arith, lt-ltb, le-ltb, le-leb, eq-eqb, shl_exact, get_or-set_same}
 use Rattle.std.proofs.Common.{get_or-set_other}
 use Rattle.std.proofs.Math.Nat.{zero-div}
 use Rattle.std.proofs.Math.Decide.{ℕ_discrete, dec_lt}
@@ -8,7 +8,7 @@ use Rattle.std.proofs.lemmas.Bool.{lt-leb}
 use Rattle.std.proofs.Math.Bool.{or_assoc, or_comm}
 use Rattle.std.proofs.Math.ListN.{get_or-eq_default}
 use Rattle.std.proofs.Math.Pow.{high_ones}
-use Rattle.std.proofs.lemmas.Nat.Bits.{bit_at_and, bit_at_or, bit_at_not, bit_at_mask_inside, bit_at_mask_below, bit_at_mask_above, ones_shr}
+use Rattle.std.proofs.lemmas.Nat.Bits.{bit_at_and, bit_at_or, bit_at_xor, bit_at_not, bit_at_mask_inside, bit_at_mask_below, bit_at_mask_above, ones_shr}
 use Rattle.bits.specs.Map.{digit, bit, on, one_of}
 use Rattle.bits.proofs.Words.{by_digits, or_set}
 
@@ -119,21 +119,25 @@ pub record Lacking (xs ys zs : List ℕ) (i : ℕ) : Type 0 where
 pub lacking-none : (xs ys : List ℕ) → Lacking xs ys xs 0
 lacking-none xs ys = record { done = λ k h. absurd (omega arith); left = λ j h. refl }
 
--- one word more
-pub lacking-more : (xs ys zs : List ℕ) (i : ℕ) → i < length zs → get_or ys i 0 < 2 ^ 64 → Lacking xs ys zs i
-    → Lacking xs ys (set zs i (lacking (get_or zs i 0) (get_or ys i 0))) (i + 1)
+-- one word more, by any word that has these digits
+one-more : (xs ys zs : List ℕ) (i w : ℕ) → i < length zs
+    → ((j : ℕ) → j < 64 → eqb (digit w j) 1 ≡ (eqb (digit (get_or zs i 0) j) 1 && not (eqb (digit (get_or ys i 0) j) 1))) → Lacking xs ys zs i
+    → Lacking xs ys (set zs i w) (i + 1)
 unfolding bit
-lacking-more xs ys zs i h f t = record {
+one-more xs ys zs i w h d t = record {
   done = λ k u. by k u (ℕ_discrete (k / 64) i);
   left = λ j u. get_or-set_other zs i j w 0 (λ e. omega arith) ∙ t.left j (omega arith);
 }
   where
-    w : ℕ
-    w = lacking (get_or zs i 0) (get_or ys i 0)
-
     by : (k : ℕ) → k / 64 < i + 1 → Dec (k / 64 ≡ i) → on (set zs i w) k ≡ (on xs k && not (on ys k))
-    by k u (yes e) = rw (e, get_or-set_same zs i w 0 h, t.left i (omega arith)) (lacking-digit (get_or xs i 0) (get_or ys i 0) (k % 64) f (omega arith))
+    by k u (yes e) = rw (e, get_or-set_same zs i w 0 h, ← t.left i (omega arith)) (d (k % 64) (omega arith))
     by k u (no e) = rw (get_or-set_other zs i (k / 64) w 0 e) (t.done k (omega arith))
+
+-- one word more
+pub lacking-more : (xs ys zs : List ℕ) (i : ℕ) → i < length zs → get_or ys i 0 < 2 ^ 64 → Lacking xs ys zs i
+    → Lacking xs ys (set zs i (lacking (get_or zs i 0) (get_or ys i 0))) (i + 1)
+lacking-more xs ys zs i h f =
+    one-more xs ys zs i (lacking (get_or zs i 0) (get_or ys i 0)) h (λ j l. lacking-digit (get_or zs i 0) (get_or ys i 0) j f l)
 
 -- all words: past them no bit is set
 pub lacking-all : (xs ys zs : List ℕ) (i : ℕ) → length xs ≤ i → Lacking xs ys zs i → (k : ℕ) → on zs k ≡ (on xs k && not (on ys k))
@@ -145,3 +149,23 @@ lacking-all xs ys zs i h t k = by (dec_lt (k / 64) i)
     by (no u) =
         let e : get_or xs (k / 64) 0 ≡ 0 = get_or-eq_default xs 0 (omega arith) in
         rw (t.left (k / 64) (omega arith), e, zero-div)
+
+-- ---- the same of words of any size
+
+-- the word x without the digits of y, by no complement: `x ^ (x & y)`
+abbrev pub without : ℕ → ℕ → ℕ
+without x y = bit_xor x (bit_and x y)
+
+-- a digit of it is set where x's is and y's isn't
+pub without-digit : (x y i : ℕ) → eqb (digit (without x y) i) 1 ≡ (eqb (digit x i) 1 && not (eqb (digit y i) 1))
+without-digit x y i =
+    rw (bit_at_xor x (bit_and x y) i, bit_at_and x y i) (both (digit x i) (digit y i) (omega arith) (omega arith))
+  where
+    both : (a b : ℕ) → a ≤ 1 → b ≤ 1 → eqb ((a + min a b) % 2) 1 ≡ (eqb a 1 && not (eqb b 1))
+    both = by_digits (λ a b. eqb ((a + min a b) % 2) 1 ≡ (eqb a 1 && not (eqb b 1))) refl refl refl refl
+
+-- one word more, by it
+pub without-more : (xs ys zs : List ℕ) (i : ℕ) → i < length zs → Lacking xs ys zs i
+    → Lacking xs ys (set zs i (without (get_or zs i 0) (get_or ys i 0))) (i + 1)
+without-more xs ys zs i h =
+    one-more xs ys zs i (without (get_or zs i 0) (get_or ys i 0)) h (λ j l. without-digit (get_or zs i 0) (get_or ys i 0) j)

@@ -3,7 +3,7 @@ use Rattle.std.proofs.Common.{◌≡◌, cond, ◌||◌, ℕ, zero, suc, ◌+◌
 use Rattle.std.proofs.Common.{pow-suc, arith, eq-eqb, ne_eqb, bit_and, bit_or}
 use Rattle.std.proofs.Math.Decide.{ℕ_discrete}
 use Rattle.std.specs.Int.Bits.{and_le_l, or_add_and}
-use Rattle.std.specs.Int.Count.{count_leading_zeros}
+use Rattle.std.specs.Int.Count.{under, count_trailing_zeros, count_leading_zeros}
 use Rattle.std.proofs.Math.Pow.{pow-lt, field, mod-mod-pow}
 use Rattle.std.proofs.lemmas.Nat.{shl-shr, shr-shr, and_comm, and-not, leading_length}
 use Rattle.std.proofs.lemmas.Nat.Bits.{bit_at-suc, bit_at-zero, bit_at_above, bit_at_cat_low, bit_at_set_same, bit_at_set_other, and_pow}
@@ -20,6 +20,14 @@ digit-shr w s i = ap (λ (x : ℕ). x % 2) (shr-shr w s i)
 -- a word of n digits has no digit set from n on
 pub digit-high : (w n i : ℕ) → w < 2 ^ n → n ≤ i → digit w i ≡ 0
 digit-high = bit_at_above
+
+-- the digits of the complement
+pub digit_not : (n w i : ℕ) → w < 2 ^ n → i < n → digit (2 ^ n - 1 - w) i + digit w i ≡ 1
+digit_not zero w i h p = absurd (omega arith)
+digit_not (suc n) w zero h p = rw pow-suc (omega (arith, pow-suc 2 n))
+digit_not (suc n) w (suc i) h p =
+    let e : (2 ^ suc n - 1 - w) / 2 ≡ 2 ^ n - 1 - w / 2 = rw pow-suc (omega (arith, pow-suc 2 n)) in
+    rw (digit-step (2 ^ suc n - 1 - w) i, digit-step w i, e) (digit_not n (w / 2) i (omega (arith, pow-suc 2 n)) (omega arith))
 
 -- ---- two words, digit by digit
 
@@ -105,7 +113,33 @@ put-lt zero w i v h p q = absurd (omega arith)
 put-lt (suc n) w zero v h p q = omega (arith, pow-suc 2 n)
 put-lt (suc n) w (suc i) v h p q = rw (put_step w i v) (omega (arith, pow-suc 2 n, put-lt n (w / 2) i v (omega (arith, pow-suc 2 n)) (omega arith) q))
 
--- ---- the zeros above a word's digits
+-- ---- the zeros at the ends of a word
+
+-- no digit below the trailing zeros' end is set
+pub trailing-clear : (n w i : ℕ) → i < count_trailing_zeros n w → digit w i ≡ 0
+unfolding count_trailing_zeros
+trailing-clear zero w i h = absurd (omega arith)
+trailing-clear (suc n) w zero h = go (w % 2) refl h
+  where
+    go : (d : ℕ) → w % 2 ≡ d → 0 < under d (count_trailing_zeros n (w / 2)) → digit w 0 ≡ 0
+    go zero e l = omega arith
+    go (suc d) e l = absurd (omega arith)
+trailing-clear (suc n) w (suc i) h = digit-step w i ∙ trailing-clear n (w / 2) i (go (w % 2) h)
+  where
+    go : (d : ℕ) → suc i < under d (count_trailing_zeros n (w / 2)) → i < count_trailing_zeros n (w / 2)
+    go zero l = omega arith
+    go (suc d) l = absurd (omega arith)
+
+-- the digit at their end is
+pub trailing-set : (n w : ℕ) → count_trailing_zeros n w < n → digit w (count_trailing_zeros n w) ≡ 1
+unfolding count_trailing_zeros
+trailing-set zero w h = absurd (omega arith)
+trailing-set (suc n) w h = go (w % 2) refl (trailing-set n (w / 2)) h
+  where
+    go : (d : ℕ) → w % 2 ≡ d → (count_trailing_zeros n (w / 2) < n → digit (w / 2) (count_trailing_zeros n (w / 2)) ≡ 1)
+        → under d (count_trailing_zeros n (w / 2)) < suc n → digit w (under d (count_trailing_zeros n (w / 2))) ≡ 1
+    go zero e ih l = digit-step w (count_trailing_zeros n (w / 2)) ∙ ih (omega arith)
+    go (suc d) e ih l = omega arith
 
 -- none of the leading zeros is set
 pub leading-clear : (n w i : ℕ) → w < 2 ^ n → n ≤ count_leading_zeros n w + i → digit w i ≡ 0

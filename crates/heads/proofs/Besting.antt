@@ -34,7 +34,7 @@ use Rattle.rules.specs.UseTimes.{never}
 use Rattle.rules.specs.Ranks.{rank, cached_among, victim_among}
 use Rattle.rules.proofs.laws.Tests.{and_both, and_first, and_second}
 use Rattle.rules.proofs.laws.Cases.{passed, failed}
-use Rattle.rules.proofs.orders.Distinct.{rank-positive, rank-far, head-is, among_none}
+use Rattle.rules.proofs.orders.Distinct.{Stretch, behind, unseen, in_use, stretch, rank-positive, rank-far, head-is, among_none}
 use Rattle.rules.specs.declared.State.{State}
 use Rattle.uses.specs.declared.Pick.{Pick}
 use Rattle.files.specs.Sets.{in_set, NoFile}
@@ -44,6 +44,8 @@ use Rattle.order.specs.Searches.{First}
 use Rattle.heads.specs.Heads.{alone, lasting, last_of, HeadIs, known_of, Kept}
 use Rattle.heads.specs.declared.Heads.{Heads}
 use Rattle.heads.proofs.Keeping.{alone-file, lasting-near, lasting-far}
+
+-- ---- what is kept, with a head more
 
 -- the heads once file f has this one
 abbrev pub with_head : Heads → ℕ → Pick → Heads
@@ -56,6 +58,31 @@ just-put known f p q e = by (dec_lt f (length known))
     by : Dec (f < length known) → q ≡ p
     by (yes l) = let same = get_or-set_same known f (Some p) None l in cc
     by (no l) = let past = get_or_past (set known f (Some p)) f None (simp length-set (omega arith)) in cc
+
+-- a head is put
+pub kept_put : (s : State) (done f : ℕ) (p : Pick) (heads : Heads) → Kept s done heads → HeadIs s done (alone f) 8 p → Kept s done (with_head heads f p)
+kept_put s done f p heads a b = record { each = λ g l q h. by g l q h (ℕ_discrete g f) }
+  where
+    by : (g : ℕ) → g < 8 → (q : Pick) → known_of (with_head heads f p) g ≡ Some q → Dec (g ≡ f) → HeadIs s done (alone g) 8 q
+    by g l q h (yes e) = let same : q ≡ p = just-put heads.known f p q (subst (λ i. known_of (with_head heads f p) i ≡ Some q) e h) in rw (same, e) b
+    by g l q h (no e) = a.each g l q (sym (get_or-set_other heads.known f g (Some p) None e) ∙ h)
+
+-- ---- ranks
+
+-- a rank is far below what a word holds
+pub first-low : (s : State) → Valid s → (files : ℕ → Bool) (p : Pick) → First s files p → p.value < 200000000
+first-low s w files p a = go (dec_lt 0 p.value)
+  where
+    by : p.key < 8192 → Stretch s p.key → rank s p.key < 200000000
+    by l (behind b x) = omega arith
+    by l (unseen b n x) = omega arith
+    by l (in_use b x m) = omega arith
+
+    go : Dec (0 < p.value) → p.value < 200000000
+    go (yes h) =
+        let c = a.page.held h in
+        omega (arith, a.page.its h, by (w.cached_in p.key (and_first (cached s p.key) _ c)).low (stretch s w p.key))
+    go (no h) = omega arith
 
 module _ (s : State) (w : Valid s) (done : ℕ) (few : done ≤ 16384) where
   -- ---- the numbers that stay
@@ -130,14 +157,9 @@ module _ (s : State) (w : Valid s) (done : ℕ) (few : done ≤ 16384) where
   -- it is put
   pub head-put : (f : ℕ) (set : FileSet) (p q : Pick) (heads : Heads) → ((g : ℕ) → g < 8 → in_set set g ≡ alone f g) → q ≡ last_of done p
       → First s (in_set set) p → Kept s done heads → HeadIs s done (alone f) 8 q × Kept s done (with_head heads f q)
-  head-put f set p q heads one e a kept = (found, record { each = λ g l r h. by g l r h (ℕ_discrete g f) })
-    where
-      found : HeadIs s done (alone f) 8 q
-      found = rw e (head-found f p (first_alone f set p one a))
-
-      by : (g : ℕ) → g < 8 → (r : Pick) → known_of (with_head heads f q) g ≡ Some r → Dec (g ≡ f) → HeadIs s done (alone g) 8 r
-      by g l r h (yes m) = let same : r ≡ q = just-put heads.known f q r (subst (λ i. known_of (with_head heads f q) i ≡ Some r) m h) in rw (same, m) found
-      by g l r h (no m) = kept.each g l r (sym (get_or-set_other heads.known f g (Some q) None m) ∙ h)
+  head-put f set p q heads one e a kept =
+      let found : HeadIs s done (alone f) 8 q = rw e (head-found f p (first_alone f set p one a)) in
+      (found, kept_put s done f q heads kept found)
 
   -- ---- the best of the files
 

@@ -51,6 +51,13 @@ of-rule : (r : Rule) → rule_of (rule_number r) ≡ r
 of-rule Of1989 = refl
 of-rule Of1993 = refl
 
+-- so a condition and a rule are those that their numbers stand for
+pub condition-told : (c : Condition) (number : ℕ) → number ≡ condition_number c → c ≡ condition_of number
+condition-told c number e = sym (of-condition c) ∙ ap condition_of (sym e)
+
+pub rule-told : (r : Rule) (number : ℕ) → number ≡ rule_number r → r ≡ rule_of number
+rule-told r number e = sym (of-rule r) ∙ ap rule_of (sym e)
+
 condition-high : (c : Condition) → condition_number c ≤ 2
 condition-high Empty = omega arith
 condition-high Running = omega arith
@@ -91,8 +98,8 @@ module _ (image : List ℕ) where
     pub condition-known : (c : Condition) → number ≡ condition_number c → known_condition (image_numbers image) j ≡ true
     condition-known c f = ap (λ n. leb n 2) (sym first ∙ f) ∙ le-leb (condition_number c) 2 (condition-high c)
 
-    -- and the record of the slot
-    pub reader-read : (c : Condition) (file pace position last : ℕ) → number ≡ condition_number c
+    -- and the record of the slot, whatever the number: the condition is the one that it stands for
+    pub reader-read : (c : Condition) (file pace position last : ℕ) → c ≡ condition_of number
         → file ≡ number_at 1 image (readers_at + 8 * j + 1)
         → pace ≡ number_at 2 image (readers_at + 8 * j + 2)
         → position ≡ number_at 2 image (readers_at + 8 * j + 4)
@@ -100,7 +107,7 @@ module _ (image : List ℕ) where
         → ◌≡◌ {A = Reader} (record { condition = c; file = file; pace = pace; position = position; last = last }) (reader_from (image_numbers image) j)
     reader-read c file pace position last e₀ e₁ e₂ e₃ e₄ = λ i.
         record {
-          condition = (sym (of-condition c) ∙ ap condition_of (sym e₀ ∙ first)) i;
+          condition = (e₀ ∙ ap condition_of first) i;
           file = (e₁ ∙ sym (slot_at image j 1 l (omega arith))) i;
           pace = (e₂ ∙ sym (slot_at image j 2 l (omega arith))) i;
           position = (e₃ ∙ sym (slot_at image j 3 l (omega arith))) i;
@@ -152,7 +159,7 @@ module _ (image : List ℕ) where
   pub cached-long : length (state_in image).cached ≡ 128
   cached-long = ap length (sym cached-read) ∙ length-listed (number_from 8 image cached_at) 128
 
-  -- the state but its maps
+  -- the state but its maps, whatever the number of the rule: the rule is the one that it stands for
   pub view-read : (frames turn look time : ℕ) (sizes : List ℕ) (readers : List Reader) (marks : List ℕ) (rule : Rule) (number : ℕ) (expected attaches : List ℕ)
       → frames ≡ number_at 2 image 0
       → turn ≡ number_at 1 image 2
@@ -162,7 +169,7 @@ module _ (image : List ℕ) where
       → readers ≡ map (reader_from (image_numbers image)) (range 0 16)
       → marks ≡ numbers_at 2 image marks_at 16
       → number ≡ number_at 1 image rule_at
-      → number ≡ rule_number rule
+      → rule ≡ rule_of number
       → expected ≡ numbers_at 2 image expected_start 8
       → attaches ≡ numbers_at 2 image attaches_start 8
       → ◌≡◌ {A = View}
@@ -187,7 +194,7 @@ module _ (image : List ℕ) where
         attaches = (a ∙ attaches-read) i;
         frames = (e₀ ∙ sym (setting-at image 0 (omega arith))) i;
         turn = (e₁ ∙ sym (setting-at image 1 (omega arith))) i;
-        rule = (sym (of-rule rule) ∙ ap rule_of (sym n ∙ e₅ ∙ sym (rule-at image))) i;
+        rule = (n ∙ ap rule_of (e₅ ∙ sym (rule-at image))) i;
         look_ahead = (e₃ ∙ sym (setting-at image 3 (omega arith))) i;
         fetch_time = (e₄ ∙ sym (setting-at image 4 (omega arith))) i;
         sizes = (z ∙ sizes_read) i;

@@ -10,6 +10,7 @@ use Rattle.rules.specs.Orders.{place}
 use Rattle.rules.specs.Valid.{Valid}
 use Rattle.rules.proofs.laws.Tests.{side, is_true, is_false, and_both, and_first, and_second}
 use Rattle.rules.proofs.laws.Cases.{passed}
+use Rattle.rules.proofs.calls.Valids.{placed_at}
 use Rattle.rules.proofs.orders.LookAheads.{before-is, sees-before, seen_by, use-high, used-by, use-least}
 use Rattle.rules.specs.Ranks.{rank, Before}
 use Rattle.rules.proofs.orders.Ranks.{seen-small, rank-unseen, rank-seen}
@@ -19,7 +20,7 @@ use Rattle.uses.specs.Seats.{Seated}
 use Rattle.uses.specs.Sights.{lower}
 use Rattle.uses.specs.declared.Queue.{Queue}
 use Rattle.uses.specs.declared.Seats.{Seats}
-use Rattle.uses.specs.Queues.{queue_number}
+use Rattle.uses.specs.Queues.{PositionsFit, queue_number}
 use Rattle.uses.specs.Queueing.{Has, Queued, Shortened}
 use Rattle.order.specs.Searches.{HasShort, AllShort}
 
@@ -35,6 +36,12 @@ reads-file f r h = eqb→eq _ _ (and_second (attached r) _ h)
 -- who has page k before it reads its file
 pub before-reads : (r : Reader) (k : ℕ) → Before r k → T (reads_file (file_of k) r)
 before-reads r k q = and_both (attached r) _ q.here (passed _ (eq-eqb r.file (file_of k) q.in_its_file))
+
+-- in a valid state no reader stands past page 1,024
+pub positions-fit : (s : State) → Valid s → (f : ℕ) → PositionsFit s.readers f
+positions-fit s w f j h =
+    let p = placed_at s w j (reads_here f (reader_at s j) h) in
+    omega (arith, p.position_in, p.last_high, w.sizes_high (reader_at s j).file)
 
 module _ (readers : List Reader) (f : ℕ) where
   -- all of the file are queued
@@ -79,8 +86,8 @@ module _ (s : State) (w : Valid s) (seats : Seats) (a : Seated s.readers 16 seat
   pub pace_is : slice_index seats.paces slot ≡ (reader_at s slot).pace
   pace_is = a.pace slot (omega arith) here
 
-  -- the page, if it is not past its last one, is ahead of it
-  pub stands-before : (k : ℕ) → file_of k ≡ f → page_of k ≡ page → page ≤ slice_index seats.lasts slot → Before (reader_at s slot) k
+  -- the page and those behind it, up to its last one, are ahead of it
+  pub stands-before : (k : ℕ) → file_of k ≡ f → page ≤ page_of k → page_of k ≤ slice_index seats.lasts slot → Before (reader_at s slot) k
   stands-before k g m v = record {
     here = here;
     in_its_file = reads-file f (reader_at s slot) (p.sits x in_queue).0 ∙ sym g;

@@ -13,7 +13,7 @@ use mir.Val.{Fits, bits}
 use Rattle.rules.specs.Lists.{within}
 use Rattle.rules.specs.Pages.{key_of}
 use Rattle.rules.proofs.laws.Cases.{or-false, within-true}
-use Rattle.parts.specs.Files.{no_file_in, no_page_in}
+use Rattle.parts.specs.Files.{no_file_in, no_page_in, Small}
 
 -- a file that is there is one of the eight
 pub file_high : (q : Bool) (sizes : List ℕ) (file : ℕ) → q ≡ no_file_in sizes file → q ≡ false → file < 8
@@ -29,7 +29,14 @@ page-in q sizes file page e h = within-true 1 (get_or sizes file 0) page (not-fa
 
 module _ (f w : Bool) (sizes : List ℕ) (file page : ℕ) (a : f ≡ no_file_in sizes file) (b : f ≡ false) (c : w ≡ no_page_in sizes file page) (d : w ≡ false)
     (high : get_or sizes file 0 ≤ 1024) where
-  -- the key of a page that is there is one of a map's
+  -- the key of a page that is there can be worked out
+  pub there-small : Small file page
+  there-small =
+      let l = file_high f sizes file a b in
+      let p = page-in w sizes file page c d in
+      record { file_small = omega arith; page_low = p.0; page_small = omega arith }
+
+  -- and is one of a map's
   pub there-low : (k : ℕ) → k ≡ key_of file page → k < 8192
   there-low k e =
       let l = file_high f sizes file a b in

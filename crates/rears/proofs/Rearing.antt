@@ -215,3 +215,11 @@ module _ (s : State) (w : Valid s) (files : ℕ → Bool) where
         by : T (ahead s k) ⊎ T (not (ahead s k)) → rank s k ≤ p.value
         by (inl x) = omega (arith, rank-ahead s w k page x, a.deep h)
         by (inr x) = omega (arith, rank-behind s k x, a.most k (omega (arith, page.low)) c x)
+
+    -- none is kept, and some reader has each of them before it
+    pub rear-nothing : p.value ≡ 0 → (k : ℕ) → T (cached_among files s k) → T (ahead s k)
+    rear-nothing e k c = by (side (ahead s k))
+      where
+        by : T (ahead s k) ⊎ T (not (ahead s k)) → T (ahead s k)
+        by (inl x) = x
+        by (inr x) = absurd (omega (arith, e, a.most k (omega (arith, (w.cached_in k (and_first (cached s k) _ c)).low)) c x))

@@ -48,7 +48,7 @@ fn behind_all(sight: &Sight, file: usize) -> usize
     requires { file < 8 }
     ensures back { (readers : List Reader) → Seated readers 16 sight.now.seats.now
         → Back readers sight.now.cached.now file (slice_index sight.now.sizes.now file) result × Free readers file result }
-    ensures low { result ≤ 1024 }
+    ensures low { result ≤ slice_index sight.now.sizes.now file }
 {
     let mut page = sight.sizes[file] as usize;
     let mut next = back_from(sight, file, page);

@@ -1,7 +1,7 @@
 -- Where a line of a chunk ends, and the text in its buffer. Assumes nothing.
 use Rattle.std.proofs.Common.{ℕ, suc, ◌+◌, ◌-◌, ◌≤◌, ◌<◌, ◌≡◌, ◌∙◌, List, [], ◌∷◌, ◌++◌, length, get_or, take, drop, set, leb, eqb}
-use Rattle.std.proofs.Common.{refl, sym, ap, append_assoc, arith, le-leb}
-use Rattle.std.proofs.Common.{leb-true, leb-false, length-append, length-drop, length-take-le, take_at, drop-drop}
+use Rattle.std.proofs.Common.{refl, sym, ap, append_assoc, append-nil, arith, le-leb}
+use Rattle.std.proofs.Common.{leb-true, leb-false, length-append, length-drop, length-take-le, take_at, drop-drop, drop_of_length-le}
 use Prim.Native.Char.{code as ascii}
 use borrow.Author.Tests.{lt-leb}
 use Rattle.rules.specs.Lines.{split}
@@ -89,6 +89,13 @@ module _ (t : List ℕ) where
   unfolding clipped
   clipped-short h = rw (le-leb _ _ h)
 
+  -- a text and the same as far as it matters are kept alike
+  pub kept-clipped : (buffer : List ℕ) → kept buffer (clipped t) ≡ kept buffer t
+  kept-clipped buffer =
+      by_most (length t) 200
+      (λ h. rw (clipped-short h))
+      (λ h. rw (clipped-long t h) (kept-long too_long buffer (omega arith) ∙ sym (kept-long t buffer h)))
+
   -- more bytes behind it
   pub clipped-more : (bytes : List ℕ) → clipped (clipped t ++ bytes) ≡ clipped (t ++ bytes)
   clipped-more bytes =
@@ -172,6 +179,13 @@ module _ (t buffer : List ℕ) where
   pub kept-fits : get_or (kept buffer t) 0 0 ≤ 200 → length t ≤ 200
   kept-fits h = by_most (length t) 200 (λ k. k) (λ k. absurd (omega (arith, ap (λ l. get_or l 0 0) (kept-long t buffer k))))
 
+  -- a byte says it
+  pub kept_low : (l : List ℕ) → l ≡ kept buffer t → get_or l 0 0 ≤ 201
+  kept_low l e =
+      by_most (length t) 200
+      (λ k. rw (e, kept-short t buffer k) (omega arith))
+      (λ k. rw (e, kept-long t buffer k) (omega arith))
+
   -- one that fits stands behind its length
   pub kept-front : length t ≤ 200 → take (get_or (kept buffer t) 0 0) (drop 1 (kept buffer t)) ≡ t
   kept-front h = rw (kept-short t buffer h) (take_at t (drop (1 + length t) buffer) (length t) refl)
@@ -186,3 +200,8 @@ pub kept-none : (a b : List ℕ) → length b ≡ 201 → get_or b 0 0 ≡ 0 →
 unfolding kept
 kept-none a [] full e h = absurd (omega arith)
 kept-none a (x ∷ rest) full e h = rw (e, h)
+
+-- a buffer copied whole
+pub copied-whole : (l t : List ℕ) → length l ≡ length t → written l 0 t ≡ t
+unfolding written
+copied-whole l t e = let past : length l ≤ 0 + length t = omega arith in rw (drop_of_length-le l past, append-nil)

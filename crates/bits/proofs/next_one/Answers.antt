@@ -4,4 +4,4 @@ use Rattle.bits.proofs.Finds.{next-shr}
 use Rattle.bits.proofs.next_one.Goals as goal
 
 pub returns : goal.returns
-returns c = c.min.ensures ∙ next-shr c.args.w c.args.s c.ranges.w.fits c.requires
+returns c = c.min.ensures ∙ next-shr c.args.w c.args.s c.requires

@@ -34,7 +34,7 @@ sits c v h p =
     let s = seen a.sight.now v in
     let seats = a.sight.now.seats.now in record {
       ahead =
-          stands-before s h.valid seats h.seated (a.key / 1024) (page_of a.key) a.queue.now p c.requires.1 (number t) (queued t) a.key refl refl
+          stands-before s h.valid seats h.seated (a.key / 1024) (page_of a.key) a.queue.now p c.requires.1 (number t) (queued t) a.key refl (omega arith)
           (omega (arith, c.if-page-seats.true, c.loop-at.invariant.0));
       position_is = (p.sits (number t) (queued t)).1;
       pace_is = pace_is s h.valid seats h.seated (a.key / 1024) (page_of a.key) a.queue.now p c.requires.1 (number t) (queued t);

@@ -7,7 +7,7 @@ use Rattle.rears.proofs.behind_all.Given as goal
 
 abbrev pub invariant-loop-next : goal.invariant-loop-next
 invariant-loop-next l =
-    (l.page ≤ 1024)
+    (l.page ≤ slice_index l.sight.sizes.now l.file)
     × (l.next ≤ l.page)
     × ((readers : List Reader) → Seated readers 16 l.sight.seats.now
     → Back readers l.sight.cached.now l.file (slice_index l.sight.sizes.now l.file) l.next × (l.next ≡ l.page → Free readers l.file l.next))

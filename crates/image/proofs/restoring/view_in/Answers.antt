@@ -1,6 +1,6 @@
 -- The numbers, each read in its place, make the state but its maps.
 use Rattle.std.proofs.lemmas.Result.{err_from_is_err_and}
-use Rattle.image.proofs.States.{conditions-unknown, rule-unknown, rule-known, view-read}
+use Rattle.image.proofs.States.{rule-told, conditions-unknown, rule-unknown, rule-known, view-read}
 use Rattle.image.proofs.restoring.view_in.Goals as goal
 
 pub returns-in_err-readers : goal.returns-in_err-readers
@@ -20,5 +20,5 @@ returns c =
       rule-known image _ _ c.get.ensures number known.0,
       view-read image _ _ _ _ _ _ _ _ _ _ _ c.get-2.ensures c.get-3.ensures c.get-4.ensures c.get-5.ensures
           c.numbers_in.ensures known.1 c.numbers_in-2.ensures
-          c.get.ensures number c.numbers_in-3.ensures c.numbers_in-4.ensures,
+          c.get.ensures (rule-told _ _ number) c.numbers_in-3.ensures c.numbers_in-4.ensures,
     )
