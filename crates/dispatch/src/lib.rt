@@ -28,10 +28,11 @@ fn set_up(q: &mut Quay, fields: &[u64]) -> Answer
     answer
 }
 
-// A line that was taken apart: each letter with its fields has a call, and any other line is refused. Returns how many bytes the answer has. The command is
-// lent: a copy of it, just written number by number, would be waited for at every line.
-pub fn obey(q: &mut Quay, c: &Command, out: &mut [u8]) -> usize
-    requires { (c.now.count ≤ 11) × Roomy out.old }
+// A line that is no R line. Not inlined, or every R line would clear the room of all these answers.
+#[inline(never)]
+fn obey_other(q: &mut Quay, c: &Command, out: &mut [u8]) -> usize
+    requires roomy { (c.now.count ≤ 11) × Roomy out.old }
+    requires other { c.now.letter ≡ 82 → c.now.count ≡ 1 → ⊥ }
     ensures { Gives (obeyed q.old c.now.letter (take c.now.count c.now.fields)) out.old out.new q.new result }
 {
     match (c.letter, &c.fields[..c.count]) {
@@ -41,7 +42,6 @@ pub fn obey(q: &mut Quay, c: &Command, out: &mut [u8]) -> usize
             out,
         ),
         (b'D', [slot]) => answers::tell(slots::detach(q, *slot), out),
-        (b'R', [slot]) => answers::tell(slots::read(q, *slot), out),
         (b'I', [file, page]) => answers::tell(calls::arrive(q, *file, *page), out),
         (b'X', [file, page]) => answers::tell(calls::lost(q, *file, *page), out),
         (b'P', []) => answers::tell(calls::prefetch(q), out),
@@ -51,5 +51,17 @@ pub fn obey(q: &mut Quay, c: &Command, out: &mut [u8]) -> usize
         (b'Q', []) => answers::show_order(q, Order::Fetch, out),
         (b'C', [file]) => answers::show_clusters(q, *file, out),
         _ => answers::tell(Answer::Refused(Refusal::NoRequest), out),
+    }
+}
+
+// A line that was taken apart: each letter with its fields has a call, and any other line is refused. Returns how many bytes the answer has. The command is
+// lent: a copy of it, just written number by number, would be waited for at every line.
+pub fn obey(q: &mut Quay, c: &Command, out: &mut [u8]) -> usize
+    requires { (c.now.count ≤ 11) × Roomy out.old }
+    ensures { Gives (obeyed q.old c.now.letter (take c.now.count c.now.fields)) out.old out.new q.new result }
+{
+    match (c.letter, &c.fields[..c.count]) {
+        (b'R', [slot]) => answers::tell(slots::read(q, *slot), out),
+        _ => obey_other(q, c, out),
     }
 }

@@ -4,13 +4,15 @@
 
 ghost use Rattle.std.specs.Prelude.{◌≡◌, List, ℕ, ◌+◌, ◌≤◌, ◌<◌};
 ghost use Rattle.rules.specs.declared.State.{State};
+ghost use Rattle.rules.specs.declared.Answer.TheVariants.{Ran};
 ghost use Rattle.rules.specs.Views.{state_of};
 ghost use Rattle.rules.specs.Calls.{reply};
 ghost use Rattle.rules.specs.Valid.{Valid};
-ghost use Rattle.rules.specs.Run.{run_of};
+ghost use Rattle.rules.specs.Run.{turns_of, run_of};
 ghost use Rattle.rules.specs.Third.{ThirdStatement};
 ghost use Rattle.parts.specs.Held.{Held};
 ghost use Rattle.turns.specs.Places.{Quiet};
+ghost use Rattle.turns.specs.Tallies.{so_far};
 ghost use Rattle.turns.specs.Runs.{Ready, Few, GoesOn, Underway};
 
 use heads::Heads;
@@ -27,7 +29,9 @@ fn one_by_one(fetches: u16) -> u64
     if fetches == 0 { 32 } else { 256 }
 }
 
-// Of so many turns those that go by before one meets F, at once. Readers of any file may have moved: no head is known after them.
+// Of so many turns those that go by before one meets F, at once. Readers of any file may have moved: no head is known after them. Not inlined, or its view
+// would be on the stack under every choice of a page.
+#[inline(never)]
 fn pass_hits(run: &mut Run, cached: &[u64; 128], most: u64)
     requires ready { ((fetching : List ℕ) × Ready run.old cached.now fetching) × Few run.old }
     requires few { run.old.turns + most ≤ 16384 }
@@ -71,23 +75,23 @@ fn further(
     }
 }
 
-// So many turns, leg by leg.
+// So many turns, leg by leg: the view becomes that after them.
 fn make_turns(
-    view: View,
+    view: &mut View,
     cached: &mut [u64; 128],
     fetching: &mut [u64; 128],
     held: &mut [u16; 8],
     turns: u64,
-) -> Run
-    requires valid { Valid (state_of view cached.old fetching.old) × Quiet fetching.old }
+) -> Answer
+    requires valid { Valid (state_of view.old cached.old fetching.old) × Quiet fetching.old }
     requires few { turns ≤ 16384 }
     requires held { Held cached.old held.old }
-    ensures gone { Underway (state_of view cached.old fetching.old) result cached.new fetching.new }
-    ensures all { result.turns ≡ turns }
+    ensures told { (fetches reads : ℕ) × (result ≡ Ran fetches reads)
+        × (so_far (state_of view.new cached.new fetching.new) fetches reads ≡ turns_of turns (state_of view.old cached.old fetching.old)) }
     ensures counted { Held cached.new held.new }
 {
     let mut run = Run {
-        view,
+        view: *view,
         seats: Seats::of(&view.readers),
         heads: Heads::new(),
         turns: 0,
@@ -98,10 +102,15 @@ fn make_turns(
         let left = turns - run.turns;
         further(&mut run, cached, fetching, held, left);
     }
-    run
+    *view = run.view;
+    Answer::Ran {
+        fetches: run.fetches,
+        reads: run.reads,
+    }
 }
 
-// Turns above 16,384 are refused first, then an open fetch.
+// Turns above 16,384 are refused first, then an open fetch. Not inlined, or a C entry would have room for a Run under way on its stack while it restores.
+#[inline(never)]
 pub fn run(q: &mut Quay, turns: u64) -> Answer
     ensures by_rule { reply q.new result ≡ run_of q.old turns }
     ensures third { ThirdStatement turns q.old result }
@@ -112,10 +121,11 @@ pub fn run(q: &mut Quay, turns: u64) -> Answer
     if bits::count(&q.fetching, 0, 8192) != 0 {
         return Answer::Refused(Refusal::FetchOpen);
     }
-    let made = make_turns(q.view, &mut q.cached, &mut q.fetching, &mut q.held, turns);
-    q.view = made.view;
-    Answer::Ran {
-        fetches: made.fetches,
-        reads: made.reads,
-    }
+    make_turns(
+        &mut q.view,
+        &mut q.cached,
+        &mut q.fetching,
+        &mut q.held,
+        turns,
+    )
 }

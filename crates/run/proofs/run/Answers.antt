@@ -1,7 +1,7 @@
 -- 11 and 10 are refused; else the turns are made.
-use Rattle.std.proofs.Common.{◌∙◌, ap, refl}
+use Rattle.std.proofs.Common.{ap, refl}
 use Rattle.rules.specs.Views.{state_of}
-use Rattle.rules.specs.Run.{turns_of}
+use Rattle.rules.specs.Calls.{reply}
 use Rattle.rules.specs.Entries.{run}
 use Rattle.rules.proofs.third.Optimal.{third_of}
 use Rattle.state.proofs.Kept.{kept-by}
@@ -19,8 +19,8 @@ returns-then-count-ne0 c =
     let e = run-open (state_of i.view i.cached i.fetching) c.q.invariant.0 _ c.if-turns-gt16384.false _ c.count.ensures _ c.if-count-ne0.true refl in
     rw (← c.q.view_is) (record { by_rule = e; third = third_of _ _ _ e })
 
-pub make_turns-made-requires : goal.make_turns-made-requires
-make_turns-made-requires c =
+pub make_turns-requires : goal.make_turns-requires
+make_turns-requires c =
     let v = c.q.invariant.0 in
     record {
       valid = (v, none_open _ v _ c.if-turns-gt16384.false _ c.count.ensures c.if-count-ne0.false);
@@ -31,17 +31,16 @@ make_turns-made-requires c =
 pub returns : goal.returns
 returns c =
     let i = c.q.inside in
-    let s = state_of i.view i.cached i.fetching in
-    let made = c.make_turns-made.ensures in
-    let told = made.gone.told ∙ ap (λ n. turns_of n s) made.all in
-    let e = run-done s c.q.invariant.0 _ c.if-turns-gt16384.false _ c.count.ensures _ _ _ _ c.if-count-ne0.false told refl in
+    let made = c.make_turns.ensures.told in
+    let e = run-done (state_of i.view i.cached i.fetching) c.q.invariant.0 _ c.if-turns-gt16384.false _ c.count.ensures
+        _ made.0 made.1 _ c.if-count-ne0.false made.3 (ap (reply _) made.2) in
     rw (← c.q.view_is) (record { by_rule = e; third = third_of _ _ _ e })
 
 pub invariant_of-q : goal.invariant_of-q
 invariant_of-q c =
     let i = c.q.inside in
     let s = state_of i.view i.cached i.fetching in
-    let made = c.make_turns-made.ensures in
-    let told = made.gone.told ∙ ap (λ n. turns_of n s) made.all in
-    let e = run-done s c.q.invariant.0 _ c.if-turns-gt16384.false _ c.count.ensures _ _ _ _ c.if-count-ne0.false told refl in
-    (kept-by (run c.args.turns) s _ _ e c.q.invariant.0, made.counted)
+    let made = c.make_turns.ensures.told in
+    let e = run-done s c.q.invariant.0 _ c.if-turns-gt16384.false _ c.count.ensures
+        _ made.0 made.1 _ c.if-count-ne0.false made.3 (ap (reply _) made.2) in
+    (kept-by (run c.args.turns) s _ _ e c.q.invariant.0, c.make_turns.ensures.counted)
