@@ -250,6 +250,7 @@ fn wake_reader(r: Reader, key: usize) -> Reader
 }
 
 // Every reader that waits for the page runs.
+#[inline(always)]
 pub fn wake(readers: [Reader; 16], key: usize) -> [Reader; 16]
     ensures { result ≡ map (woken key) readers }
 {

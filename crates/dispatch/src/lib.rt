@@ -28,11 +28,12 @@ fn set_up(q: &mut Quay, fields: &[u64]) -> Answer
     answer
 }
 
-// A line that is no R line. Not inlined, or every R line would clear the room of all these answers.
+// A line that is neither an R line nor an I line. Not inlined, or every one of these, which most lines are, would clear the room of all these answers.
 #[inline(never)]
 fn obey_other(q: &mut Quay, c: &Command, out: &mut [u8]) -> usize
     requires roomy { (c.now.count ≤ 11) × Roomy out.old }
-    requires other { c.now.letter ≡ 82 → c.now.count ≡ 1 → ⊥ }
+    requires no_read { c.now.letter ≡ 82 → c.now.count ≡ 1 → ⊥ }
+    requires no_arrive { c.now.letter ≡ 73 → c.now.count ≡ 2 → ⊥ }
     ensures { Gives (obeyed q.old c.now.letter (take c.now.count c.now.fields)) out.old out.new q.new result }
 {
     match (c.letter, &c.fields[..c.count]) {
@@ -42,7 +43,6 @@ fn obey_other(q: &mut Quay, c: &Command, out: &mut [u8]) -> usize
             out,
         ),
         (b'D', [slot]) => answers::tell(slots::detach(q, *slot), out),
-        (b'I', [file, page]) => answers::tell(calls::arrive(q, *file, *page), out),
         (b'X', [file, page]) => answers::tell(calls::lost(q, *file, *page), out),
         (b'P', []) => answers::tell(calls::prefetch(q), out),
         (b'T', []) => answers::tell(calls::steal(q), out),
@@ -62,6 +62,7 @@ pub fn obey(q: &mut Quay, c: &Command, out: &mut [u8]) -> usize
 {
     match (c.letter, &c.fields[..c.count]) {
         (b'R', [slot]) => answers::tell(slots::read(q, *slot), out),
+        (b'I', [file, page]) => answers::tell(calls::arrive(q, *file, *page), out),
         _ => obey_other(q, c, out),
     }
 }

@@ -1,4 +1,4 @@
--- Each letter with its number of fields is obeyed by its rule; any other line is refused. None is an R line.
+-- Each letter with its number of fields is obeyed by its rule; any other line is refused. None is an R or an I line.
 use Rattle.std.proofs.Common.{◌≡◌, length, take, refl, arith, ltb-true, ltb-false}
 use Rattle.rules.specs.Lines.{obeyed}
 use Rattle.dispatch.proofs.Letters.{gives-told, gives-response, Asked, no-request}
@@ -15,12 +15,6 @@ unfolding obeyed
 returns-in-68-len1 c =
     let n : length (take c.args.c.now.count c.args.c.now.fields) ≡ 1 = omega arith in
     rw (c.in-68-len1.is-0, n) (gives-told _ _ _ _ _ c.detach.ensures.by_rule c.tell-in-68-len1.ensures)
-
-pub returns-in-73-len2 : goal.returns-in-73-len2
-unfolding obeyed
-returns-in-73-len2 c =
-    let n : length (take c.args.c.now.count c.args.c.now.fields) ≡ 2 = omega arith in
-    rw (c.in-73-len2.is-0, n) (gives-told _ _ _ _ _ c.arrive.ensures c.tell-in-73-len2.ensures)
 
 pub returns-in-88-len2 : goal.returns-in-88-len2
 unfolding obeyed
