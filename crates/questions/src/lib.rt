@@ -83,14 +83,7 @@ pub fn when_read_in(
     let mut ahead = [0u64; 128];
     let mut seen = [0u64; 128];
     let mut table = [NEVER as u32; 8192];
-    let tally = walk::use_keys(
-        v,
-        cached,
-        fetching,
-        &mut ahead,
-        &mut seen,
-        &mut table,
-    );
+    let tally = walk::use_keys(v, cached, fetching, &mut ahead, &mut seen, &mut table);
     let sizes = v.sizes;
     let known = Known {
         sizes,

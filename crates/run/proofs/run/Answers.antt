@@ -33,7 +33,7 @@ returns c =
     let i = c.q.inside in
     let made = c.make_turns.ensures.told in
     let e = run-done (state_of i.view i.cached i.fetching) c.q.invariant.0 _ c.if-turns-gt16384.false _ c.count.ensures
-        _ made.0 made.1 _ c.if-count-ne0.false made.3 (ap (reply _) made.2) in
+    _ made.0 made.1 _ c.if-count-ne0.false made.3 (ap (reply _) made.2) in
     rw (← c.q.view_is) (record { by_rule = e; third = third_of _ _ _ e })
 
 pub invariant_of-q : goal.invariant_of-q
@@ -42,5 +42,5 @@ invariant_of-q c =
     let s = state_of i.view i.cached i.fetching in
     let made = c.make_turns.ensures.told in
     let e = run-done s c.q.invariant.0 _ c.if-turns-gt16384.false _ c.count.ensures
-        _ made.0 made.1 _ c.if-count-ne0.false made.3 (ap (reply _) made.2) in
+    _ made.0 made.1 _ c.if-count-ne0.false made.3 (ap (reply _) made.2) in
     (kept-by (run c.args.turns) s _ _ e c.q.invariant.0, c.make_turns.ensures.counted)
