@@ -249,7 +249,7 @@ fn wake_reader(r: Reader, key: usize) -> Reader
     }
 }
 
-// Every reader that waits for the page runs.
+// Every reader that waits for the page runs. Inlined, so that the records are not copied on their way in and out.
 #[inline(always)]
 pub fn wake(readers: [Reader; 16], key: usize) -> [Reader; 16]
     ensures { result ≡ map (woken key) readers }

@@ -12,7 +12,7 @@ use rules::{Answer, Refusal};
 use state::Quay;
 use text::Command;
 
-// Setup of a state aside: after a refused one the program keeps its old state. Not inlined, or every line would have room for that state on its stack.
+// Setup of a view aside: after a refused one the program keeps its old state. Not inlined, or every line would have room for that view on its stack.
 #[inline(never)]
 fn set_up(q: &mut Quay, fields: &[u64]) -> Answer
     requires { length fields.now ≡ 11 }
@@ -28,7 +28,7 @@ fn set_up(q: &mut Quay, fields: &[u64]) -> Answer
     answer
 }
 
-// A line that is neither an R line nor an I line. Not inlined, or every one of these, which most lines are, would clear the room of all these answers.
+// A line that is neither an R line nor an I line. Not inlined, or every R and I line, which most lines are, would clear the room of all these answers.
 #[inline(never)]
 fn obey_other(q: &mut Quay, c: &Command, out: &mut [u8]) -> usize
     requires roomy { (c.now.count ≤ 11) × Roomy out.old }
