@@ -180,7 +180,8 @@ impl Run {
         held: &mut [u16; 8],
         turns: u64,
     )
-        requires ready { Ready self.old cached.old fetching.old × Few self.old × (self.old.turns + turns ≤ 16384) × Held cached.old held.old }
+        requires ready { Ready self.old cached.old fetching.old × Few self.old }
+        requires few { (self.old.turns + turns ≤ 16384) × Held cached.old held.old }
         ensures ready { Ready self.new cached.new fetching.new × Few self.new }
         ensures leg { GoesOn self.old cached.old fetching.old turns self.new cached.new fetching.new }
         ensures gone { (s : State) → Underway s self.old cached.old fetching.old → Underway s self.new cached.new fetching.new }
