@@ -190,11 +190,10 @@ impl Run {
     {
         let v = self.view;
         let shares = Shares::of_view(v);
-        let first = Terms::of(&v);
         let done = self.turns;
         let mut slot = v.turn;
         for i in 0..turns {
-            let mut terms = first;
+            let mut terms = Terms::of(&v);
             terms.turn = slot;
             terms.done = done + i;
             let q = turn(

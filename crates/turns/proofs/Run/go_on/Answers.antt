@@ -13,7 +13,7 @@ loop-i-init c = record {
 pub turn-q-requires-clause-turning : goal.turn-q-requires-clause-turning
 turn-q-requires-clause-turning c =
     let i = c.loop-i.invariant in
-    rw c.of-first.ensures (_, leg-turning _ _ _ _ _ _ _ _ _ _ _ i.leg i.low _ c.of_view-shares.ensures)
+    rw c.of-terms.ensures (_, leg-turning _ _ _ _ _ _ _ _ _ _ _ i.leg i.low _ c.of_view-shares.ensures)
 
 pub overflow_add-self : goal.overflow_add-self
 overflow_add-self c =
@@ -34,7 +34,7 @@ loop-i-preserved c =
       counted = c.turn-q.ensures.counted;
       leg =
           leg-more _ _ _ _ _ _ _ _ _ _ _ i.leg i.low _ ws c.turn-q.result _ _ _ _ c.turn-q.ensures.single
-          ((rw c.of-first.ensures at c.turn-q.ensures.by_rule) _ (leg-turning _ _ _ _ _ _ _ _ _ _ _ i.leg i.low _ ws));
+          ((rw c.of-terms.ensures at c.turn-q.ensures.by_rule) _ (leg-turning _ _ _ _ _ _ _ _ _ _ _ i.leg i.low _ ws));
     }
 
 pub returns-clause-leg : goal.returns-clause-leg
