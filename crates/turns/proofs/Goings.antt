@@ -100,7 +100,7 @@ module _ (r : Run) (map opened : List ℕ) (slot n fetches reads : ℕ) (seats :
 
 -- ---- the turns of the leg alone
 
--- so r goes on, by n turns more: with these fetches and reads they are what so many turns do from r's state on
+-- so r goes on, by n turns more, which alone fetched and read so many (`fetched`, `read`): they are what n turns do from r's state on
 pub record OnLeg (r : Run) (map opened : List ℕ) (slot n fetches reads : ℕ) (seats : Seats) (heads : Heads) (cached fetching : List ℕ) : Type 0 where
   pub going : Going r map opened slot (r.turns + n) fetches reads seats heads cached fetching
   pub fetched : ℕ
