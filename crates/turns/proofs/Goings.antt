@@ -120,14 +120,6 @@ leg-first r cached fetching n e u few = rw e (record {
   told = turns-none (state_of r.view cached fetching);
 })
 
--- turns under way, and a leg after them
-pub underway-on : (s : State) (n : ℕ) (a b : Run) (cached fetching cached' fetching' : List ℕ) → Underway s a cached fetching
-    → IsLeg (state_of a.view cached fetching) a.turns n b cached' fetching' → Underway s (and_then a b) cached' fetching'
-underway-on s n a b cached fetching cached' fetching' u h = record {
-  told = turns_then s _ _ a.fetches a.reads b.fetches b.reads a.turns b.turns u.told h.told;
-  ready = record { valid = h.ready.valid; quiet = h.ready.quiet; seated = h.ready.seated; kept = h.ready.kept };
-}
-
 module _ (r : Run) (map opened : List ℕ) (slot n fetches reads : ℕ) (seats : Seats) (heads : Heads) (cached fetching : List ℕ)
     (u : OnLeg r map opened slot n fetches reads seats heads cached fetching) where
   module _ (low : slot < 16) (shares : Option Shares) (a : SharesOf r.view shares) where
@@ -165,10 +157,7 @@ module _ (r : Run) (map opened : List ℕ) (slot n fetches reads : ℕ) (seats :
 
   -- all of them are a leg: the view after them is as the seats have the readers
   module _ (w : View) (f : Following r.view slot seats.positions w) where
-    -- r with them, and they alone
-    abbrev with_leg : View → Run
-    with_leg w = record { view = w; seats = seats; heads = heads; turns = r.turns + n; fetches = fetches; reads = reads }
-
+    -- they alone
     abbrev leg : View → Run
     leg w = record { view = w; seats = seats; heads = heads; turns = n; fetches = u.fetched; reads = u.read }
 
@@ -176,12 +165,20 @@ module _ (r : Run) (map opened : List ℕ) (slot n fetches reads : ℕ) (seats :
     is-leg = record {
       told =
           subst (λ w. so_far (state_of w cached fetching) u.fetched u.read ≡ turns_of n (state_of r.view map opened))
-          (sym (following-is r.view w slot seats u.going.after f u.going.valid.sixteen u.going.posed)) u.told;
+          (view-is r map opened slot (r.turns + n) fetches reads seats heads cached fetching u.going w f) u.told;
       ready =
           let a = going-ready r map opened slot (r.turns + n) fetches reads seats heads cached fetching u.going w f in
           record { valid = a.valid; quiet = a.quiet; seated = a.seated; kept = a.kept };
       within = omega arith;
     }
 
-    pub leg-all : GoesOn r map opened n (with_leg w) cached fetching
+    pub leg-all : GoesOn r map opened n (gone r map opened slot (r.turns + n) fetches reads seats heads cached fetching u.going w f w) cached fetching
     leg-all = (leg w, is-leg, rw (u.counts.0, u.counts.1) refl)
+
+-- turns under way, and a leg after them
+pub underway-on : (s : State) (n : ℕ) (a b : Run) (cached fetching cached' fetching' : List ℕ) → Underway s a cached fetching
+    → IsLeg (state_of a.view cached fetching) a.turns n b cached' fetching' → Underway s (and_then a b) cached' fetching'
+underway-on s n a b cached fetching cached' fetching' u h = record {
+  told = turns_then s _ _ a.fetches a.reads b.fetches b.reads a.turns b.turns u.told h.told;
+  ready = record { valid = h.ready.valid; quiet = h.ready.quiet; seated = h.ready.seated; kept = h.ready.kept };
+}
